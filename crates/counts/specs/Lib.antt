@@ -1,0 +1,4 @@
+-- The vocabulary that the other crates' definitions are written in: lists, counts of a word, and what a call answers.
+pub mod Lists
+pub mod Counts
+pub mod Replies

@@ -1,0 +1,23 @@
+-- The limits of document 01 that the list and its input name, each once.
+-- Assumes nothing.
+use Prim.Native.Nat.{ℕ, _^_}
+
+-- an interval's len is at most 65,535
+abbrev pub lenLimit : ℕ
+lenLimit = 65535
+
+-- a pattern's length is at most 4,096
+abbrev pub sizeLimit : ℕ
+sizeLimit = 4096
+
+-- a text line and a read line have at most 4,096 letters
+abbrev pub lineLimit : ℕ
+lineLimit = 4096
+
+-- numbers of 32 bits are below this
+abbrev pub wordLimit : ℕ
+wordLimit = 2 ^ 32
+
+-- signed numbers of 32 bits are below this, and at least its negative
+abbrev pub signedLimit : ℕ
+signedLimit = 2 ^ 31

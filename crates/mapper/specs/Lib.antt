@@ -1,0 +1,3 @@
+-- Sessions: what start and step answer, and the work words.
+pub mod Start
+pub mod Step

@@ -1,0 +1,56 @@
+-- Cases 5 to 9 of document 01's table: each is computed from the definitions.
+-- Assumes nothing.
+use Prim.Native.Nat.{ℕ}
+use mathlib.Core.Path.{_≡_, refl}
+use mathlib.Core.List.{List, [], _∷_}
+use lib.IntN.{ℤ, pos, negsuc}
+use Rattle.sketch.specs.Kmers.{codes}
+use Rattle.sketch.specs.Sketch.{sketch}
+use Rattle.sketch.specs.Strike.{struck}
+use Rattle.mappings.specs.Limits.{workWords}
+use Rattle.mappings.specs.Score.{Task}
+use Rattle.mappings.specs.Cells.{Mapping}
+use Rattle.mappings.specs.Rule.{Answer, found, finished, spent, refused, Step, answers}
+use Rattle.mappings.proofs.Compute.{mappings-compute}
+
+-- the task of text and read letters with k 1, w 1, c 100 and u = v = 1
+abbrev task : List ℕ → List ℕ → ℤ → Task
+task text read threshold = record {
+  text = codes (struck 100 (sketch 1 1 text));
+  pattern = codes (sketch 1 1 read);
+  u = 1;
+  v = 1;
+  threshold = threshold;
+}
+
+abbrev mapping : ℕ → ℕ → ℤ → ℕ → Mapping
+mapping a b score m = record { a = a; b = b; score = score; m = m }
+
+-- an accepted step with this budget
+abbrev step : ℕ → Step
+step budget = record { budget = budget; lent = workWords }
+
+-- 003's Figure 1: AC, CG, GA and AC in AC, AC, CA, TA, CA, GA, CG, AC and GG, as codes of k 2
+abbrev figure1 : Task
+figure1 = record {
+  text = 1 ∷ 1 ∷ 4 ∷ 12 ∷ 4 ∷ 8 ∷ 6 ∷ 1 ∷ 10 ∷ [];
+  pattern = 1 ∷ 6 ∷ 8 ∷ 1 ∷ [];
+  u = 1;
+  v = 1;
+  threshold = pos 1;
+}
+
+-- 5. ATTC, AC, threshold 0: [0, 3], [3, 3], [0, 0], each score 0. 6. ACAG, ACG, threshold 1: only [1, 3].
+-- 7. The same, budgets 0, 1, 5, 8: spent 0; spent 1; found with 1; finished with 8.
+-- 8. Figure 1, threshold 1: [1, 7], [5, 7], [0, 6], scores 1, 2, 1. 9. Empty text, read A, budget 0: finished with 0.
+-- Cases 5, 6 and 8 take as many steps as there are mappings, and one more
+pub record MappingCases : Type 0 where
+  pub case5 : answers (task (65 ∷ 84 ∷ 84 ∷ 67 ∷ []) (65 ∷ 67 ∷ []) (pos 0)) 0 (step 9 ∷ step 9 ∷ step 9 ∷ step 9 ∷ []) ≡ found (mapping 0 3 (pos 0) 2) 1 ∷ found (mapping 3 3 (pos 0) 1) 1 ∷ found (mapping 0 0 (pos 0) 1) 1 ∷ finished 0 ∷ []
+  pub case6 : answers (task (65 ∷ 67 ∷ 65 ∷ 71 ∷ []) (65 ∷ 67 ∷ 71 ∷ []) (pos 1)) 0 (step 99 ∷ step 99 ∷ []) ≡ found (mapping 1 3 (pos 3) 3) 2 ∷ finished 8 ∷ []
+  pub case7 : answers (task (65 ∷ 67 ∷ 65 ∷ 71 ∷ []) (65 ∷ 67 ∷ 71 ∷ []) (pos 1)) 0 (step 0 ∷ step 1 ∷ step 5 ∷ step 8 ∷ []) ≡ spent 0 ∷ spent 1 ∷ found (mapping 1 3 (pos 3) 3) 1 ∷ finished 8 ∷ []
+  pub case8 : answers figure1 0 (step 99 ∷ step 99 ∷ step 99 ∷ step 99 ∷ []) ≡ found (mapping 1 7 (pos 1) 4) 2 ∷ found (mapping 5 7 (pos 2) 3) 1 ∷ found (mapping 0 6 (pos 1) 4) 3 ∷ finished 9 ∷ []
+  pub case9 : answers (task [] (65 ∷ []) (pos 0)) 0 (step 0 ∷ []) ≡ finished 0 ∷ []
+
+pub mapping-cases : MappingCases
+unfolding mappings-compute
+mapping-cases = record { case5 = refl; case6 = refl; case7 = refl; case8 = refl; case9 = refl }

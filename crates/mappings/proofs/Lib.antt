@@ -1,0 +1,3 @@
+-- Laws about the score, Definition 1, cells and the rule, and examples that compute.
+pub mod Compute
+pub mod Cases

@@ -1,0 +1,103 @@
+-- What `maplist` prints for the bytes of its standard input.
+-- Assumes nothing.
+use Prim.Native.Nat.{ℕ, _+_, _-_}
+use mathlib.Core.List.{List, [], _∷_, _++_}
+use lib.ListN.{length, getD}
+use Rattle.counts.specs.Lists.{keep}
+use Rattle.counts.specs.Replies.{Reply, accepted, refused}
+use Rattle.sketch.specs.Kmers.{Entry, codes, positions}
+use Rattle.sketch.specs.Sketch.{sketch, sketchReply}
+use Rattle.sketch.specs.Strike.{struck, strikeReply}
+use Rattle.mappings.specs.Limits.{workWords}
+use Rattle.mappings.specs.Score.{Task, lengthOf}
+use Rattle.mappings.specs.Cells.{Cell, Mapping, cellsOf, isFinalCell, mappingOf}
+use Rattle.mapper.specs.Start.{startReply}
+use Rattle.listing.specs.Limits.{lineLimit}
+use Rattle.listing.specs.PerMille.{perMille}
+use Rattle.listing.specs.Line.{decimal, line, space, lineFeed}
+use Rattle.listing.specs.Input.{Settings, Input, malformed, given, inputOf}
+
+-- `refused`, `input`, `found`, `cells` and the header `first last score shared permille`, as bytes
+abbrev pub refusedWord : List ℕ
+refusedWord = 114 ∷ 101 ∷ 102 ∷ 117 ∷ 115 ∷ 101 ∷ 100 ∷ []
+
+abbrev pub inputWord : List ℕ
+inputWord = 105 ∷ 110 ∷ 112 ∷ 117 ∷ 116 ∷ []
+
+abbrev pub foundWord : List ℕ
+foundWord = 102 ∷ 111 ∷ 117 ∷ 110 ∷ 100 ∷ []
+
+abbrev pub cellsWord : List ℕ
+cellsWord = 99 ∷ 101 ∷ 108 ∷ 108 ∷ 115 ∷ []
+
+abbrev pub headerLine : List ℕ
+headerLine =
+    (102 ∷ 105 ∷ 114 ∷ 115 ∷ 116 ∷ space ∷ [])
+    ++ (108 ∷ 97 ∷ 115 ∷ 116 ∷ space ∷ [])
+    ++ (115 ∷ 99 ∷ 111 ∷ 114 ∷ 101 ∷ space ∷ [])
+    ++ (115 ∷ 104 ∷ 97 ∷ 114 ∷ 101 ∷ 100 ∷ space ∷ [])
+    ++ (112 ∷ 101 ∷ 114 ∷ 109 ∷ 105 ∷ 108 ∷ 108 ∷ 101 ∷ lineFeed ∷ [])
+
+-- the struck text and the pattern, as entries
+unfoldable pub textOf : Settings → List ℕ → List Entry
+textOf s letters = struck (s .c) (sketch (s .k) (s .w) letters)
+
+unfoldable pub taskOf : Settings → List ℕ → List ℕ → Task
+taskOf s text read = record {
+  text = codes (textOf s text);
+  pattern = codes (sketch (s .k) (s .w) read);
+  u = s .u;
+  v = s .v;
+  threshold = s .threshold;
+}
+
+-- the first refusal's number; where none refuses, the rest
+abbrev pub unlessRefused : Reply → List ℕ → List ℕ
+unlessRefused (accepted values) rest = rest
+unlessRefused (refused number values) rest = refusedWord ++ space ∷ decimal number ++ lineFeed ∷ []
+
+-- the line of a mapping: first letter, last letter (position of entry b, + k − 1), score, m, per mille
+unfoldable pub lineOf : Settings → List ℕ → List ℕ → Mapping → List ℕ
+lineOf s text read mapping =
+    line
+    (getD (positions (textOf s text)) (mapping .a) 0)
+    (getD (positions (textOf s text)) (mapping .b) 0 + s .k - 1)
+    (mapping .score)
+    (mapping .m)
+    (perMille (mapping .m) (lengthOf (mapping .a) (mapping .b)) (length (sketch (s .k) (s .w) read)))
+
+abbrev pub linesOf : Settings → List ℕ → List ℕ → List Cell → List ℕ
+linesOf s text read [] = []
+linesOf s text read (cell ∷ rest) = lineOf s text read (mappingOf (taskOf s text read) cell) ++ linesOf s text read rest
+
+-- the final cells, in the order of the list
+unfoldable pub finalCells : Task → List Cell
+finalCells task = keep (isFinalCell task) (cellsOf task)
+
+-- the number of mappings and of all cells passed
+unfoldable pub lastLine : ℕ → ℕ → List ℕ
+lastLine found cells = foundWord ++ space ∷ decimal found ++ space ∷ cellsWord ++ space ∷ decimal cells ++ lineFeed ∷ []
+
+-- header, a line for each mapping, last line
+unfoldable pub listOf : Settings → List ℕ → List ℕ → List ℕ
+listOf s text read =
+    headerLine
+    ++ linesOf s text read (finalCells (taskOf s text read))
+    ++ lastLine (length (finalCells (taskOf s text read))) (length (cellsOf (taskOf s text read)))
+
+-- the calls in their order: sketch of the text, sketch of the read, strike, start; each buffer has a place for each letter
+unfoldable pub printed : Settings → List ℕ → List ℕ → List ℕ
+printed s text read =
+    unlessRefused (sketchReply (s .k) (s .w) text lineLimit lineLimit)
+    (unlessRefused (sketchReply (s .k) (s .w) read lineLimit lineLimit)
+    (unlessRefused (strikeReply (codes (sketch (s .k) (s .w) text)) (positions (sketch (s .k) (s .w) text)) (s .c) lineLimit lineLimit)
+    (unlessRefused (startReply (taskOf s text read) workWords)
+    (listOf s text read))))
+
+abbrev pub printedFor : Input → List ℕ
+printedFor malformed = refusedWord ++ space ∷ inputWord ++ lineFeed ∷ []
+printedFor (given s text read) = printed s text read
+
+-- what `maplist` prints, given the bytes of its standard input
+unfoldable pub outputOf : List ℕ → List ℕ
+outputOf bytes = printedFor (inputOf bytes)

@@ -1,0 +1,7 @@
+-- From letters to a struck sketch, in the order of document 01.
+pub mod Limits
+pub mod Letters
+pub mod Kmers
+pub mod Windows
+pub mod Sketch
+pub mod Strike

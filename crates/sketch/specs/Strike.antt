@@ -1,0 +1,44 @@
+-- Striking frequent k-mers from a sketch, and what the call answers.
+-- Assumes nothing.
+use Prim.Native.Nat.{ℕ}
+use mathlib.Core.Bool.{Bool, cond, not}
+use mathlib.Core.List.{List, [], _∷_}
+use lib.Dec.{leb, ltb, eqb}
+use lib.ListN.{length}
+use Rattle.counts.specs.Lists.{keep}
+use Rattle.counts.specs.Counts.{occ}
+use Rattle.counts.specs.Replies.{Reply, accepted, refused, after}
+use Rattle.sketch.specs.Limits.{textLimit, strikeLimit, outside}
+use Rattle.sketch.specs.Kmers.{Entry, codes, positions}
+use Rattle.sketch.specs.Sketch.{roomFor}
+
+-- the entries that stand in two buffers, one word of each for an entry
+abbrev pub entries : List ℕ → List ℕ → List Entry
+entries [] ps = []
+entries (c ∷ cs) [] = []
+entries (c ∷ cs) (p ∷ ps) = record { code = c; position = p } ∷ entries cs ps
+
+-- striking with limit c: the entries whose code occurs at most c times among the codes that decide, in their order
+unfoldable pub strike : List ℕ → ℕ → List Entry → List Entry
+strike deciding c es = keep (λ (e : Entry). leb (occ (e .code) deciding) c) es
+
+-- a text sketch struck by its own counts
+unfoldable pub struck : ℕ → List Entry → List Entry
+struck c es = strike (codes es) c es
+
+-- what strike answers, given the lengths of the two output buffers: 5, 8, 6, 4, or the number of entries kept
+unfoldable pub strikeReply : List ℕ → List ℕ → ℕ → ℕ → ℕ → Reply
+strikeReply cs ps c codeRoom positionRoom =
+    cond (not (eqb (length cs) (length ps))) (refused 5 [])
+    (cond (ltb textLimit (length cs)) (refused 8 [])
+    (cond (outside 1 strikeLimit c) (refused 6 [])
+    (roomFor (length (struck c (entries cs ps))) codeRoom positionRoom)))
+
+-- the two output buffers after strike, given both as they came
+unfoldable pub strikeCodes : List ℕ → List ℕ → ℕ → List ℕ → List ℕ → List ℕ
+strikeCodes cs ps c codes₀ positions₀ =
+    after (strikeReply cs ps c (length codes₀) (length positions₀)) (codes (struck c (entries cs ps))) codes₀
+
+unfoldable pub strikePositions : List ℕ → List ℕ → ℕ → List ℕ → List ℕ → List ℕ
+strikePositions cs ps c codes₀ positions₀ =
+    after (strikeReply cs ps c (length codes₀) (length positions₀)) (positions (struck c (entries cs ps))) positions₀

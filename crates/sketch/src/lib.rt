@@ -1,0 +1,1 @@
+// Sketches of letters, and striking of frequent k-mers.

@@ -1,0 +1,3 @@
+-- Laws about stores, and examples that compute.
+pub mod Compute
+pub mod Cases
