@@ -6,7 +6,7 @@ use mathlib.Core.List.{List, [], _∷_}
 use lib.IntN.{ℤ, pos, negsuc}
 use Rattle.sketch.specs.Kmers.{codes}
 use Rattle.sketch.specs.Sketch.{sketch}
-use Rattle.sketch.specs.Strike.{struck}
+use Rattle.strike.specs.Strike.{struck}
 use Rattle.mappings.specs.Limits.{workWords}
 use Rattle.mappings.specs.Score.{Task}
 use Rattle.mappings.specs.Cells.{Mapping}

@@ -7,7 +7,7 @@ use Rattle.counts.specs.Lists.{keep}
 use Rattle.counts.specs.Replies.{Reply, accepted, refused}
 use Rattle.sketch.specs.Kmers.{Entry, codes, positions}
 use Rattle.sketch.specs.Sketch.{sketch, sketchReply}
-use Rattle.sketch.specs.Strike.{struck, strikeReply}
+use Rattle.strike.specs.Strike.{struck, strikeReply}
 use Rattle.mappings.specs.Limits.{workWords}
 use Rattle.mappings.specs.Score.{Task, lengthOf}
 use Rattle.mappings.specs.Cells.{Cell, Mapping, cellsOf, isFinalCell, mappingOf}

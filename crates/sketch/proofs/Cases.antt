@@ -6,7 +6,6 @@ use mathlib.Core.List.{List, [], _∷_}
 use Rattle.counts.specs.Replies.{Reply, accepted, refused}
 use Rattle.sketch.specs.Kmers.{Entry, codeOf, kmers, codes, positions}
 use Rattle.sketch.specs.Sketch.{sketch, sketchReply}
-use Rattle.sketch.specs.Strike.{struck}
 use Rattle.sketch.proofs.Compute.{sketch-computes}
 
 -- 1. AAAT, w 2: positions 1, 2. 2. GTC, w 2: position 1. 3. CNA, w 2: positions 0, 2

@@ -3,8 +3,7 @@ use Rattle.sketch.specs.Letters.{value, isForeign, runs}
 use Rattle.sketch.specs.Kmers.{codeOf, kmers, rank}
 use Rattle.sketch.specs.Windows.{windows, lower}
 use Rattle.sketch.specs.Sketch.{pickedBy, runSketch, sketchRuns, sketch, checkedLetters, roomFor, sketchReply, sketchCodes, sketchPositions, countReply}
-use Rattle.sketch.specs.Strike.{strike, struck, strikeReply, strikeCodes, strikePositions}
 
 unfoldable pub sketch-computes : Unit {0}
-unfolding value isForeign runs codeOf kmers rank windows lower pickedBy runSketch sketchRuns sketch checkedLetters roomFor sketchReply sketchCodes sketchPositions countReply strike struck strikeReply strikeCodes strikePositions
+unfolding value isForeign runs codeOf kmers rank windows lower pickedBy runSketch sketchRuns sketch checkedLetters roomFor sketchReply sketchCodes sketchPositions countReply
 sketch-computes = tt

@@ -41,3 +41,9 @@ codes es = map (λ (e : Entry). e .code) es
 
 abbrev pub positions : List Entry → List ℕ
 positions es = map (λ (e : Entry). e .position) es
+
+-- the entries that stand in two buffers, one word of each for an entry
+abbrev pub entries : List ℕ → List ℕ → List Entry
+entries [] ps = []
+entries (c ∷ cs) [] = []
+entries (c ∷ cs) (p ∷ ps) = record { code = c; position = p } ∷ entries cs ps

@@ -1,7 +1,6 @@
--- From letters to a struck sketch, in the order of document 01.
+-- From letters to a sketch, in the order of document 01.
 pub mod Limits
 pub mod Letters
 pub mod Kmers
 pub mod Windows
 pub mod Sketch
-pub mod Strike

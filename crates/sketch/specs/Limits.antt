@@ -1,4 +1,4 @@
--- The limits of document 01 that sketching and striking name, each once.
+-- The limits of document 01 on letters, k-mers, windows and the entries of a text, each once.
 -- Assumes nothing.
 use Prim.Native.Nat.{ℕ}
 use mathlib.Core.Bool.{Bool, _||_}
@@ -19,10 +19,6 @@ letterLimit = 1048576
 -- a text of at most 65,535 entries
 abbrev pub textLimit : ℕ
 textLimit = 65535
-
--- the limit c of striking is 1 to 65,535
-abbrev pub strikeLimit : ℕ
-strikeLimit = 65535
 
 -- n is outside low to high
 abbrev pub outside : ℕ → ℕ → ℕ → Bool

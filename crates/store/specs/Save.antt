@@ -7,8 +7,7 @@ use lib.Dec.{eqb, ltb}
 use lib.ListN.{length}
 use Rattle.counts.specs.Replies.{Reply, accepted, refused, after}
 use Rattle.sketch.specs.Limits.{kLimit, wLimit, outside}
-use Rattle.sketch.specs.Kmers.{Entry}
-use Rattle.sketch.specs.Strike.{entries}
+use Rattle.sketch.specs.Kmers.{Entry, entries}
 use Rattle.store.specs.Words.{word, header, isCode, isPosition}
 
 -- for each entry a kind 1 word with the code and a kind 2 word with the position, and last a kind 3 word with the number n

@@ -8,15 +8,13 @@ use lib.ListN.{length}
 use Rattle.counts.specs.Lists.{keep}
 use Rattle.counts.specs.Counts.{occ}
 use Rattle.counts.specs.Replies.{Reply, accepted, refused, after}
-use Rattle.sketch.specs.Limits.{textLimit, strikeLimit, outside}
-use Rattle.sketch.specs.Kmers.{Entry, codes, positions}
+use Rattle.sketch.specs.Limits.{textLimit, outside}
+use Rattle.sketch.specs.Kmers.{Entry, codes, positions, entries}
 use Rattle.sketch.specs.Sketch.{roomFor}
 
--- the entries that stand in two buffers, one word of each for an entry
-abbrev pub entries : List ℕ → List ℕ → List Entry
-entries [] ps = []
-entries (c ∷ cs) [] = []
-entries (c ∷ cs) (p ∷ ps) = record { code = c; position = p } ∷ entries cs ps
+-- the limit c is 1 to 65,535
+abbrev pub strikeLimit : ℕ
+strikeLimit = 65535
 
 -- striking with limit c: the entries whose code occurs at most c times among the codes that decide, in their order
 unfoldable pub strike : List ℕ → ℕ → List Entry → List Entry

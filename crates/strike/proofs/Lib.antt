@@ -1,0 +1,2 @@
+-- Laws about striking, and examples that compute.
+pub mod Compute

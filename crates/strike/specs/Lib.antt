@@ -1,0 +1,2 @@
+-- Striking of frequent k-mers.
+pub mod Strike

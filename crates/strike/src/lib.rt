@@ -1,0 +1,1 @@
+// Striking of frequent k-mers from a sketch.
