@@ -1,0 +1,3 @@
+-- Laws about the work words, the column's update and sessions.
+pub mod Bias
+pub mod Passing
