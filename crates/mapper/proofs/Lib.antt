@@ -1,3 +1,4 @@
 -- Laws about the work words, the column's update and sessions.
 pub mod Bias
 pub mod Passing
+pub mod Walking

@@ -1,12 +1,13 @@
 -- The column's update, unrolled by one cell: where the cell is final it stops there, otherwise it goes on.
 -- Assumes nothing.
 use Prim.Native.Nat.{ℕ, zero, suc, _+_, _-_, _≤_, _<_, max}
+use native.Mathlib.Nat.{le-refl, le-suc}
 use native.Mathlib.Omega.{arith}
 use native.Mathlib.Numerals.{add-one}
 use mathlib.Core.Path.{_≡_, refl, sym, ap, _∙_}
-use mathlib.Core.Bool.{Bool, true, false, cond}
+use mathlib.Core.Bool.{Bool, true, false, cond, true≢false, false≢true}
 use mathlib.Core.List.{List}
-use lib.ListN.{getD, set}
+use lib.ListN.{length, getD, set, length-set}
 use Rattle.mapper.specs.declared.column.Line.{Line}
 use Rattle.mapper.specs.declared.column.Passed.{Passed}
 use Rattle.mapper.specs.Passing.{lowered, lineScore, bestWith, inReach, finalTest, Update, passRows}
@@ -34,3 +35,43 @@ module _ (line : Line) (to i m before : ℕ) (part : List ℕ) (s one greatest b
 
   pub pass-on : (m′ : ℕ) → finalTest (line .threshold) s best one (line .back) i ≡ false → m′ ≡ lowered m one → passRows line (to - i) i m before part ≡ passRows line (to - (i + 1)) (i + 1) m′ best (set part (4096 + i) best)
   pass-on m′ t e = unrolled ∙ rw (t, e, add-one)
+
+-- ---- where the update stops
+
+-- the rows that it passes, the found flag, and the length of the part
+pub record Bounded (i n : ℕ) (part : List ℕ) (update : Update) : Type 0 where
+  pub from : i ≤ update .answer .row
+  pub to : update .answer .row ≤ i + n
+  pub whole : update .answer .found ≡ false → update .answer .row ≡ i + n
+  pub moved : update .answer .found ≡ true → suc i ≤ update .answer .row
+  pub size : length (update .part) ≡ length part
+
+pub bounded : (line : Line) (n i m before : ℕ) (part : List ℕ) → Bounded i n part (passRows line n i m before part)
+bounded line zero i m before part = record {
+  from = le-refl i;
+  to = omega arith;
+  whole = λ e. omega arith;
+  moved = λ e. absurd (false≢true e);
+  size = refl;
+}
+bounded line (suc n) i m before part =
+    let s = lineScore line m (getD part i 0) in
+    let best = bestWith part i before s in
+    let one = inReach line part i in
+    go (finalTest (line .threshold) s best one (line .back) i) best s (bounded line n (suc i) (lowered m one) best (set part (4096 + i) best))
+  where
+    go : (b : Bool) (best s : ℕ) {later : Update} → Bounded (suc i) n (set part (4096 + i) best) later → Bounded i (suc n) part (cond b (record { answer = record { found = true; row = suc i; m = m; score = s }; part = set part (4096 + i) best }) later)
+    go true best s r = record {
+      from = le-suc i;
+      to = omega arith;
+      whole = λ e. absurd (true≢false e);
+      moved = λ e. le-refl (suc i);
+      size = length-set part (4096 + i) best;
+    }
+    go false best s r = record {
+      from = omega (arith, r .from);
+      to = omega (arith, r .to);
+      whole = λ e. let w = r .whole e in omega arith;
+      moved = λ e. omega (arith, r .from);
+      size = r .size ∙ length-set part (4096 + i) best;
+    }

@@ -4,3 +4,4 @@ pub mod Step
 pub mod Tables
 pub mod WorkWords
 pub mod Passing
+pub mod Walking

@@ -11,8 +11,6 @@ use Rattle.counts.specs.Lists.{bit}
 use Rattle.mapper.specs.Tables.{bias}
 use Rattle.mapper.specs.declared.column.Line.{Line}
 use Rattle.mapper.specs.declared.column.Passed.{Passed}
-use Rattle.mapper.specs.declared.session.Stepped.{Stepped}
-use Rattle.mapper.specs.declared.session.Stepped.the-variants.{Found, Finished, Spent}
 
 -- m less one or none, as a word
 abbrev pub lowered : ℕ → ℕ → ℕ

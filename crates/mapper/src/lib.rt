@@ -3,4 +3,5 @@ pub mod column;
 pub mod place;
 pub mod score;
 pub mod session;
+pub mod walk;
 pub mod words;

@@ -1,4 +1,7 @@
-// The layout of the work words: which word or block holds what. docs/WORK_WORDS.md says it in a table.
+// The layout of the work words: which word or block holds what, as docs/WORK_WORDS.md says in a table; and a word as a wider
+// number.
+ghost use mathlib.Core.Path.{_≡_};
+ghost use Prim.Native.Nat.{_≤_};
 
 pub const WORK_WORDS: usize = 16384;
 pub const HIT_LIMIT: usize = 2048;
@@ -24,3 +27,15 @@ pub const WHOLE: usize = 10240;
 pub const PART_END: usize = 10240;
 pub const REACH: usize = 2048;
 pub const BEST: usize = 4096;
+
+pub fn wide(x: u32) -> usize
+    ensures { λ r. ⌜ (r ≡ x) × (r ≤ 4294967295) ⌝ }
+{
+    x as usize
+}
+
+pub fn wider(x: u32) -> u64
+    ensures { λ r. ⌜ (r ≡ x) × (r ≤ 4294967295) ⌝ }
+{
+    x as u64
+}
