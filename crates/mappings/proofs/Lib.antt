@@ -1,3 +1,4 @@
 -- Laws about the score, Definition 1, cells and the rule, and examples that compute.
+pub mod Integers
 pub mod Compute
 pub mod Cases
