@@ -1,4 +1,5 @@
 -- Laws about the score, Definition 1, cells and the rule, and examples that compute.
 pub mod Integers
+pub mod Shared
 pub mod Compute
 pub mod Cases
