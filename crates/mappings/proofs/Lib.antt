@@ -2,5 +2,8 @@
 pub mod Integers
 pub mod Shared
 pub mod Trim
+pub mod Rising
+pub mod Hits
+pub mod Definition1
 pub mod Compute
 pub mod Cases

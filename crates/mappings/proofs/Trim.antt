@@ -15,7 +15,7 @@ use lib.IntN.{ℤ}
 use lib.Signed.{leZ}
 use borrow.Author.Tests.{ltb-true, ltb-false, le-leb}
 use Rattle.counts.specs.Counts.{occ}
-use Rattle.mappings.specs.Score.{Task, interval, shared, distance, linear, lengthOf, sharedOf, scoreOf}
+use Rattle.mappings.specs.Score.{interval, shared, distance, linear, lengthOf}
 use Rattle.mappings.proofs.Integers.{leZ-refl, leZ-trans, differences-order}
 use Rattle.mappings.proofs.Shared.{shared-foreign, more-left, more-right}
 
@@ -141,8 +141,3 @@ linear-trims u v size = record {
       differences-order (u * m) (v * (suc len + size - 2 * m)) (u * m) (v * (len + size - 2 * m))
       ∙ le-leb (u * m + v * (len + size - 2 * m)) (u * m + v * (suc len + size - 2 * m)) (omega arith));
 }
-
--- the score of a task's interval, as such a score
-pub score-at : (task : Task) (a b : ℕ) → scoreOf task a b ≡ scoreAt (linear (task .u) (task .v) (length (task .pattern))) (task .pattern) (task .text) a b
-unfolding scoreOf sharedOf
-score-at task a b = refl
