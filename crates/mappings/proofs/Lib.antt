@@ -5,5 +5,6 @@ pub mod Trim
 pub mod Rising
 pub mod Hits
 pub mod Definition1
+pub mod Cells
 pub mod Compute
 pub mod Cases

@@ -1,6 +1,6 @@
 -- Hits of the text, and cells: pairs of hits in the order in which a session passes them.
 -- Assumes nothing.
-use Prim.Native.Nat.{ℕ, zero, suc, _*_, _/_}
+use Prim.Native.Nat.{ℕ, zero, suc, _+_, _-_, _*_, _/_}
 use mathlib.Core.Bool.{Bool}
 use mathlib.Core.List.{List, [], _∷_, _++_, map}
 use lib.Dec.{ltb}
@@ -40,6 +40,10 @@ cells (suc j) = column j (suc j) ++ cells j
 -- h(h + 1)/2
 unfoldable pub cellCount : ℕ → ℕ
 cellCount h = h * suc h / 2
+
+-- how many of the cells of h hits stand before cell (i, j)
+unfoldable pub place : ℕ → ℕ → ℕ → ℕ
+place h i j = cellCount h - cellCount (suc j) + i
 
 -- the cells of a task, in the order of the list
 unfoldable pub cellsOf : Task → List Cell
