@@ -6,5 +6,6 @@ pub mod Rising
 pub mod Hits
 pub mod Definition1
 pub mod Cells
+pub mod Range
 pub mod Compute
 pub mod Cases
