@@ -7,5 +7,6 @@ pub mod Hits
 pub mod Definition1
 pub mod Cells
 pub mod Range
+pub mod Rule
 pub mod Compute
 pub mod Cases
