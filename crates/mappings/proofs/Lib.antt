@@ -8,5 +8,8 @@ pub mod Definition1
 pub mod Cells
 pub mod Range
 pub mod Rule
+pub mod Steps
+pub mod Finals
+pub mod Demand
 pub mod Compute
 pub mod Cases

@@ -5,3 +5,4 @@ pub mod Bias
 pub mod Definition1
 pub mod Cells
 pub mod Rule
+pub mod Demand
