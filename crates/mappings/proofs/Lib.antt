@@ -11,5 +11,6 @@ pub mod Rule
 pub mod Steps
 pub mod Finals
 pub mod Demand
+pub mod HitCodes
 pub mod Compute
 pub mod Cases

@@ -7,7 +7,7 @@ use mathlib.Core.Path.{_≡_, refl, sym, ap, ap₂, _∙_}
 use mathlib.Core.Logic.{_⊎_, inl, inr, _≢_}
 use mathlib.Core.Bool.{Bool, true, false}
 use mathlib.Core.List.{List, [], _∷_, _++_, map, List·Memᴰ, List·Memᴰ·head, List·Memᴰ·tail}
-use lib.Dec.{eqb, ltb}
+use lib.Dec.{eqb, ltb, leb}
 use lib.ListN.{length, getD, take, drop}
 use lib.Seq.{slice-cons, length-slice, length-take-le, take-suc, drop-append-le}
 use borrow.Author.Tests.{le-ltb, ltb-true, ltb-false, eq-eqb, eqb-true, eqb-false}
@@ -188,3 +188,14 @@ shared-left p t a b h k = shared-one-more p (interval t (suc a) b) (interval t a
 
 pub shared-right : (p t : List ℕ) (a b : ℕ) → a ≤ suc b → suc b < length t → shared p (interval t a (suc b)) ≡ bit (ltb (occ (getD t (suc b) 0) (interval t a b)) (occ (getD t (suc b) 0) p)) + shared p (interval t a b)
 shared-right p t a b h k = shared-one-more p (interval t a b) (interval t a (suc b)) (getD t (suc b) 0) (more-right t a b h k)
+
+-- the same by the whole interval: m grows exactly where the new end is reasonable
+pub shared-left-end : (p t : List ℕ) (a b : ℕ) → a ≤ b → b < length t → shared p (interval t a b) ≡ bit (leb (occ (getD t a 0) (interval t a b)) (occ (getD t a 0) p)) + shared p (interval t (suc a) b)
+shared-left-end p t a b h k =
+    let e : occ (getD t a 0) (interval t a b) ≡ suc (occ (getD t a 0) (interval t (suc a) b)) = more-left t a b h k (getD t a 0) ∙ rw (bit-same (getD t a 0)) (omega arith) in
+    shared-left p t a b h k ∙ rw e
+
+pub shared-right-end : (p t : List ℕ) (a b : ℕ) → a ≤ suc b → suc b < length t → shared p (interval t a (suc b)) ≡ bit (leb (occ (getD t (suc b) 0) (interval t a (suc b))) (occ (getD t (suc b) 0) p)) + shared p (interval t a b)
+shared-right-end p t a b h k =
+    let e : occ (getD t (suc b) 0) (interval t a (suc b)) ≡ suc (occ (getD t (suc b) 0) (interval t a b)) = more-right t a b h k (getD t (suc b) 0) ∙ rw (bit-same (getD t (suc b) 0)) (omega arith) in
+    shared-right p t a b h k ∙ rw e

@@ -6,7 +6,7 @@ use mathlib.Core.List.{List, [], _∷_, _++_, map}
 use lib.Dec.{ltb}
 use lib.ListN.{length, getD}
 use lib.IntN.{ℤ}
-use Rattle.counts.specs.Lists.{addIf, range}
+use Rattle.counts.specs.Lists.{addIf, keep, range}
 use Rattle.counts.specs.Counts.{occ}
 use Rattle.mappings.specs.Score.{Task, scoreOf, sharedOf}
 use Rattle.mappings.specs.Definition1.{isFinal}
@@ -22,6 +22,10 @@ hits task = hitsFrom (task .pattern) 0 (task .text)
 -- h
 unfoldable pub hitCount : Task → ℕ
 hitCount task = length (hits task)
+
+-- the codes of the hits, in their order
+unfoldable pub hitCodes : Task → List ℕ
+hitCodes task = keep (λ (x : ℕ). ltb 0 (occ x (task .pattern))) (task .text)
 
 -- a cell (i, j), i ≤ j, by the numbers of its two hits, from 0
 pub record Cell : Type 0 where
