@@ -1,7 +1,4 @@
--- Sessions: what start and step answer, and the work words.
-pub mod Start
+-- Sessions: what step answers, and what it does to the work words.
 pub mod Step
-pub mod Tables
-pub mod WorkWords
 pub mod Passing
 pub mod Walking

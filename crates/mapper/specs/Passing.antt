@@ -6,9 +6,7 @@ use mathlib.Core.List.{List, [], _∷_}
 use lib.Dec.{leb, ltb, eqb}
 use lib.ListN.{length, getD, take, drop, set}
 use lib.Seq.{slice, sets}
-use lib.IntN.{ℤ, pos, _-ℤ_}
 use Rattle.counts.specs.Lists.{bit}
-use Rattle.mapper.specs.Tables.{bias}
 use Rattle.mapper.specs.declared.column.Line.{Line}
 use Rattle.mapper.specs.declared.column.Passed.{Passed}
 

@@ -6,8 +6,8 @@ use mathlib.Core.List.{List, [], _∷_, _++_}
 use lib.Dec.{ltb, eqb}
 use lib.ListN.{length, getD, take, drop, set}
 use lib.Seq.{slice}
-use lib.IntN.{pos, _-ℤ_}
-use Rattle.mapper.specs.Tables.{bias}
+
+use Rattle.mappings.specs.Bias.{unbiased}
 use Rattle.mapper.specs.Passing.{lowered, seenBefore, Update, passRows}
 use Rattle.mapper.specs.declared.column.Line.{Line}
 use Rattle.mapper.specs.declared.column.Passed.{Passed}
@@ -60,7 +60,7 @@ finishedWalk work place cells = record { answer = Finished cells; words = saved 
 
 unfoldable pub foundWalk : List ℕ → ℕ → Passed → ℕ → Walk
 foundWalk work columns p cells = record {
-  answer = Found (getD work (4096 + p .row - 1) 0) (getD work (4096 + columns - 1) 0) (pos (p .score) -ℤ pos bias) (p .m) cells;
+  answer = Found (getD work (4096 + p .row - 1) 0) (getD work (4096 + columns - 1) 0) (unbiased (p .score)) (p .m) cells;
   words = saved work (settled work columns (p .row) (lowered (p .m) 1)) cells;
 }
 

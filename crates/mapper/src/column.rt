@@ -1,6 +1,6 @@
 // Passing the cells of one column.
 use crate::score::{below, greater, lowered, score_word};
-use crate::words::{BEST, REACH};
+use start::words::{BEST, REACH};
 ghost use mathlib.Core.Path.{_≡_};
 ghost use Prim.Native.Nat.{ℕ, _-_, _≤_};
 ghost use lib.ListN.{length};

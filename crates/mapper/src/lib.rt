@@ -4,4 +4,3 @@ pub mod place;
 pub mod score;
 pub mod session;
 pub mod walk;
-pub mod words;

@@ -1,5 +1,5 @@
 // The place of a session: how many columns are left, the row of the next cell, and the m of that cell.
-use crate::words::{COLUMNS, PASSED, ROW, SHARED, WHOLE, wider};
+use start::words::{COLUMNS, PASSED, ROW, SHARED, WHOLE, wider};
 ghost use mathlib.Core.Path.{_≡_};
 ghost use Prim.Native.Nat.{ℕ, _≤_};
 ghost use lib.ListN.{length};

@@ -2,10 +2,9 @@
 // that no start made within their range.
 ghost use mathlib.Core.Path.{_≡_};
 ghost use Prim.Native.Nat.{ℕ, _+_, _-_, _*_, _%_, _≤_, max};
-ghost use lib.IntN.{pos, natAbs, _+ℤ_, _-ℤ_};
 ghost use lib.Dec.{ltb};
 ghost use Rattle.counts.specs.Lists.{bit};
-ghost use Rattle.mapper.specs.Tables.{bias};
+ghost use Rattle.mappings.specs.Bias.{unbiased as unbiasedOf};
 ghost use Rattle.mapper.specs.Passing as Passing;
 
 // The greater of two words.
@@ -37,20 +36,9 @@ pub fn score_word(gain: u64, m: u32, v: u64, x: u32, base: u64) -> u32
     ((gain * m as u64 + v * x as u64 + base) % 4294967296) as u32
 }
 
-// A signed number plus 2^31.
-pub fn biased(z: i32) -> u32
-    ensures { λ r. ⌜ r ≡ natAbs (z +ℤ pos bias) ⌝ }
-{
-    if 0 <= z {
-        z as u32 + 2147483648
-    } else {
-        2147483647 - (-1 - z) as u32
-    }
-}
-
 // A word less 2^31, as a signed number.
 pub fn unbiased(word: u32) -> i32
-    ensures { λ r. ⌜ r ≡ pos word -ℤ pos bias ⌝ }
+    ensures { λ r. ⌜ r ≡ unbiasedOf word ⌝ }
 {
     if 2147483648 <= word {
         (word - 2147483648) as i32

@@ -2,7 +2,7 @@
 use crate::column::{Line, Passed, pass};
 use crate::place::{Place, save, settled, top_shared};
 use crate::score::{lowered, unbiased};
-use crate::words::{BACK, INDEX, PART_END, wide, wider};
+use start::words::{BACK, INDEX, PART_END, wide, wider};
 ghost use mathlib.Core.Path.{_≡_};
 ghost use Prim.Native.Nat.{ℕ, _≤_, _<_, min};
 ghost use lib.ListN.{length};

@@ -10,8 +10,6 @@ use native.Mathlib.Omega.{arith}
 use borrow.Author.Needs.{needs}
 use Rattle.mapper.proofs.column.pass.Statement.{statement}
 use Rattle.mapper.proofs.column.pass.Tie as tie
-use Rattle.mapper.proofs.column.pass.Reads as reads
-use Rattle.mapper.proofs.column.pass.Lts as lts
 
 abbrev Inv-loop : tie.InvT-loop
 Inv-loop part₀ line from to m0 m₀ best₀ i₀ part m best i =

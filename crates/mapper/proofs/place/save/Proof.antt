@@ -5,9 +5,6 @@ use native.Mathlib.Omega.{arith}
 use borrow.Author.Needs.{needs}
 use Rattle.mapper.proofs.place.save.Statement.{statement}
 use Rattle.mapper.proofs.place.save.Tie as tie
-use Rattle.mapper.proofs.place.save.Reads as reads
-use Rattle.mapper.proofs.place.save.Lts as lts
-use Rattle.mapper.proofs.words.wider.Reads as wider-reads
 
 slice-read-wider : tie.Need-slice-read-wider
 slice-read-wider c = search needs

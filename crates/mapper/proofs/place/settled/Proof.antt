@@ -5,9 +5,6 @@ use native.Mathlib.Omega.{arith}
 use borrow.Author.Needs.{needs}
 use Rattle.mapper.proofs.place.settled.Statement.{statement}
 use Rattle.mapper.proofs.place.settled.Tie as tie
-use Rattle.mapper.proofs.place.settled.Reads as reads
-use Rattle.mapper.proofs.place.settled.Lts as lts
-use Rattle.mapper.proofs.place.top_shared.Reads as top-shared-reads
 
 returns : tie.Need-returns
 unfolding settled

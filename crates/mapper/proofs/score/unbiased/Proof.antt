@@ -1,5 +1,6 @@
 -- `score::unbiased` meets its contract. Assumes nothing.
 use borrow.Author.Needs.{needs}
+use Rattle.mappings.specs.Bias.{unbiased}
 use Rattle.mapper.proofs.Bias.{word-high, word-sub, word-low}
 use Rattle.mapper.proofs.score.unbiased.Statement.{statement}
 use Rattle.mapper.proofs.score.unbiased.Tie as tie
@@ -17,9 +18,11 @@ sub-result-2 : tie.Need-sub-result-2
 sub-result-2 c = word-sub (c .before .args .word) (c .if1 .left)
 
 returns : tie.Need-returns
+unfolding unbiased
 returns c = word-high (c .before .args .word) (c .if1 .taken) (c .before .fits .word .fits)
 
 returns-2 : tie.Need-returns-2
+unfolding unbiased
 returns-2 c = word-low (c .before .args .word) (c .if1 .left)
 
 pub unbiased-spec : {M : Type 1} → statement M

@@ -8,12 +8,6 @@ use native.Mathlib.Omega.{arith}
 use borrow.Author.Needs.{needs}
 use Rattle.mapper.proofs.walk.found.Statement.{statement}
 use Rattle.mapper.proofs.walk.found.Tie as tie
-use Rattle.mapper.proofs.walk.found.Reads as reads
-use Rattle.mapper.proofs.walk.found.Lts as lts
-use Rattle.mapper.proofs.place.save.Reads as save-reads
-use Rattle.mapper.proofs.place.settled.Reads as settled-reads
-use Rattle.mapper.proofs.score.lowered.Reads as lowered-reads
-use Rattle.mapper.proofs.score.unbiased.Reads as unbiased-reads
 
 add-a : tie.Need-add-a
 add-a c = search needs

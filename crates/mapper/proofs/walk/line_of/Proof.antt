@@ -6,10 +6,6 @@ use native.Mathlib.Omega.{arith}
 use borrow.Author.Needs.{needs}
 use Rattle.mapper.proofs.walk.line_of.Statement.{statement}
 use Rattle.mapper.proofs.walk.line_of.Tie as tie
-use Rattle.mapper.proofs.walk.line_of.Reads as reads
-use Rattle.mapper.proofs.walk.line_of.Lts as lts
-use Rattle.mapper.proofs.words.wide.Reads as wide-reads
-use Rattle.mapper.proofs.words.wider.Reads as wider-reads
 
 add-wider : tie.Need-add-wider
 add-wider c = search needs

@@ -5,9 +5,6 @@ use native.Mathlib.Omega.{arith}
 use borrow.Author.Needs.{needs}
 use Rattle.mapper.proofs.walk.spent.Statement.{statement}
 use Rattle.mapper.proofs.walk.spent.Tie as tie
-use Rattle.mapper.proofs.walk.spent.Reads as reads
-use Rattle.mapper.proofs.walk.spent.Lts as lts
-use Rattle.mapper.proofs.place.save.Reads as save-reads
 
 save-requires : tie.Need-save-requires
 save-requires c κs = search needs

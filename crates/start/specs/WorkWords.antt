@@ -5,11 +5,11 @@ use mathlib.Core.Bool.{Bool, cond, _&&_}
 use mathlib.Core.List.{List, [], _∷_, map}
 use lib.Dec.{leb, ltb}
 use lib.ListN.{length, getD, take, set, replicate}
-use lib.IntN.{ℤ, pos, natAbs, _+ℤ_}
 use Rattle.counts.specs.Lists.{range}
 use Rattle.mappings.specs.Score.{Task, sharedOf}
-use Rattle.mappings.specs.Cells.{Cell, hits, hitCount, cellsOf, leftEnd, rightEnd}
-use Rattle.mapper.specs.Tables.{hitCodes, reach, back, whole, scoreWord, bias}
+use Rattle.mappings.specs.Bias.{biasedOf, biasedZ}
+use Rattle.mappings.specs.Cells.{Cell, hits, hitCodes, hitCount, cellsOf, leftEnd, rightEnd}
+use Rattle.start.specs.Tables.{reach, back, whole}
 
 -- the place after q cells of h columns: how many columns are left, the next cell's column being the last of them; and its row
 abbrev pub columnsLeft : ℕ → ℕ → ℕ
@@ -25,16 +25,16 @@ abbrev pub nextShared : Task → ℕ → ℕ → ℕ
 nextShared task zero row = 0
 nextShared task (suc j) row = sharedOf task (getD (hits task) row 0) (getD (hits task) j 0)
 
--- the greatest score word that the rows before this one have seen
+-- the greatest biased score that the rows before this one have seen
 abbrev pub bestBefore : List ℕ → ℕ → ℕ
 bestBefore best zero = 0
 bestBefore best (suc i) = getD best i 0
 
 -- the column in hand after one more cell: its row holds the greatest of what it held, of what the row before it holds, and of
--- the cell's own score word
+-- the cell's own score, biased to a word
 unfoldable pub withCell : Task → List ℕ → Cell → List ℕ
 withCell task best cell =
-    set best (cell .row) (max (bestBefore best (cell .row)) (max (getD best (cell .row) 0) (scoreWord task cell)))
+    set best (cell .row) (max (bestBefore best (cell .row)) (max (getD best (cell .row) 0) (biasedOf task (leftEnd task cell) (rightEnd task cell))))
 
 abbrev pub withCells : Task → List ℕ → List Cell → List ℕ
 withCells task best [] = best
@@ -54,7 +54,7 @@ heading task q =
     ∷ q
     ∷ 0
     ∷ length (task .pattern)
-    ∷ natAbs (task .threshold +ℤ pos bias)
+    ∷ biasedZ (task .threshold)
     ∷ columnsLeft (hitCount task) q
     ∷ nextRow (hitCount task) q
     ∷ nextShared task (columnsLeft (hitCount task) q) (nextRow (hitCount task) q)

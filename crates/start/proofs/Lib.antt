@@ -1,0 +1,2 @@
+-- Laws about the work words, and what start's functions ask and give.
+pub mod Bias
