@@ -2,3 +2,5 @@
 pub mod Bias
 pub mod Passing
 pub mod Walking
+pub mod Places
+pub mod Best
