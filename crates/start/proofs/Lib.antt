@@ -1,2 +1,3 @@
 -- Laws about the work words, and what start's functions ask and give.
 pub mod Bias
+pub mod Tables
