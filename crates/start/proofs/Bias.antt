@@ -79,4 +79,3 @@ module _ (z : ℤ) (f : SFits w32 z) (h : leZ (pos 0) (read z) ≡ false) where
     where
       go : (n : ℕ) → n < 2 ^ 31 → 2147483647 - n ≡ 2147483648 - suc n
       go n l = omega arith
-
