@@ -4,3 +4,6 @@ pub mod Passing
 pub mod Walking
 pub mod Places
 pub mod Best
+pub mod CellTests
+pub mod Chunk
+pub mod SessionWords
