@@ -7,3 +7,4 @@ pub mod Best
 pub mod CellTests
 pub mod Chunk
 pub mod SessionWords
+pub mod WalkRule
