@@ -8,3 +8,7 @@ pub mod CellTests
 pub mod Chunk
 pub mod SessionWords
 pub mod WalkRule
+pub mod StepTests
+pub mod Accepted
+pub mod Within
+pub mod StepPromise

@@ -3,3 +3,4 @@ pub mod Answers
 pub mod Step
 pub mod Passing
 pub mod Walking
+pub mod Promise
