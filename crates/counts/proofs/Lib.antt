@@ -1,3 +1,7 @@
 -- Laws about lists and counts, which the crates above cite.
 pub mod Lists
 pub mod Counts
+pub mod Buckets
+pub mod Keys
+pub mod Sorting
+pub mod Marks
