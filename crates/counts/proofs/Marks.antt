@@ -4,13 +4,14 @@
 use Prim.Native.Nat.{ℕ, zero, suc, _+_, _-_, _*_, _≤_, _<_, zero-le}
 use native.Mathlib.Nat.{le-refl, le-trans}
 use native.Mathlib.Omega.{arith}
+use native.Mathlib.Numerals.{add-one}
 use mathlib.Core.Path.{_≡_, refl, sym, ap, ap₂, _∙_, subst}
 use mathlib.Core.Logic.{_⊎_, inl, inr, _≢_}
 use mathlib.Core.Bool.{Bool, true, false}
 use mathlib.Core.List.{List, [], _∷_, _++_, map, map-id, List·Memᴰ, List·Memᴰ·head, List·Memᴰ·tail, List·Memᴰ·cases-cons, List·Memᴰ·not-nil}
 use lib.Dec.{eqb, leb}
 use lib.ListN.{length, getD, set, take, drop, length-set, length-map, take-append-drop, List·getD-map}
-use lib.Seq.{slice, getD-set-same, getD-set-other, getD-take, getD-drop, length-slice, length-take-le, drop-append-le, ext-getD}
+use lib.Seq.{slice, slice-cons, slice-empty, getD-set-same, getD-set-other, getD-take, getD-drop, length-slice, length-take-le, drop-append-le, ext-getD}
 use Rattle.counts.specs.Lists.{bit}
 use Rattle.counts.specs.Counts.{occ}
 use Rattle.counts.specs.Sorting.{Sorted}
@@ -116,6 +117,23 @@ rare-marks words limit keys marks fit long same =
         (marked-at f at keys marks by-index ((0 + i) * 4294967296 + getD words i 0) m (rw e (rw long l)))
 
 -- ---- the runs of sorted keys
+
+-- one more key of the run
+pub run-more : (keys : List ℕ) (from i : ℕ) → ((k : ℕ) → from ≤ k → k < i → wordOf (getD keys k 0) ≡ wordOf (getD keys from 0)) → wordOf (getD keys i 0) ≡ wordOf (getD keys from 0) → (k : ℕ) → from ≤ k → k < i + 1 → wordOf (getD keys k 0) ≡ wordOf (getD keys from 0)
+run-more keys from i all here k h l = go (eq-or-ne k i)
+  where
+    go : (k ≡ i) ⊎ (k ≢ i) → wordOf (getD keys k 0) ≡ wordOf (getD keys from 0)
+    go (inl e) = rw e here
+    go (inr n) = all k h (omega arith)
+
+-- one more key of the run marked
+pub mark-more : (mark : ℕ) (keys : List ℕ) (i to : ℕ) (marks : List ℕ) → i < to → to ≤ length keys → markedBy (λ (k : ℕ). mark) (slice (i + 1) to keys) (set marks (indexOf (getD keys i 0)) mark) ≡ markedBy (λ (k : ℕ). mark) (slice i to keys) marks
+mark-more mark keys i to marks h l = rw (add-one i) (ap (λ (k : List ℕ). markedBy (λ (x : ℕ). mark) k marks) (sym (slice-cons i to keys 0 h l)))
+
+pub mark-all : (mark : ℕ) (keys : List ℕ) (i to : ℕ) (marks : List ℕ) → i ≤ to → to ≤ i → markedBy (λ (k : ℕ). mark) (slice i to keys) marks ≡ marks
+mark-all mark keys i to marks h l =
+    let e : i ≡ to = omega arith in
+    rw e (ap (λ (k : List ℕ). markedBy (λ (x : ℕ). mark) k marks) (slice-empty to keys))
 
 -- the words before index i are below those from i on
 abbrev pub Apart : List ℕ → ℕ → Type 0
