@@ -7,3 +7,4 @@ pub mod Keys
 pub mod Sorting
 pub mod Marks
 pub mod Passes
+pub mod Room

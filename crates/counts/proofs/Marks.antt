@@ -10,7 +10,7 @@ use mathlib.Core.Logic.{_⊎_, inl, inr, _≢_}
 use mathlib.Core.Bool.{Bool, true, false}
 use mathlib.Core.List.{List, [], _∷_, _++_, map, map-id, List·Memᴰ, List·Memᴰ·head, List·Memᴰ·tail, List·Memᴰ·cases-cons, List·Memᴰ·not-nil}
 use lib.Dec.{eqb, leb}
-use lib.ListN.{length, getD, set, take, drop, length-set, length-map, take-append-drop, List·getD-map}
+use lib.ListN.{length, getD, set, take, drop, length-set, length-map, take-append-drop, drop-of-length-le, List·getD-map}
 use lib.Seq.{slice, slice-cons, slice-empty, getD-set-same, getD-set-other, getD-take, getD-drop, length-slice, length-take-le, drop-append-le, ext-getD}
 use Rattle.counts.specs.Lists.{bit}
 use Rattle.counts.specs.Counts.{occ}
@@ -32,6 +32,11 @@ mem-at {x} (y ∷ ys) m = go (mem-at ys) (List·Memᴰ·cases-cons m)
     go : (List·Memᴰ x ys → (i : ℕ) × (i < length ys) × (x ≡ getD ys i 0)) → (x ≡ y) ⊎ List·Memᴰ x ys → (i : ℕ) × (i < length (y ∷ ys)) × (x ≡ getD (y ∷ ys) i 0)
     go rec (inl e) = (0, omega arith, e)
     go rec (inr m′) = let r = rec m′ in (suc (r .0), (let h : r .0 < length ys = r .1 in omega arith), r .2)
+
+at-mem : (l : List ℕ) (i : ℕ) → i < length l → List·Memᴰ (getD l i 0) l
+at-mem [] i h = absurd (omega arith)
+at-mem (x ∷ xs) zero h = List·Memᴰ·head refl
+at-mem (x ∷ xs) (suc i) h = List·Memᴰ·tail (at-mem xs i (omega arith))
 
 pub getD-map-in : (f : ℕ → ℕ) (l : List ℕ) (i : ℕ) → i < length l → getD (map f l) i 0 ≡ f (getD l i 0)
 getD-map-in f [] i h = absurd (omega arith)
@@ -78,8 +83,10 @@ module _ (f at : ℕ → ℕ) where
     where
       next : List ℕ
       next = set marks (indexOf key) (f key)
+
       within : indexOf k < length next
       within = rw (length-set marks (indexOf key) (f key)) l
+
       go : (List·Memᴰ k keys → indexOf k < length next → getD (markedBy f keys next) (indexOf k) 0 ≡ at (indexOf k)) → (k ≡ key) ⊎ List·Memᴰ k keys → getD (markedBy f keys next) (indexOf k) 0 ≡ at (indexOf k)
       go rec (inl e) =
           marked-kept keys next (λ x n. h x (List·Memᴰ·tail n)) (indexOf k) within
@@ -97,18 +104,23 @@ rare-marks words limit keys marks fit long same =
   where
     f : ℕ → ℕ
     f key = markOf (map wordOf keys) limit (wordOf key)
+
     at : ℕ → ℕ
     at i = markOf words limit (getD words i 0)
+
     lengths : length (markedBy f keys marks) ≡ length (marksOf words limit)
     lengths = length-marked f keys marks ∙ long ∙ sym (length-map words (markOf words limit))
+
     counts : (x : ℕ) → occ x (map wordOf keys) ≡ occ x words
     counts x = same-occ wordOf keys (keysFrom 0 words) same x ∙ ap (occ x) (words-of-keys 0 words fit)
+
     by-index : (key : ℕ) → List·Memᴰ key keys → f key ≡ at (indexOf key)
     by-index key m =
         let r = keys-mem 0 words fit (same-mem keys (keysFrom 0 words) same m) in
         let e : indexOf key ≡ r .0 = r .2 ∙ omega arith in
         ap (λ (n : ℕ). bit (leb n limit)) (counts (wordOf key))
         ∙ ap (markOf words limit) (r .3 ∙ ap (λ (i : ℕ). getD words i 0) (sym e))
+
     marked-i : (i : ℕ) → i < length words → getD (markedBy f keys marks) i 0 ≡ at i
     marked-i i l =
         let m = same-mem (keysFrom 0 words) keys (λ g. sym (same g)) (mem-keys 0 words i l) in
@@ -170,18 +182,18 @@ module _ (keys : List ℕ) (sorted : Sorted (map wordOf keys)) (i j : ℕ) (apar
         ordered = let p : i < j = run .past in omega arith;
         within = rw (length-map keys wordOf) (run .within);
         before =
-          λ k h e.
-          let p : i < j = run .past in
-          let w : j ≤ length keys = run .within in
-          let a : wordOf (getD keys k 0) < wordOf (getD keys i 0) = apart k i h (le-refl i) (omega arith) in
-          let q : wordOf (getD keys k 0) ≡ wordOf (getD keys i 0) = sym (word-at k) ∙ e in
-          omega arith;
+            λ k h e.
+            let p : i < j = run .past in
+            let w : j ≤ length keys = run .within in
+            let a : wordOf (getD keys k 0) < wordOf (getD keys i 0) = apart k i h (le-refl i) (omega arith) in
+            let q : wordOf (getD keys k 0) ≡ wordOf (getD keys i 0) = sym (word-at k) ∙ e in
+            omega arith;
         inside = λ k h l. word-at k ∙ run .same k h l;
         behind =
-          λ k h l e.
-          let b : wordOf (getD keys i 0) < wordOf (getD keys k 0) = beyond k h (rw (← length-map keys wordOf) l) in
-          let q : wordOf (getD keys k 0) ≡ wordOf (getD keys i 0) = sym (word-at k) ∙ e in
-          omega arith
+            λ k h l e.
+            let b : wordOf (getD keys i 0) < wordOf (getD keys k 0) = beyond k h (rw (← length-map keys wordOf) l) in
+            let q : wordOf (getD keys k 0) ≡ wordOf (getD keys i 0) = sym (word-at k) ∙ e in
+            omega arith;
       }
 
   -- the keys of the run have the mark that the run's length gives
@@ -203,8 +215,39 @@ module _ (keys : List ℕ) (sorted : Sorted (map wordOf keys)) (i j : ℕ) (apar
       let f : ℕ → ℕ = λ (key : ℕ). markOf (map wordOf keys) limit (wordOf key) in
       let long : length (take j keys) ≡ j = length-take-le j keys (run .within) in
       let parts : drop i keys ≡ slice i j keys ++ drop j keys =
-          ap (drop i) (sym (take-append-drop j keys)) ∙ drop-append-le i (take j keys) (drop j keys) (omega arith)
-          in
+      ap (drop i) (sym (take-append-drop j keys)) ∙ drop-append-le i (take j keys) (drop j keys) (omega arith)
+      in
       ap (λ (l : List ℕ). markedBy f l marks) parts
       ∙ marked-append f (slice i j keys) (drop j keys) marks
       ∙ ap (markedBy f (drop j keys)) (marked-same f (λ (key : ℕ). bit (leb (j - i) limit)) (slice i j keys) marks (run-mark limit))
+
+  -- one more run marked
+  pub runs-more : (limit mark : ℕ) (marks₀ marks marks₁ : List ℕ) →
+      mark ≡ bit (leb (j - i) limit) →
+      marks₁ ≡ markedBy (λ (key : ℕ). mark) (slice i j keys) marks →
+      markedBy (λ (key : ℕ). markOf (map wordOf keys) limit (wordOf key)) (drop i keys) marks ≡ markedBy (λ (key : ℕ). markOf (map wordOf keys) limit (wordOf key)) keys marks₀ →
+      markedBy (λ (key : ℕ). markOf (map wordOf keys) limit (wordOf key)) (drop j keys) marks₁ ≡ markedBy (λ (key : ℕ). markOf (map wordOf keys) limit (wordOf key)) keys marks₀
+  runs-more limit mark marks₀ marks marks₁ e f g =
+      ap (markedBy (λ (key : ℕ). markOf (map wordOf keys) limit (wordOf key)) (drop j keys)) (f ∙ ap (λ (m : ℕ). markedBy (λ (key : ℕ). m) (slice i j keys) marks) e)
+      ∙ sym (run-marks limit marks)
+      ∙ g
+
+-- no key is left
+pub runs-all : (limit : ℕ) (keys marks₀ marks : List ℕ) (i : ℕ) → length keys ≤ i →
+    markedBy (λ (key : ℕ). markOf (map wordOf keys) limit (wordOf key)) (drop i keys) marks ≡ markedBy (λ (key : ℕ). markOf (map wordOf keys) limit (wordOf key)) keys marks₀ →
+    marks ≡ runMarks limit keys marks₀
+unfolding runMarks
+runs-all limit keys marks₀ marks i h e = ap (λ (l : List ℕ). markedBy (λ (key : ℕ). markOf (map wordOf keys) limit (wordOf key)) l marks) (sym (drop-of-length-le keys h)) ∙ e
+
+-- ---- the indices of the keys
+
+-- keys that are those of the words have indices below their number
+pub index-below : (words keys : List ℕ) → Fit32 words → SameKeys keys (keysFrom 0 words) → (k : ℕ) → k < length keys → indexOf (getD keys k 0) < length words
+index-below words keys fit same k h =
+    let r = keys-mem 0 words fit (same-mem keys (keysFrom 0 words) same (at-mem keys k h)) in
+    let e : indexOf (getD keys k 0) ≡ 0 + r .0 = r .2 in
+    let l : r .0 < length words = r .1 in
+    omega arith
+
+pub marks-index : (words keys marks : List ℕ) → Fit32 words → SameKeys keys (keysFrom 0 words) → length marks ≡ length words → (k : ℕ) → k < length keys → indexOf (getD keys k 0) < length marks
+marks-index words keys marks fit same e k h = rw e (index-below words keys fit same k h)

@@ -1,6 +1,5 @@
 // Marking rare words by sorting their keys: equal words then stand side by side.
 use crate::radix;
-
 ghost use mathlib.Core.Path.{_≡_};
 ghost use mathlib.Core.Bool.{Bool, true, false};
 ghost use mathlib.Core.List.{map};
@@ -10,7 +9,7 @@ ghost use lib.ListN.{length, getD};
 ghost use lib.Seq.{slice};
 ghost use Rattle.counts.specs.Lists.{bit};
 ghost use Rattle.counts.specs.Sorting.{Sorted};
-ghost use Rattle.counts.specs.Keys.{wordOf, indexOf, passed, zeros};
+ghost use Rattle.counts.specs.Keys.{wordOf, indexOf, keysFrom, passed, sortedKeys, zeros};
 ghost use Rattle.counts.specs.Marks.{marksOf, RunEnd, markedBy, runMarks};
 
 fn zeros_65535() -> [u64; 65535]
@@ -81,16 +80,31 @@ fn mark_runs(keys: &[u64], limit: u32, marks: &mut [u8])
     }
 }
 
-fn mark_sorted(keys: &mut [u64], limit: u32, marks: &mut [u8])
-    requires { ⌜ length (now keys) ≤ 65535 ⌝ }
-    requires { ⌜ ((k : ℕ) → k < length (now keys) → indexOf (getD (now keys) k 0) < length (now marks)) ⌝ }
-    ensures { λ _. ⌜ now (keys .exit) ≡ passed 1 (passed 0 (now (keys .entry))) ⌝ }
-    ensures { λ _. ⌜ now (marks .exit) ≡ runMarks limit (passed 2 (passed 1 (passed 0 (now (keys .entry))))) (now (marks .entry)) ⌝ }
+fn mark_in_order(words: &[u32], limit: u32, keys: &mut [u64], marks: &mut [u8])
+    requires { ⌜ (length (now keys) ≡ length (now words)) × (length (now words) ≤ 65535) ⌝ }
+    requires { ⌜ (length (now marks) ≡ length (now words)) × Sorted (now words) ⌝ }
+    ensures { λ _. ⌜ now (keys .exit) ≡ keysFrom 0 (now (words .entry)) ⌝ }
+    ensures { λ _. ⌜ now (marks .exit) ≡ marksOf (now (words .entry)) limit ⌝ }
 {
-    let n = keys.len();
-    let mut by_word = zeros_65535();
-    radix::sort_keys(keys, &mut by_word[..n]);
-    mark_runs(&by_word[..n], limit, marks);
+    radix::fill_keys(words, keys);
+    mark_runs(keys, limit, marks);
+}
+
+fn mark_by_sorting(
+    words: &[u32],
+    limit: u32,
+    keys: &mut [u64],
+    by_word: &mut [u64],
+    marks: &mut [u8],
+)
+    requires { ⌜ (length (now keys) ≡ length (now words)) × (length (now words) ≤ 65535) ⌝ }
+    requires { ⌜ (length (now «by_word») ≡ length (now words)) × (length (now marks) ≡ length (now words)) ⌝ }
+    ensures { λ _. ⌜ now (keys .exit) ≡ passed 1 (passed 0 (keysFrom 0 (now (words .entry)))) ⌝ }
+    ensures { λ _. ⌜ now («by_word» .exit) ≡ sortedKeys (now (words .entry)) ⌝ }
+    ensures { λ _. ⌜ now (marks .exit) ≡ marksOf (now (words .entry)) limit ⌝ }
+{
+    radix::sort_keys(words, keys, by_word);
+    mark_runs(by_word, limit, marks);
 }
 
 // Words that come in order, as equal ones do, need no sort.
@@ -100,10 +114,10 @@ pub(crate) fn mark_words(words: &[u32], limit: u32, marks: &mut [u8])
 {
     let n = words.len();
     let mut keys = zeros_65535();
-    radix::fill_keys(words, &mut keys[..n]);
     if in_order(words) {
-        mark_runs(&keys[..n], limit, marks);
+        mark_in_order(words, limit, &mut keys[..n], marks);
         return;
     }
-    mark_sorted(&mut keys[..n], limit, marks);
+    let mut by_word = zeros_65535();
+    mark_by_sorting(words, limit, &mut keys[..n], &mut by_word[..n], marks);
 }

@@ -34,7 +34,7 @@ shared-slice-read-if1-2 : tie.Need-shared-slice-read-if1-2 Inv-loop μ-loop
 shared-slice-read-if1-2 c = search needs
 
 returns : tie.Need-returns Inv-loop μ-loop
-returns c = 
+returns c =
     let in-loop = c .before .before .before in
     (λ e. absurd (false≢true e), λ e. not-sorted _ _ (in-loop .before .loop .inv) (in-loop .loop-test .taken) (c .if1 .taken))
 
@@ -45,7 +45,7 @@ loop-less : tie.Need-loop-less Inv-loop μ-loop
 loop-less c = search needs
 
 loop-again : tie.Need-loop-again Inv-loop μ-loop
-loop-again c = 
+loop-again c =
     let in-loop = c .before .before .before in
     rising-more _ _ (in-loop .before .loop .inv) (in-loop .loop-test .taken) (c .if1 .left)
 

@@ -27,7 +27,7 @@ shared-slice-read-at : tie.Need-shared-slice-read-at Inv-loop μ-loop
 shared-slice-read-at c = search needs
 
 slice-write-marks : tie.Need-slice-write-marks Inv-loop μ-loop
-slice-write-marks c = 
+slice-write-marks c =
     let at-loop = c .before .before in
     omega (arith, at-loop .before .pre .1 (at-loop .loop .i) (omega arith))
 
@@ -38,18 +38,19 @@ loop-less : tie.Need-loop-less Inv-loop μ-loop
 loop-less c = search needs
 
 loop-again : tie.Need-loop-again Inv-loop μ-loop
-loop-again c = 
+loop-again c =
     let at-loop = c .before .before in
-    let args = at-loop .before .args in
-    (omega arith,
-    simp length-set (at-loop .loop .inv .1),
-    mark-more (args .mark) (args .keys .now) (at-loop .loop .i) (args .to) (at-loop .loop .marks) (c .before .loop-test .taken) (at-loop .before .pre .0 .1) ∙ at-loop .loop .inv .2)
+    let args = at-loop .before .args in (
+      omega arith,
+      simp length-set (at-loop .loop .inv .1),
+      mark-more (args .mark) (args .keys .now) (at-loop .loop .i) (args .to) (at-loop .loop .marks) (c .before .loop-test .taken) (at-loop .before .pre .0 .1) ∙ at-loop .loop .inv .2,
+    )
 
 same-length : tie.Need-same-length Inv-loop μ-loop
 same-length c = search needs
 
 returns : tie.Need-returns Inv-loop μ-loop
-returns c = 
+returns c =
     let l = c .before .loop in
     let args = c .before .before .args in
     sym (mark-all (args .mark) (args .keys .now) (l .i) (args .to) (l .marks) (l .inv .0) (c .loop-test .left)) ∙ l .inv .2

@@ -44,13 +44,14 @@ loop-less : tie.Need-loop-less Inv-loop μ-loop
 loop-less c = search needs
 
 loop-again : tie.Need-loop-again Inv-loop μ-loop
-loop-again c = 
+loop-again c =
     let at-loop = c .before .before .before in
-    let args = at-loop .before .before .args in
-    (omega arith,
-    omega arith,
-    at-loop .loop .inv .2,
-    run-more (args .keys .now) (args .from) (at-loop .loop .i) (at-loop .loop .inv .3) (c .if1 .left ∙ at-loop .loop .inv .2))
+    let args = at-loop .before .before .args in (
+      omega arith,
+      omega arith,
+      at-loop .loop .inv .2,
+      run-more (args .keys .now) (args .from) (at-loop .loop .i) (at-loop .loop .inv .3) (c .if1 .left ∙ at-loop .loop .inv .2),
+    )
 
 returns-2 : tie.Need-returns-2 Inv-loop μ-loop
 returns-2 c = search needs
