@@ -1,11 +1,10 @@
 -- Examples of striking, each computed: they tell the definition from a strike that keeps all, and from one that takes the limit
 -- itself for too often.
 -- Assumes nothing.
-use Prim.Native.Nat.{ℕ}
 use mathlib.Core.Path.{_≡_, refl}
-use mathlib.Core.List.{List, [], _∷_}
-use Rattle.counts.specs.Replies.{Reply, accepted, refused}
-use Rattle.sketch.specs.Kmers.{Entry, codes, positions, entries}
+use mathlib.Core.List.{[], _∷_}
+use Rattle.counts.specs.Replies.{accepted, refused}
+use Rattle.sketch.specs.Kmers.{positions, entries}
 use Rattle.strike.specs.Strike.{struck, strikeReply, strikeCodes, strikePositions}
 use Rattle.strike.proofs.Compute.{strike-computes}
 

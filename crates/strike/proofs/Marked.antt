@@ -1,7 +1,7 @@
 -- Laws of marked words: what the loops that count and copy them keep, and that the words marked as rare are those of the struck
 -- entries.
 -- Assumes nothing.
-use Prim.Native.Nat.{ℕ, zero, suc, _+_, _-_, _≤_, _<_, zero-le}
+use Prim.Native.Nat.{ℕ, zero, suc, _+_, _≤_, _<_, zero-le}
 use native.Mathlib.Nat.{le-refl}
 use native.Mathlib.Omega.{arith}
 use native.Mathlib.Numerals.{add-one}
@@ -10,8 +10,8 @@ use mathlib.Core.Logic.{_⊎_, inl, inr, _≢_}
 use mathlib.Core.Bool.{Bool, true, false}
 use mathlib.Core.List.{List, [], _∷_, _++_, map, append-nil}
 use lib.Dec.{eqb, leb}
-use lib.ListN.{length, getD, set, take, drop, length-set, length-map, take-append-drop, drop-of-length-le}
-use lib.Seq.{drop-cons, take-suc, take-suc-set, take-set-le, drop-set-lt, length-take-le}
+use lib.ListN.{length, getD, set, take, drop, length-set, take-append-drop, drop-of-length-le}
+use lib.Seq.{drop-cons, take-suc-set, take-set-le, drop-set-lt, length-take-le}
 use borrow.Author.Tests.{eq-eqb, ne-eqb, leb-true, leb-false}
 use Rattle.counts.specs.Lists.{bit, addIf, keep, sum}
 use Rattle.counts.specs.Counts.{occ}

@@ -3,17 +3,16 @@
 use Prim.Native.Nat.{ℕ, _≤_, _<_}
 use mathlib.Core.Path.{_≡_, sym, ap, _∙_}
 use mathlib.Core.Logic.{_≢_}
-use mathlib.Core.Bool.{Bool, true, false, cond, _||_}
 use mathlib.Core.List.{List, [], _∷_}
-use lib.Dec.{ltb, leb}
+use lib.Dec.{leb}
 use lib.ListN.{length, getD}
 use borrow.Author.Tests.{lt-ltb, le-ltb, eq-eqb, ne-eqb}
-use Rattle.counts.specs.Lists.{bit, sum}
+use Rattle.counts.specs.Lists.{sum}
 use Rattle.counts.specs.Counts.{occ}
 use Rattle.counts.specs.Replies.{Reply, accepted, refused, after, over}
 use Rattle.counts.specs.Marks.{marksOf}
 use Rattle.sketch.specs.Limits.{textLimit}
-use Rattle.sketch.specs.Kmers.{Entry, codes, positions, entries}
+use Rattle.sketch.specs.Kmers.{codes, positions, entries}
 use Rattle.sketch.specs.Sketch.{roomFor}
 use Rattle.strike.specs.Strike.{strikeLimit, struck, strikeReply, strikeCodes, strikePositions}
 use Rattle.strike.specs.Marked.{markedWords}
