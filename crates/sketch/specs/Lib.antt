@@ -4,3 +4,4 @@ pub mod Letters
 pub mod Kmers
 pub mod Windows
 pub mod Sketch
+pub mod Places
