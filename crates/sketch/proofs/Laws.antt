@@ -20,7 +20,7 @@ use Rattle.sketch.specs.Windows.{picks, windows}
 use Rattle.sketch.specs.Sketch.{sketch, pickedBy}
 use Rattle.sketch.specs.Places.{entryAt, codeAt, span, spanSketch, runEnd, sketchFrom}
 use Rattle.sketch.proofs.Ranks.{rank-one-to-one}
-use Rattle.sketch.proofs.Spans.{getD-map}
+use Rattle.sketch.proofs.Codes.{codeAt-below}
 use Rattle.sketch.proofs.Runs.{by-runs, runEnd-within, run-letters}
 
 -- ---- codes and positions of any entries
@@ -157,42 +157,10 @@ sketch-kmer k w letters some {e} m = by-runs k w letters some P (λ at h m′. a
         go (inl a) = span-kmer k letters at at (to - at) (le-refl at) h (le-refl (to - at)) (keep-mem (λ (x : Entry). any (picks (x .position)) (windows w (span k letters at to))) (span k letters at to) a .0)
         go (inr b) = rest b
 
-value-below : (b : ℕ) → isForeign b ≡ false → value b < 4
-unfolding value isForeign
-value-below b h = go (eitherCase 65 97 b) (eitherCase 67 99 b) (eitherCase 71 103 b) (eitherCase 84 116 b) h
-  where
-    go : (a c g t : Bool) → eqb (cond a 0 (cond c 1 (cond g 2 (cond t 3 4)))) 4 ≡ false → cond a 0 (cond c 1 (cond g 2 (cond t 3 4))) < 4
-    go true c g t e = lit< tt
-    go false true g t e = lit< tt
-    go false false true t e = lit< tt
-    go false false false true e = lit< tt
-    go false false false false e = clash refl e
-
--- base-4 digits behind n make a number below (n + 1) · 4 to the number of digits
-digits-below : (n : ℕ) (vs : List ℕ) → ((i : ℕ) → i < length vs → getD vs i 0 < 4) → digits n vs < suc n * 4 ^ length vs
-digits-below n [] h = omega arith
-digits-below n (v ∷ vs) h =
-    let power : ℕ = 4 ^ length vs in
-    let last : v < 4 = h 0 (omega arith) in
-    let rest : digits (4 * n + v) vs < suc (4 * n + v) * power = digits-below (4 * n + v) vs (λ i l. h (suc i) (omega arith)) in
-    let more : suc (4 * n + v) * power ≤ 4 * suc n * power = mul-le-mul-right power (omega arith) in
-    let same : 4 * suc n * power ≡ suc n * 4 ^ suc (length vs) = rw (pow-succ' 4 (length vs)) (omega arith) in
-    subst (λ (x : ℕ). digits (4 * n + v) vs < x) same (lt-of-lt-of-le rest more)
-
 -- the code of a k-mer is below 4^k
 pub code-below : (k : ℕ) (letters : List ℕ) (e : Entry) → IsKmer k letters e → e .code < 4 ^ k
-unfolding codeOf
-code-below k letters e is =
-    let from : ℕ = e .position in
-    let vs : List ℕ = map value (take k (drop from letters)) in
-    let sized : length vs ≡ k = length-map (take k (drop from letters)) value ∙ length-take-le k (drop from letters) (rw (length-drop from letters) (omega (arith, is .within))) in
-    let small : (i : ℕ) → i < length vs → getD vs i 0 < 4 = λ i l.
-    let j : i < k = rw sized at l in
-    let at : getD (take k (drop from letters)) i 0 ≡ getD letters (from + i) 0 = getD-take k (drop from letters) i 0 j ∙ getD-drop from letters i 0 in
-    subst (λ (x : ℕ). x < 4) (sym (getD-map value (take k (drop from letters)) i (rw length-map at l) ∙ ap value at))
-    (value-below (getD letters (from + i) 0) (is .known (from + i) (omega arith) (omega arith))) in
-    let below : digits 0 vs < 1 * 4 ^ length vs = digits-below 0 vs small in
-    rw (is .code-there) (rw (sized, one-mul) at below)
+unfolding codeAt
+code-below k letters e is = rw (is .code-there) (codeAt-below letters k (e .position) (is .within) (is .known))
 
 -- what holds of each entry, at an index
 at-index : (P : Entry → Type 0) (es : List Entry) → ((e : Entry) → List·Memᴰ e es → P e) → (i : ℕ) → i < length es

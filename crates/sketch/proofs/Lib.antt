@@ -3,5 +3,7 @@ pub mod Compute
 pub mod Cases
 pub mod Ranks
 pub mod Spans
+pub mod Codes
 pub mod Runs
+pub mod Picks
 pub mod Laws

@@ -19,6 +19,7 @@ use native.Mathlib.Nat.{
   mul-comm,
   zero-lt-suc,
   le-antisymm,
+  add-mul-mod-self-left,
 }
 use native.Mathlib.Omega.{arith}
 use mathlib.Core.Path.{_≡_, refl, sym, ap, _∙_, subst}
@@ -28,6 +29,7 @@ use borrow.Author.Tests.{leb-true, leb-false}
 use Rattle.counts.proofs.Lists.{decided}
 use mathlib.Core.Bool.{Bool, true, false}
 use Rattle.sketch.specs.Kmers.{rank, multiplier, rankModulus}
+use Rattle.sketch.specs.Scan.{inverse, unrank}
 
 -- an odd factor may be left out: what it makes even was even
 even-factor : (d m : ℕ) → m % 2 ≡ 1 → d * m % 2 ≡ 0 → d % 2 ≡ 0
@@ -78,6 +80,22 @@ odd-multiple-le n m x y odd hx h =
 -- ONE LAW for any power of two and any odd multiplier: unequal numbers below the power have unequal remainders
 pub odd-multiple-one-to-one : (n m x y : ℕ) → m % 2 ≡ 1 → x < 2 ^ n → y < 2 ^ n → x * m % 2 ^ n ≡ y * m % 2 ^ n → x ≡ y
 odd-multiple-one-to-one n m x y odd hx hy h = le-antisymm (odd-multiple-le n m x y odd hx h) (odd-multiple-le n m y x odd hy (sym h))
+
+-- a factor and its inverse undo each other, and remainders may be taken on the way
+inverse-back : (c m i x : ℕ) → m * i % c ≡ 1 → x < c → x * m % c * i % c ≡ x
+inverse-back c m i x h l =
+    let q : ℕ = x * m / c in
+    let a : ℕ = x * m % c in
+    let t : ℕ = m * i / c in
+    let there : (c * q + a) * i ≡ x * m * i = ap (λ (z : ℕ). z * i) (div-add-mod (x * m) c) in
+    let back : x * (c * t + 1) ≡ x * (m * i) = ap (λ (z : ℕ). x * z) (subst (λ (r : ℕ). c * t + r ≡ m * i) h (div-add-mod (m * i) c)) in
+    let same : a * i + c * (q * i) ≡ x + c * (x * t) = omega arith in
+    sym (add-mul-mod-self-left (a * i) c (q * i)) ∙ ap (λ (z : ℕ). z % c) same ∙ add-mul-mod-self-left x c (x * t) ∙ mod-eq-of-lt l
+
+-- the rank of a code is taken back to the code
+pub unrank-rank : (x : ℕ) → x < rankModulus → unrank (rank x) ≡ x
+unfolding rank unrank
+unrank-rank x h = inverse-back rankModulus multiplier inverse x refl h
 
 -- unequal codes have unequal ranks
 pub rank-one-to-one : (x y : ℕ) → x < rankModulus → y < rankModulus → rank x ≡ rank y → x ≡ y

@@ -5,3 +5,4 @@ pub mod Kmers
 pub mod Windows
 pub mod Sketch
 pub mod Places
+pub mod Scan

@@ -1,0 +1,66 @@
+-- What the functions that scan letters keep from letter to letter, and what they have still to do.
+-- Assumes nothing.
+use Prim.Native.Nat.{ℕ, suc, _+_, _*_, _-_, _%_, _^_, _≤_, _<_}
+use mathlib.Core.Path.{_≡_}
+use mathlib.Core.Bool.{Bool, cond}
+use mathlib.Core.List.{List, [], _∷_}
+use lib.Dec.{ltb}
+use lib.ListN.{length, getD, set}
+use Rattle.counts.specs.Lists.{keep, any}
+use Rattle.sketch.specs.Letters.{value}
+use Rattle.sketch.specs.Kmers.{Entry, rank, rankModulus}
+use Rattle.sketch.specs.Windows.{neighbours, picks}
+use Rattle.sketch.specs.Places.{span, rankAt}
+
+-- ---- letters and ranks
+
+-- the value of each byte, at the byte
+pub record IsTable (values : List ℕ) : Type 0 where
+  pub sized : length values ≡ 256
+  pub known : (b : ℕ) → b < 256 → getD values b 0 ≡ value b
+
+-- what takes a rank back to its code: 2,654,435,761 · 244,002,641 mod 2^30 = 1
+abbrev pub inverse : ℕ
+inverse = 244002641
+
+unfoldable pub unrank : ℕ → ℕ
+unrank r = r * inverse % rankModulus
+
+-- how many ranks the ring holds: those of a window, which is at most 64
+abbrev pub ringSize : ℕ
+ringSize = 64
+
+-- the rank that the ring has for position q
+abbrev pub ringAt : List ℕ → ℕ → ℕ
+ringAt ring q = getD ring (q % ringSize) 0
+
+-- ---- windows
+
+-- among the positions from `from` up to, and without, `to`, p has the lowest rank, and is the rightmost of equal ones
+pub record IsLowest (ranks : ℕ → ℕ) (from to p : ℕ) : Type 0 where
+  pub first : from ≤ p
+  pub last : p < to
+  pub left : (q : ℕ) → from ≤ q → q < p → ranks p ≤ ranks q
+  pub right : (q : ℕ) → p < q → q < to → ranks p < ranks q
+
+-- of the k-mers from position m on, those that a window picks that begins at position i or later, where the run has its last
+-- k-mer before position `to`
+unfoldable pub pickedFrom : ℕ → ℕ → List ℕ → ℕ → ℕ → ℕ → List Entry
+pickedFrom k w letters to i m = keep (λ (e : Entry). any (picks (e .position)) (neighbours w (span k letters i to))) (span k letters m to)
+
+-- ---- buffers
+
+-- the number of entries found, and the two buffers
+pub record Written : Type 0 where
+  pub entries : ℕ
+  pub codes : List ℕ
+  pub positions : List ℕ
+
+-- the buffer with x at n, where n is below the room
+unfoldable pub placed : ℕ → ℕ → ℕ → List ℕ → List ℕ
+placed room n x buffer = cond (ltb n room) (set buffer n x) buffer
+
+-- what stands at the end where n entries were found, the buffers hold cs and ps, and these are still to come
+abbrev pub written : ℕ → ℕ → List ℕ → List ℕ → List Entry → Written
+written room n cs ps [] = record { entries = n; codes = cs; positions = ps }
+written room n cs ps (e ∷ es) = written room (suc n) (placed room n (e .code) cs) (placed room n (e .position) ps) es
