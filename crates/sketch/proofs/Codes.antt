@@ -1,15 +1,17 @@
 -- Codes by position: a code is below 4^k, and the next one comes of it by one more digit behind and the first one cut off.
 -- Assumes nothing.
 use Prim.Native.Nat.{ℕ, zero, suc, _+_, _*_, _-_, _/_, _%_, _^_, _≤_, _<_}
-use native.Mathlib.Nat.{pow-succ', lt-of-lt-of-le, mul-le-mul-right, one-mul, zero-add, zero-mul, mod-lt, mod-eq-of-lt, div-add-mod, add-mul-mod-self-left, one-le-pow}
+use native.Mathlib.Nat.{pow-succ', lt-of-lt-of-le, mul-le-mul-right, one-mul, zero-add, zero-mul, mod-lt, mod-eq-of-lt, div-add-mod, add-mul-mod-self-left, one-le-pow, lt-of-le-of-lt, pow-le-pow-right}
 use native.Mathlib.Omega.{arith}
 use mathlib.Core.Path.{_≡_, refl, sym, ap, _∙_, subst}
 use mathlib.Core.Bool.{Bool, true, false, cond}
 use mathlib.Core.List.{List, [], _∷_, _++_, map}
 use lib.Dec.{eqb, lit<}
+use lib.Bits.{bitAnd, and-mask}
 use lib.ListN.{length, getD, take, drop, length-map, length-drop}
 use lib.Seq.{length-take-le, getD-take, getD-drop, take-suc, drop-cons}
 use Rattle.counts.proofs.Lists.{map-append, clash}
+use Rattle.sketch.specs.Limits.{kLimit}
 use Rattle.sketch.specs.Letters.{value, isForeign, eitherCase}
 use Rattle.sketch.specs.Kmers.{codeOf, digits}
 use Rattle.sketch.specs.Places.{codeAt}
@@ -60,6 +62,21 @@ cut-digit last code v h =
     let parts : power * (code / power) + code % power ≡ code = div-add-mod code power in
     let split : 4 * code + v ≡ (4 * (code % power) + v) + 4 * power * (code / power) = omega arith in
     rw (pow-succ' 4 last, split, add-mul-mod-self-left (4 * (code % power) + v) (4 * power) (code / power)) (mod-eq-of-lt (omega arith))
+
+two-four : (k : ℕ) → 2 ^ (2 * k) ≡ 4 ^ k
+two-four zero = refl
+two-four (suc k) =
+    let e : 2 * suc k ≡ suc (suc (2 * k)) = omega arith in
+    let p : 2 ^ suc (suc (2 * k)) ≡ 2 * (2 * 2 ^ (2 * k)) = pow-succ' 2 (suc (2 * k)) ∙ ap (λ (x : ℕ). 2 * x) (pow-succ' 2 (2 * k)) in
+    rw (e, p, two-four k, pow-succ' 4 k) (omega arith)
+
+-- four shifted by two bits for each of the last digits, as 32 bits hold it
+pub shifted-four : (last : ℕ) → last < kLimit → 4 * 2 ^ (2 * last) % 2 ^ 32 ≡ 4 ^ suc last
+shifted-four last h = rw (two-four last, ← pow-succ' 4 last) (mod-eq-of-lt (lt-of-le-of-lt (pow-le-pow-right (lit< tt) h) (lit< tt)))
+
+-- what the mask of these digits leaves
+pub masked : (x last : ℕ) → last < kLimit → bitAnd x (4 * 2 ^ (2 * last) % 2 ^ 32 - 1) ≡ x % 4 ^ suc last
+masked x last h = rw (shifted-four last h, ← two-four (suc last)) (and-mask x (2 * suc last))
 
 module _ (letters : List ℕ) where
   codeAt-length : (k p : ℕ) → p + k ≤ length letters → length (map value (take k (drop p letters))) ≡ k

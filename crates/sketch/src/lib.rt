@@ -1,1 +1,3 @@
-// Sketches of letters, and striking of frequent k-mers.
+// Sketches of letters.
+mod kmers;
+mod letters;
