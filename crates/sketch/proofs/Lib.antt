@@ -5,5 +5,6 @@ pub mod Ranks
 pub mod Spans
 pub mod Codes
 pub mod Runs
+pub mod Steps
 pub mod Picks
 pub mod Laws

@@ -7,10 +7,11 @@ use mathlib.Core.List.{List, [], _∷_}
 use lib.Dec.{ltb}
 use lib.ListN.{length, getD, set}
 use Rattle.counts.specs.Lists.{keep, any}
+use Rattle.sketch.specs.Limits.{kLimit, letterLimit}
 use Rattle.sketch.specs.Letters.{value}
 use Rattle.sketch.specs.Kmers.{Entry, rank, rankModulus}
 use Rattle.sketch.specs.Windows.{neighbours, picks}
-use Rattle.sketch.specs.Places.{span, rankAt}
+use Rattle.sketch.specs.Places.{codeAt, rankAt, span, runEnd}
 
 -- ---- letters and ranks
 
@@ -33,6 +34,40 @@ ringSize = 64
 -- the rank that the ring has for position q
 abbrev pub ringAt : List ℕ → ℕ → ℕ
 ringAt ring q = getD ring (q % ringSize) 0
+
+-- ---- the scan of a run
+
+-- what a scan of k-mers of last + 1 letters from position `from` on starts with
+pub record Ready (letters values : List ℕ) (from last : ℕ) : Type 0 where
+  pub table : IsTable values
+  pub in-letters : from ≤ length letters
+  pub few : length letters ≤ letterLimit
+  pub short : last < kLimit
+
+-- the letters from `from` up to position `at` are read, of `last` letters at most: `code` is theirs, and where they are fewer the
+-- run ends at `at`
+pub record Begun (letters : List ℕ) (from last at code : ℕ) : Type 0 where
+  pub start : from ≤ at
+  pub most : at ≤ from + last
+  pub within : at ≤ runEnd letters from
+  pub ended : at < from + last → at ≡ runEnd letters from
+  pub code-there : code ≡ codeAt (at - from) letters from
+
+-- the k-mers up to position `at`, of last + 1 letters each, are read: the ring has the ranks from `first` on, and the code in hand
+-- ends in the `last` letters from `at` on
+pub record Scanned (last : ℕ) (letters ring : List ℕ) (first at code : ℕ) : Type 0 where
+  pub sized : length ring ≡ ringSize
+  pub ranked : (q : ℕ) → first ≤ q → q < at → ringAt ring q ≡ rankAt (suc last) letters q
+  pub code-there : code % 4 ^ last ≡ codeAt last letters at
+  pub code-below : code < 4 ^ kLimit
+
+-- the k-mers of a run's first window are read, or all of the run where they are fewer
+pub record Filled (last w : ℕ) (letters ring : List ℕ) (from at code : ℕ) : Type 0 where
+  pub start : from ≤ at
+  pub most : at ≤ from + w
+  pub within : at + last ≤ runEnd letters from
+  pub ended : at < from + w → at + last ≡ runEnd letters from
+  pub scanned : Scanned last letters ring from at code
 
 -- ---- windows
 
@@ -60,7 +95,18 @@ pub record Written : Type 0 where
 unfoldable pub placed : ℕ → ℕ → ℕ → List ℕ → List ℕ
 placed room n x buffer = cond (ltb n room) (set buffer n x) buffer
 
+-- the buffers have this room
+pub record HasRoom (room : ℕ) (cs ps : List ℕ) : Type 0 where
+  pub for-codes : room ≤ length cs
+  pub for-positions : room ≤ length ps
+
 -- what stands at the end where n entries were found, the buffers hold cs and ps, and these are still to come
 abbrev pub written : ℕ → ℕ → List ℕ → List ℕ → List Entry → Written
 written room n cs ps [] = record { entries = n; codes = cs; positions = ps }
 written room n cs ps (e ∷ es) = written room (suc n) (placed room n (e .code) cs) (placed room n (e .position) ps) es
+
+-- the entry is put: n and the buffers cs and ps have become n′, cs′ and ps′
+pub record IsPut (room n code position n′ : ℕ) (cs ps cs′ ps′ : List ℕ) : Type 0 where
+  pub counted : n′ ≡ suc n
+  pub codes-after : cs′ ≡ placed room n code cs
+  pub positions-after : ps′ ≡ placed room n position ps

@@ -1,3 +1,4 @@
 // Sketches of letters.
 mod kmers;
 mod letters;
+mod windows;
