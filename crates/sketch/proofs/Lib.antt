@@ -7,4 +7,5 @@ pub mod Codes
 pub mod Runs
 pub mod Steps
 pub mod Picks
+pub mod Passing
 pub mod Laws

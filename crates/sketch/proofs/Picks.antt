@@ -2,7 +2,7 @@
 -- window where it is new.
 -- Assumes nothing.
 use Prim.Native.Nat.{ℕ, zero, suc, _+_, _-_, _≤_, _<_}
-use native.Mathlib.Nat.{le-refl, le-antisymm, le-trans, le-of-eq, le-of-lt, le-step, lt-of-lt-of-le, lt-of-le-of-lt, ne-of-lt, ne-of-gt, add-zero, add-sub-cancel-left}
+use native.Mathlib.Nat.{le-refl, le-antisymm, le-trans, le-of-eq, le-of-lt, le-step, lt-of-lt-of-le, lt-of-le-of-lt, lt-trans, ne-of-lt, ne-of-gt, add-zero, add-sub-cancel-left}
 use native.Mathlib.Omega.{arith}
 use mathlib.Core.Path.{_≡_, refl, sym, ap, ap₂, _∙_, subst}
 use mathlib.Core.Bool.{Bool, true, false, cond, _||_}
@@ -69,6 +69,16 @@ module _ (ranks : ℕ → ℕ) where
           let y : ranks p′ < ranks p = is′ .right p h (lt-of-lt-of-le (is .last) b) in
           absurd (omega arith)
       go false l = ltb-false p′ p l
+
+  pub lowest-same : (ranks′ : ℕ → ℕ) (from to p : ℕ) → ((q : ℕ) → from ≤ q → q < to → ranks q ≡ ranks′ q) → IsLowest ranks from to p → IsLowest ranks′ from to p
+  lowest-same ranks′ from to p same is =
+      let at : ranks p ≡ ranks′ p = same p (is .first) (is .last) in
+      record {
+        first = is .first;
+        last = is .last;
+        left = λ q a b. subst (λ (x : ℕ). x ≤ ranks′ q) at (subst (λ (x : ℕ). ranks p ≤ x) (same q a (lt-trans b (is .last))) (is .left q a b));
+        right = λ q a b. subst (λ (x : ℕ). x < ranks′ q) at (subst (λ (x : ℕ). ranks p < x) (same q (le-trans (is .first) (le-of-lt a)) b) (is .right q a b));
+      }
 
   pub lowest-unique : (from to p p′ : ℕ) → IsLowest ranks from to p → IsLowest ranks from to p′ → p ≡ p′
   lowest-unique from to p p′ is is′ =

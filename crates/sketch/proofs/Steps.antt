@@ -1,7 +1,7 @@
 -- One letter more: what a scan knows of the run's end, of the code in hand and of the ring.
 -- Assumes nothing.
 use Prim.Native.Nat.{ℕ, zero, suc, _+_, _*_, _-_, _%_, _^_, _≤_, _<_}
-use native.Mathlib.Nat.{lt-of-lt-of-le, pow-le-pow-right, mod-lt, ne-of-lt}
+use native.Mathlib.Nat.{le-antisymm, lt-of-lt-of-le, pow-le-pow-right, mod-lt}
 use native.Mathlib.Numerals.{add-one}
 use native.Mathlib.Omega.{arith}
 use mathlib.Core.Path.{_≡_, refl, sym, ap, ap₂, _∙_, subst}
@@ -30,29 +30,43 @@ run-stop (a ∷ l) = go (isForeign a) refl (run-stop l)
     go true e rec = e
     go false e rec = rec
 
+-- what stands at the end of a run is no letter of the eight
+runEnd-stop : (letters : List ℕ) (from : ℕ) → isForeign (getD letters (runEnd letters from) 0) ≡ true
+unfolding runEnd
+runEnd-stop letters from = ap isForeign (sym (getD-drop from letters (runLength (drop from letters)) 0)) ∙ run-stop (drop from letters)
+
+-- a run does not go past such a place
+end-before : (letters : List ℕ) (from e : ℕ) → from ≤ e → isForeign (getD letters e 0) ≡ true → runEnd letters from ≤ e
+end-before letters from e h stop = go (ltb e (runEnd letters from)) refl
+  where
+    go : (b : Bool) → ltb e (runEnd letters from) ≡ b → runEnd letters from ≤ e
+    go true l = clash stop (run-letters letters from e h (ltb-true e (runEnd letters from) l))
+    go false l = ltb-false e (runEnd letters from) l
+
 module _ (letters : List ℕ) (from at : ℕ) (start : from ≤ at) (within : at ≤ runEnd letters from) where
   -- the run ends at a letter outside the eight, or past the last one
   pub end-here : value (getD letters at 0) ≡ foreign → at ≡ runEnd letters from
   unfolding isForeign
-  end-here h = go (ltb at (runEnd letters from)) refl
-    where
-      go : (b : Bool) → ltb at (runEnd letters from) ≡ b → at ≡ runEnd letters from
-      go true e = clash (eq-eqb (value (getD letters at 0)) foreign h) (run-letters letters from at start (ltb-true at (runEnd letters from) e))
-      go false e = omega (arith, ltb-false at (runEnd letters from) e)
+  end-here h = le-antisymm within (end-before letters from at start (eq-eqb (value (getD letters at 0)) foreign h))
 
   -- it goes on at a letter of the eight
   pub end-later : (value (getD letters at 0) ≡ foreign → ⊥) → at < runEnd letters from
-  unfolding isForeign runEnd
+  unfolding isForeign
   end-later h = go (ltb at (runEnd letters from)) refl
     where
-      stop : isForeign (getD letters (runEnd letters from) 0) ≡ true
-      stop = ap isForeign (sym (getD-drop from letters (runLength (drop from letters)) 0)) ∙ run-stop (drop from letters)
-
       go : (b : Bool) → ltb at (runEnd letters from) ≡ b → at < runEnd letters from
       go true e = ltb-true at (runEnd letters from) e
       go false e =
           let same : runEnd letters from ≡ at = omega (arith, ltb-false at (runEnd letters from) e) in
-          clash (subst (λ (x : ℕ). isForeign (getD letters x 0) ≡ true) same stop) (ne-eqb (value (getD letters at 0)) foreign h)
+          clash (subst (λ (x : ℕ). isForeign (getD letters x 0) ≡ true) same (runEnd-stop letters from)) (ne-eqb (value (getD letters at 0)) foreign h)
+
+  -- the run is the same from any letter of it on
+  pub runEnd-same : runEnd letters at ≡ runEnd letters from
+  unfolding runEnd
+  runEnd-same =
+      le-antisymm
+      (end-before letters at (runEnd letters from) within (runEnd-stop letters from))
+      (end-before letters from (runEnd letters at) (omega arith) (runEnd-stop letters at))
 
   -- its value is then a digit
   pub digit-below : (value (getD letters at 0) ≡ foreign → ⊥) → value (getD letters at 0) < 4
@@ -93,6 +107,7 @@ module _ (letters : List ℕ) (from : ℕ) (in-letters : from ≤ length letters
     unfolding rankAt
     scanned-next ring first first′ code is a b = record {
       sized = length-set ring (at % ringSize) (rank (codeAt (suc last) letters at)) ∙ is .sized;
+      small = λ q c d. below-more (λ (x : ℕ). first′ ≤ x → codeAt (suc last) letters x < 4 ^ kLimit) at (λ x l m. is .small x (omega arith) l) (λ m. code-small at (suc last) start (omega arith) short) q d c;
       ranked = λ q c d. below-more (λ (x : ℕ). first′ ≤ x → ringAt new x ≡ rankAt (suc last) letters x) at old here q d c;
       code-there = rw (add-one at) (codeAt-cut letters last at (omega (arith, runEnd-within letters from in-letters)) (λ q c d. run-letters letters from q (omega arith) (omega arith)));
       code-below = code-small at (suc last) start (omega arith) short;

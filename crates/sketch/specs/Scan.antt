@@ -3,7 +3,7 @@
 use Prim.Native.Nat.{ℕ, suc, _+_, _*_, _-_, _%_, _^_, _≤_, _<_}
 use mathlib.Core.Path.{_≡_}
 use mathlib.Core.Bool.{Bool, cond}
-use mathlib.Core.List.{List, [], _∷_}
+use mathlib.Core.List.{List, [], _∷_, _++_}
 use lib.Dec.{ltb}
 use lib.ListN.{length, getD, set}
 use Rattle.counts.specs.Lists.{keep, any}
@@ -58,6 +58,7 @@ pub record Begun (letters : List ℕ) (from last at code : ℕ) : Type 0 where
 pub record Scanned (last : ℕ) (letters ring : List ℕ) (first at code : ℕ) : Type 0 where
   pub sized : length ring ≡ ringSize
   pub ranked : (q : ℕ) → first ≤ q → q < at → ringAt ring q ≡ rankAt (suc last) letters q
+  pub small : (q : ℕ) → first ≤ q → q < at → codeAt (suc last) letters q < 4 ^ kLimit
   pub code-there : code % 4 ^ last ≡ codeAt last letters at
   pub code-below : code < 4 ^ kLimit
 
@@ -110,3 +111,14 @@ pub record IsPut (room n code position n′ : ℕ) (cs ps cs′ ps′ : List ℕ
   pub counted : n′ ≡ suc n
   pub codes-after : cs′ ≡ placed room n code cs
   pub positions-after : ps′ ≡ placed room n position ps
+
+-- n entries in the buffers cs and ps, with those of `left` still to come, are as far as n₀ entries in cs₀ and ps₀ with those of
+-- `all`: whatever comes after, the same stands at the end
+abbrev pub SameEnd : ℕ → ℕ → List ℕ → List ℕ → List Entry → ℕ → List ℕ → List ℕ → List Entry → Type 0
+SameEnd room n cs ps left n₀ cs₀ ps₀ all = (es : List Entry) → written room n cs ps (left ++ es) ≡ written room n₀ cs₀ ps₀ (all ++ es)
+
+-- the windows of a run are passed, from the one that ends before position `from`
+pub record Passes (last w room : ℕ) (letters : List ℕ) (from before at entries : ℕ) (cs ps cs′ ps′ : List ℕ) : Type 0 where
+  pub ended : at ≡ runEnd letters from
+  pub counted : entries ≤ at
+  pub put : SameEnd room entries cs′ ps′ [] before cs ps (pickedFrom (suc last) w letters (runEnd letters from - last) (from - w) (from - w))

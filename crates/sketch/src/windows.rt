@@ -4,9 +4,10 @@ ghost use mathlib.Core.Path.{_≡_};
 ghost use lib.ListN.{length};
 ghost use Rattle.sketch.specs.Limits.{kLimit, wLimit, letterLimit};
 ghost use Rattle.sketch.specs.Places.{codeAt, runEnd};
-ghost use Rattle.sketch.specs.Scan.{ringAt, ringSize, IsTable, Ready, Begun, Filled, IsLowest, HasRoom, IsPut};
+ghost use Rattle.sketch.specs.Scan.{ringAt, ringSize, IsTable, Ready, Begun, Scanned, Filled, Passes, IsLowest, HasRoom, IsPut};
 use crate::kmers::next_code;
 use crate::kmers::rank;
+use crate::kmers::unrank;
 use crate::letters::FOREIGN;
 use crate::letters::value_at;
 
@@ -112,4 +113,57 @@ pub fn first_window(
         at += 1;
     }
     Reached { at, code }
+}
+
+// Passes the windows of a run, the first of which is in the ring, and puts each pick that is new.
+pub fn pass_windows(
+    letters: &[u8],
+    values: &[u8],
+    ring: &mut [u32],
+    last: usize,
+    w: usize,
+    reached: Reached,
+    codes: &mut [u32],
+    positions: &mut [u32],
+    room: usize,
+    before: usize,
+) -> Passed
+    requires { ⌜ Ready (now letters) (now values) (reached .at) last ⌝ }
+    requires { ⌜ (1 ≤ w) × (w ≤ wLimit) × (w ≤ reached .at) × (before < reached .at) ⌝ }
+    requires { ⌜ reached .at + last ≤ runEnd (now letters) (reached .at) ⌝ }
+    requires { ⌜ Scanned last (now letters) (now ring) (reached .at - w) (reached .at) (reached .code) ⌝ }
+    requires { ⌜ HasRoom room (now codes) (now positions) ⌝ }
+    ensures { λ r. ⌜ Passes last w room (now (letters .entry)) (reached .at) before (r .at) (r .entries) (now (codes .entry)) (now (positions .entry)) (now (codes .exit)) (now (positions .exit)) ⌝ }
+{
+    let mut p = reached.at;
+    let mut code = reached.code;
+    let mut n = before;
+    'windows: loop {
+        let mut low_at = lowest(ring, p - w, p);
+        let mut low = ring[low_at % RING];
+        n = put(codes, positions, room, n, unrank(low), low_at);
+        loop {
+            let v = value_at(letters, values, p + last);
+            if v == FOREIGN {
+                break 'windows;
+            }
+            code = next_code(code, v, last);
+            let r = rank(code);
+            ring[p % RING] = r;
+            let here = p;
+            p += 1;
+            if low_at + w <= here {
+                continue 'windows;
+            }
+            if r <= low {
+                low_at = here;
+                low = r;
+                n = put(codes, positions, room, n, code, here);
+            }
+        }
+    }
+    Passed {
+        at: p + last,
+        entries: n,
+    }
 }

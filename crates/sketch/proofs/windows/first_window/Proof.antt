@@ -44,6 +44,7 @@ loop-holds c =
       record {
         sized = pre .1 .0 .1;
         ranked = λ q a b. absurd (omega arith);
+        small = λ q a b. absurd (omega arith);
         code-there = mod-eq-of-lt whole ∙ pre .1 .1 .1;
         code-below = lt-of-lt-of-le whole (pow-le-pow-right (lit< tt) (le-of-lt (pre .0 .short)));
       },
