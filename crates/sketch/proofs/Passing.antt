@@ -12,15 +12,30 @@ use lib.ListN.{length, getD, set}
 use Rattle.sketch.specs.Limits.{kLimit}
 use Rattle.sketch.specs.Letters.{value}
 use Rattle.sketch.specs.Kmers.{Entry, rank}
-use Rattle.sketch.specs.Places.{codeAt, rankAt, entryAt, runEnd}
-use Rattle.sketch.specs.Scan.{ringSize, Scanned, HasRoom, IsLowest, pickedFrom, IsPut, written, placed, SameEnd}
+use Rattle.sketch.specs.Places.{codeAt, rankAt, runEnd, spanSketch}
+use Rattle.sketch.specs.Scan.{unrank, ringSize, ringAt, Scanned, HasRoom, IsLowest, pickedFrom, IsPut, written, placed, SameEnd}
+use Rattle.sketch.proofs.Ranks.{unrank-rank}
 use Rattle.sketch.proofs.Steps.{pushed}
-use Rattle.sketch.proofs.Picks.{lowest-new, lowest-kept, lowest-moved, picked-new, picked-old, picked-none}
+use Rattle.sketch.proofs.Picks.{lowest-same, lowest-new, lowest-kept, lowest-moved, picked-new, picked-old, picked-none, spanSketch-none, spanSketch-short, spanSketch-long}
 
 -- what is put stood first among what was to come
 pub put-first : (room n code position n′ : ℕ) (cs ps cs′ ps′ : List ℕ) → IsPut room n code position n′ cs ps cs′ ps′
     → (es : List Entry) → written room n′ cs′ ps′ es ≡ written room n cs ps (record { code = code; position = position } ∷ es)
 put-first room n code position n′ cs ps cs′ ps′ is es = rw (is .counted, is .codes-after, is .positions-after)
+
+-- ---- what the ring tells
+
+module _ (last : ℕ) (letters ring : List ℕ) (first at code : ℕ) (scanned : Scanned last letters ring first at code) where
+  -- the lowest of the ring is that of the window
+  pub ring-lowest : (p : ℕ) → IsLowest (ringAt ring) first at p → IsLowest (rankAt (suc last) letters) first at p
+  ring-lowest p is = lowest-same (ringAt ring) (rankAt (suc last) letters) first at p (scanned .ranked) is
+
+  -- and its code is taken back from its rank
+  pub ring-code : (q u : ℕ) → first ≤ q → q < at → u ≡ unrank (ringAt ring q) → u ≡ codeAt (suc last) letters q
+  unfolding rankAt
+  ring-code q u a b e = e ∙ ap unrank (scanned .ranked q a b) ∙ unrank-rank (codeAt (suc last) letters q) (scanned .small q a b)
+
+-- ---- one window more
 
 module _ (last w room to : ℕ) (letters : List ℕ) (some : 1 ≤ w) (i b p : ℕ) (wide : i + w ≡ b) (within : b ≤ to) (is : IsLowest (rankAt (suc last) letters) i b p) where
   here : IsLowest (rankAt (suc last) letters) i (i + w) p
@@ -126,3 +141,23 @@ module _ (last w room : ℕ) (letters : List ℕ) (p₀ : ℕ) (ready : p₀ ≤
           },
           rw next (window-old last w room (runEnd letters p₀ - last) letters some (suc (p - w)) (suc p) low-at (omega arith) (omega arith) lowest (suc low-at) (le-refl (suc low-at))),
         )
+
+-- ---- one run
+
+module _ (last w room : ℕ) (letters : List ℕ) (some : 1 ≤ w) (from to n : ℕ) (cs ps : List ℕ) where
+  -- a run with no k-mer puts nothing
+  pub run-none : to ≤ from → SameEnd room n cs ps [] n cs ps (spanSketch (suc last) w letters from to)
+  run-none h es = ap (λ (l : List Entry). written room n cs ps (l ++ es)) (sym (spanSketch-none (suc last) letters w to some from h))
+
+  -- a run with fewer k-mers than w puts the lowest of all
+  pub run-short : (p code n′ : ℕ) (cs′ ps′ : List ℕ) → to < from + w → IsLowest (rankAt (suc last) letters) from to p → code ≡ codeAt (suc last) letters p
+      → IsPut room n code p n′ cs ps cs′ ps′ → SameEnd room n′ cs′ ps′ [] n cs ps (spanSketch (suc last) w letters from to)
+  run-short p code n′ cs′ ps′ h is e put es =
+      put-first room n code p n′ cs ps cs′ ps′ put es
+      ∙ ap (λ (x : ℕ). written room n cs ps (record { code = x; position = p } ∷ es)) e
+      ∙ ap (λ (l : List Entry). written room n cs ps (l ++ es)) (sym (spanSketch-short (suc last) letters w to some from p h is))
+
+  -- a longer one puts what its windows pick
+  pub run-long : (n′ : ℕ) (cs′ ps′ : List ℕ) → from + w ≤ to → SameEnd room n′ cs′ ps′ [] n cs ps (pickedFrom (suc last) w letters to from from)
+      → SameEnd room n′ cs′ ps′ [] n cs ps (spanSketch (suc last) w letters from to)
+  run-long n′ cs′ ps′ h put = rw (spanSketch-long (suc last) letters w to some from h) put

@@ -117,8 +117,8 @@ pub record IsPut (room n code position n′ : ℕ) (cs ps cs′ ps′ : List ℕ
 abbrev pub SameEnd : ℕ → ℕ → List ℕ → List ℕ → List Entry → ℕ → List ℕ → List ℕ → List Entry → Type 0
 SameEnd room n cs ps left n₀ cs₀ ps₀ all = (es : List Entry) → written room n cs ps (left ++ es) ≡ written room n₀ cs₀ ps₀ (all ++ es)
 
--- the windows of a run are passed, from the one that ends before position `from`
-pub record Passes (last w room : ℕ) (letters : List ℕ) (from before at entries : ℕ) (cs ps cs′ ps′ : List ℕ) : Type 0 where
+-- the run that holds position `from` is passed to its end, and all of these are put
+pub record Passes (room : ℕ) (letters : List ℕ) (from before at entries : ℕ) (cs ps cs′ ps′ : List ℕ) (all : List Entry) : Type 0 where
   pub ended : at ≡ runEnd letters from
   pub counted : entries ≤ at
-  pub put : SameEnd room entries cs′ ps′ [] before cs ps (pickedFrom (suc last) w letters (runEnd letters from - last) (from - w) (from - w))
+  pub put : SameEnd room entries cs′ ps′ [] before cs ps all

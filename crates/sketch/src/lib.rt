@@ -1,4 +1,5 @@
 // Sketches of letters.
 mod kmers;
 mod letters;
+mod scan;
 mod windows;

@@ -4,7 +4,7 @@ ghost use mathlib.Core.Path.{_≡_};
 ghost use lib.ListN.{length};
 ghost use Rattle.sketch.specs.Limits.{kLimit, wLimit, letterLimit};
 ghost use Rattle.sketch.specs.Places.{codeAt, runEnd};
-ghost use Rattle.sketch.specs.Scan.{ringAt, ringSize, IsTable, Ready, Begun, Scanned, Filled, Passes, IsLowest, HasRoom, IsPut};
+ghost use Rattle.sketch.specs.Scan.{ringAt, ringSize, IsTable, Ready, Begun, Scanned, Filled, Passes, pickedFrom, IsLowest, HasRoom, IsPut};
 use crate::kmers::next_code;
 use crate::kmers::rank;
 use crate::kmers::unrank;
@@ -12,7 +12,7 @@ use crate::letters::FOREIGN;
 use crate::letters::value_at;
 
 // How many ranks the ring holds.
-const RING: usize = 64;
+pub const RING: usize = 64;
 
 // A position, and the code in hand there.
 pub struct Reached {
@@ -133,7 +133,8 @@ pub fn pass_windows(
     requires { ⌜ reached .at + last ≤ runEnd (now letters) (reached .at) ⌝ }
     requires { ⌜ Scanned last (now letters) (now ring) (reached .at - w) (reached .at) (reached .code) ⌝ }
     requires { ⌜ HasRoom room (now codes) (now positions) ⌝ }
-    ensures { λ r. ⌜ Passes last w room (now (letters .entry)) (reached .at) before (r .at) (r .entries) (now (codes .entry)) (now (positions .entry)) (now (codes .exit)) (now (positions .exit)) ⌝ }
+    ensures { λ r. ⌜ Passes room (now (letters .entry)) (reached .at) before (r .at) (r .entries) (now (codes .entry)) (now (positions .entry)) (now (codes .exit)) (now (positions .exit))
+        (pickedFrom (suc last) w (now (letters .entry)) (runEnd (now (letters .entry)) (reached .at) - last) (reached .at - w) (reached .at - w)) ⌝ }
 {
     let mut p = reached.at;
     let mut code = reached.code;

@@ -7,14 +7,12 @@ use mathlib.Core.List.{List, _++_}
 use lib.ListN.{length, getD}
 use Rattle.sketch.specs.Limits.{letterLimit}
 use Rattle.sketch.specs.Letters.{value, foreign}
-use Rattle.sketch.specs.Kmers.{Entry, rank}
+use Rattle.sketch.specs.Kmers.{Entry}
 use Rattle.sketch.specs.Places.{codeAt, rankAt, runEnd}
-use Rattle.sketch.specs.Scan.{unrank, ringSize, ringAt, IsLowest, written, SameEnd}
-use Rattle.sketch.proofs.Passing.{Standing, Picking, toPick, window-new, picking-end, picking-left, picking-new, picking-kept}
-use Rattle.sketch.proofs.Ranks.{unrank-rank}
+use Rattle.sketch.specs.Scan.{IsLowest, written, SameEnd}
+use Rattle.sketch.proofs.Passing.{Standing, Picking, toPick, ring-lowest, ring-code, window-new, picking-end, picking-left, picking-new, picking-kept}
 use Rattle.sketch.proofs.Runs.{runEnd-within}
 use Rattle.sketch.proofs.Steps.{runEnd-same, end-here, end-later, digit-below}
-use Rattle.sketch.proofs.Picks.{lowest-same}
 use Rattle.sketch.proofs.windows.pass_windows.Statement.{statement}
 use Rattle.sketch.proofs.windows.pass_windows.Tie as tie
 use Rattle.sketch.proofs.windows.pass_windows.Reads as reads
@@ -120,21 +118,17 @@ lowest-there : (c : tie.After-lowest Inv-loop μ-loop Inv-windows μ-windows)
     (c .before .before .windows .p - entry (c .before .before) .args .w) (c .before .before .windows .p) (c .lowest .result)
 lowest-there c =
     let turn = c .before .before in
-    lowest-same (ringAt (turn .windows .ring)) (rankAt (suc (entry turn .args .last)) (entry turn .args .letters .now))
-    (turn .windows .p - entry turn .args .w) (turn .windows .p) (c .lowest .result) (turn .windows .inv .0 .scanned .ranked) (c .lowest .ensures)
+    ring-lowest (entry turn .args .last) (entry turn .args .letters .now) (turn .windows .ring) (turn .windows .p - entry turn .args .w) (turn .windows .p) (turn .windows .code)
+    (turn .windows .inv .0 .scanned) (c .lowest .result) (c .lowest .ensures)
 
 -- and its code is taken back from its rank
 code-there : (c : tie.After-unrank Inv-loop μ-loop Inv-windows μ-windows)
     → c .unrank .result ≡ codeAt (suc (entry (c .before .before .before .before .before .before) .args .last)) (entry (c .before .before .before .before .before .before) .args .letters .now) (c .before .before .before .before .lowest .result)
-unfolding rankAt
 code-there c =
     let turn = c .before .before .before .before .before .before in
-    let start = entry turn in
-    let letters = start .args .letters .now in
-    let low-at = c .before .before .before .before .lowest .result in
-    let is = c .before .before .before .before .lowest .ensures in
-    let ranked : ringAt (turn .windows .ring) low-at ≡ rank (codeAt (suc (start .args .last)) letters low-at) = turn .windows .inv .0 .scanned .ranked low-at (is .first) (is .last) in
-    c .unrank .ensures ∙ ap unrank ranked ∙ unrank-rank (codeAt (suc (start .args .last)) letters low-at) (turn .windows .inv .0 .scanned .small low-at (is .first) (is .last))
+    let lowest = c .before .before .before .before .lowest in
+    ring-code (entry turn .args .last) (entry turn .args .letters .now) (turn .windows .ring) (turn .windows .p - entry turn .args .w) (turn .windows .p) (turn .windows .code)
+    (turn .windows .inv .0 .scanned) (lowest .result) (c .unrank .result) (lowest .ensures .first) (lowest .ensures .last) (c .unrank .ensures)
 
 -- src/windows.rt:134:9
 loop-holds : tie.Need-loop-holds Inv-loop μ-loop Inv-windows μ-windows
