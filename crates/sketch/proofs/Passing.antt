@@ -12,9 +12,10 @@ use lib.ListN.{length, getD, set}
 use Rattle.sketch.specs.Limits.{kLimit}
 use Rattle.sketch.specs.Letters.{value}
 use Rattle.sketch.specs.Kmers.{Entry, rank}
-use Rattle.sketch.specs.Places.{codeAt, rankAt, runEnd, spanSketch}
+use Rattle.sketch.specs.Places.{codeAt, rankAt, runEnd, spanSketch, sketchFrom}
 use Rattle.sketch.specs.Scan.{unrank, ringSize, ringAt, Scanned, HasRoom, IsLowest, pickedFrom, IsPut, written, placed, SameEnd}
 use Rattle.sketch.proofs.Ranks.{unrank-rank}
+use Rattle.sketch.proofs.Runs.{sketchFrom-run}
 use Rattle.sketch.proofs.Steps.{pushed}
 use Rattle.sketch.proofs.Picks.{lowest-same, lowest-new, lowest-kept, lowest-moved, picked-new, picked-old, picked-none, spanSketch-none, spanSketch-short, spanSketch-long}
 
@@ -161,3 +162,16 @@ module _ (last w room : ℕ) (letters : List ℕ) (some : 1 ≤ w) (from to n : 
   pub run-long : (n′ : ℕ) (cs′ ps′ : List ℕ) → from + w ≤ to → SameEnd room n′ cs′ ps′ [] n cs ps (pickedFrom (suc last) w letters to from from)
       → SameEnd room n′ cs′ ps′ [] n cs ps (spanSketch (suc last) w letters from to)
   run-long n′ cs′ ps′ h put = rw (spanSketch-long (suc last) letters w to some from h) put
+
+-- what stands behind the run is then still to come
+pub run-passed : (k w room at e n n′ : ℕ) (letters cs ps cs′ ps′ : List ℕ) → 1 ≤ k → at ≤ length letters → e ≡ runEnd letters at
+    → SameEnd room n′ cs′ ps′ [] n cs ps (spanSketch (suc (k - 1)) w letters at (runEnd letters at - (k - 1)))
+    → written room n′ cs′ ps′ (sketchFrom k w letters (e + 1)) ≡ written room n cs ps (sketchFrom k w letters at)
+run-passed k w room at e n n′ letters cs ps cs′ ps′ some h ended put =
+    let whole : suc (k - 1) ≡ k = omega arith in
+    let to : runEnd letters at - (k - 1) ≡ suc (runEnd letters at) - k = omega arith in
+    let behind : e + 1 ≡ suc (runEnd letters at) = omega arith in
+    let rest : List Entry = sketchFrom k w letters (suc (runEnd letters at)) in
+    let first : written room n′ cs′ ps′ (sketchFrom k w letters (e + 1)) ≡ written room n cs ps (spanSketch (suc (k - 1)) w letters at (runEnd letters at - (k - 1)) ++ rest) = rw behind (put rest) in
+    let all : spanSketch (suc (k - 1)) w letters at (runEnd letters at - (k - 1)) ++ rest ≡ sketchFrom k w letters at = rw (whole, to) (sym (sketchFrom-run k w at letters some h)) in
+    first ∙ ap (written room n cs ps) all

@@ -92,6 +92,9 @@ pub record Written : Type 0 where
   pub codes : List ℕ
   pub positions : List ℕ
 
+abbrev pub wrote : ℕ → List ℕ → List ℕ → Written
+wrote n cs ps = record { entries = n; codes = cs; positions = ps }
+
 -- the buffer with x at n, where n is below the room
 unfoldable pub placed : ℕ → ℕ → ℕ → List ℕ → List ℕ
 placed room n x buffer = cond (ltb n room) (set buffer n x) buffer
@@ -103,7 +106,7 @@ pub record HasRoom (room : ℕ) (cs ps : List ℕ) : Type 0 where
 
 -- what stands at the end where n entries were found, the buffers hold cs and ps, and these are still to come
 abbrev pub written : ℕ → ℕ → List ℕ → List ℕ → List Entry → Written
-written room n cs ps [] = record { entries = n; codes = cs; positions = ps }
+written room n cs ps [] = wrote n cs ps
 written room n cs ps (e ∷ es) = written room (suc n) (placed room n (e .code) cs) (placed room n (e .position) ps) es
 
 -- the entry is put: n and the buffers cs and ps have become n′, cs′ and ps′

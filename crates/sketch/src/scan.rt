@@ -5,8 +5,9 @@ ghost use lib.ListN.{length};
 ghost use Rattle.sketch.specs.Limits.{kLimit, wLimit, letterLimit};
 ghost use Rattle.sketch.specs.Sketch.{sketch};
 ghost use Rattle.sketch.specs.Places.{runEnd, spanSketch};
-ghost use Rattle.sketch.specs.Scan.{ringSize, Ready, Passes, HasRoom, written};
+ghost use Rattle.sketch.specs.Scan.{ringSize, Ready, Passes, HasRoom, wrote, written};
 use crate::kmers::unrank;
+use crate::letters::table;
 use crate::windows::Passed;
 use crate::windows::RING;
 use crate::windows::first_letters;
@@ -77,4 +78,41 @@ pub fn run(
         at: p + last,
         entries: n,
     }
+}
+
+// Passes all runs, and answers how many entries their sketches have. As many as there is room for are written.
+pub fn scan(
+    letters: &[u8],
+    k: u32,
+    w: u32,
+    codes: &mut [u32],
+    positions: &mut [u32],
+    room: usize,
+) -> usize
+    requires { ⌜ (1 ≤ k) × (k ≤ kLimit) × (1 ≤ w) × (w ≤ wLimit) × (length (now letters) ≤ letterLimit) ⌝ }
+    requires { ⌜ HasRoom room (now codes) (now positions) ⌝ }
+    ensures { λ r. ⌜ wrote r (now (codes .exit)) (now (positions .exit)) ≡ written room 0 (now (codes .entry)) (now (positions .entry)) (sketch k w (now (letters .entry))) ⌝ }
+{
+    let values = table();
+    let mut ring = [0u32; RING];
+    let last = k as usize - 1;
+    let mut at: usize = 0;
+    let mut n: usize = 0;
+    while at < letters.len() {
+        let end = run(
+            letters,
+            &values,
+            &mut ring,
+            at,
+            last,
+            w as usize,
+            codes,
+            positions,
+            room,
+            n,
+        );
+        n = end.entries;
+        at = end.at + 1;
+    }
+    n
 }
