@@ -1,0 +1,105 @@
+-- Laws of what a writer leaves: where the bytes fit, where they do not, and two writers one after the other.
+-- Assumes nothing.
+use Prim.Native.Nat.{ℕ, zero, suc, _+_, _-_, _≤_, _<_}
+use native.Mathlib.Nat.{add-zero}
+use native.Mathlib.Omega.{arith}
+use mathlib.Core.Path.{_≡_, refl, sym, ap, _∙_}
+use mathlib.Core.Bool.{Bool, true, false}
+use mathlib.Core.List.{List, [], _∷_, _++_, append-nil, append-assoc}
+use lib.Dec.{leb, leb·suc-zero}
+use lib.ListN.{length, take, drop, length-append, length-take, length-drop, take-append-drop}
+use lib.Seq.{length-take-le, take-at, drop-append-add, drop-drop}
+use borrow.Author.Tests.{le-leb, lt-leb, leb-true}
+use Rattle.counts.specs.Replies.{over}
+use Rattle.listing.specs.Writing.{fitting, overFrom, Written, LineWritten}
+
+pub fitting-all : (room : ℕ) (bytes : List ℕ) → length bytes ≤ room → fitting room bytes ≡ bytes
+unfolding fitting
+fitting-all room bytes h = rw (le-leb (length bytes) room h)
+
+pub fitting-none : (room : ℕ) (bytes : List ℕ) → room < length bytes → fitting room bytes ≡ []
+unfolding fitting
+fitting-none room bytes h = rw (lt-leb (length bytes) room h)
+
+-- no byte fits behind a buffer's end
+fitting-behind : (bytes : List ℕ) → fitting 0 bytes ≡ []
+unfolding fitting
+fitting-behind [] = refl
+fitting-behind (b ∷ bytes) = rw (leb·suc-zero (length bytes))
+
+pub overFrom-none : (at : ℕ) (old : List ℕ) → overFrom at [] old ≡ old
+unfolding overFrom
+overFrom-none at old = simp (add-zero, append-nil) (take-append-drop at old)
+
+-- nothing is written
+kept : (bytes : List ℕ) (at : ℕ) (old : List ℕ) → fitting (length old - at) bytes ≡ [] → Written bytes at old old at
+kept bytes at old e = record { index = simp (e, add-zero); buffer = rw e (sym (overFrom-none at old)) }
+
+pub kept-behind : (bytes : List ℕ) (at : ℕ) (old : List ℕ) → length old ≤ at → Written bytes at old old at
+kept-behind bytes at old h =
+    let z : length old - at ≡ 0 = omega arith in
+    kept bytes at old (rw z (fitting-behind bytes))
+
+pub kept-short : (bytes : List ℕ) (at : ℕ) (old : List ℕ) → length old - at < length bytes → Written bytes at old old at
+kept-short bytes at old h = kept bytes at old (fitting-none (length old - at) bytes h)
+
+-- all is written
+pub wrote : (bytes : List ℕ) (at : ℕ) (old : List ℕ) → at + length bytes ≤ length old → Written bytes at old (overFrom at bytes old) (at + length bytes)
+wrote bytes at old h =
+    let e : fitting (length old - at) bytes ≡ bytes = fitting-all (length old - at) bytes (omega arith) in
+    record { index = rw e; buffer = rw e }
+
+-- what was written, and where, by a writer with room for its bytes
+module _ {bytes : List ℕ} {at : ℕ} {old new : List ℕ} {next : ℕ} (w : Written bytes at old new next) (room : at + length bytes ≤ length old) where
+  all : fitting (length old - at) bytes ≡ bytes
+  all = fitting-all (length old - at) bytes (omega arith)
+
+  pub written-index : next ≡ at + length bytes
+  written-index = w .index ∙ ap (λ (l : List ℕ). at + length l) all
+
+  pub written-buffer : new ≡ overFrom at bytes old
+  written-buffer = w .buffer ∙ ap (λ (l : List ℕ). overFrom at l old) all
+
+module _ (at : ℕ) (old : List ℕ) where
+  length-head : (a : List ℕ) → at ≤ length old → length (take at old ++ a) ≡ at + length a
+  length-head a h = length-append (take at old) a ∙ ap (λ (n : ℕ). n + length a) (length-take-le at old h)
+
+  pub length-overFrom : (a : List ℕ) → at + length a ≤ length old → length (overFrom at a old) ≡ length old
+  unfolding overFrom
+  length-overFrom a h =
+      length-append (take at old ++ a) (drop (at + length a) old)
+      ∙ ap (λ (n : ℕ). n + length (drop (at + length a) old)) (length-head a (omega arith))
+      ∙ ap (λ (n : ℕ). at + length a + n) (length-drop (at + length a) old)
+      ∙ (omega arith)
+
+  -- the second right behind the first
+  overFrom-overFrom : (a b : List ℕ) → at ≤ length old → overFrom (at + length a) b (overFrom at a old) ≡ overFrom at (a ++ b) old
+  unfolding overFrom
+  overFrom-overFrom a b h =
+      let head : List ℕ = take at old ++ a in
+      let rest : List ℕ = drop (at + length a) old in
+      let long : length head ≡ at + length a = length-head a h in
+      let e : at + length a + length b ≡ at + length (a ++ b) = omega (arith, length-append a b) in
+      ap (λ (l : List ℕ). l ++ b ++ drop (at + length a + length b) (head ++ rest)) (take-at head rest (at + length a) long)
+      ∙ ap (λ (l : List ℕ). head ++ b ++ l)
+          (ap (λ (n : ℕ). drop (n + length b) (head ++ rest)) (sym long)
+            ∙ drop-append-add head rest (length b)
+            ∙ drop-drop (length b) (at + length a) old
+            ∙ ap (λ (n : ℕ). drop n old) e)
+      ∙ ap (λ (l : List ℕ). l ++ drop (at + length (a ++ b)) old) (append-assoc (take at old) a b)
+
+-- two writers one after the other, with room for both, are one
+pub joined : {a b : List ℕ} {at : ℕ} {s t u : List ℕ} {n k : ℕ} → Written a at s t n → Written b n t u k → at + length (a ++ b) ≤ length s → Written (a ++ b) at s u k
+joined {a} {b} {at} {s} {t} {u} {n} {k} first second room =
+    let both : length (a ++ b) ≡ length a + length b = length-append a b in
+    let e : n ≡ at + length a = written-index first (omega arith) in
+    let d : t ≡ overFrom at a s = written-buffer first (omega arith) in
+    let l : length t ≡ length s = ap length d ∙ length-overFrom at s a (omega arith) in
+    let e₂ : k ≡ at + length (a ++ b) = written-index second (omega arith) ∙ (omega arith) in
+    let d₂ : u ≡ overFrom at (a ++ b) s =
+        written-buffer second (omega arith)
+        ∙ ap (λ (i : ℕ). overFrom i b t) e
+        ∙ ap (overFrom (at + length a) b) d
+        ∙ overFrom-overFrom at s a b (omega arith) in
+    let w : Written (a ++ b) at s (overFrom at (a ++ b) s) (at + length (a ++ b)) = wrote (a ++ b) at s room in
+    record { index = e₂ ∙ w .index; buffer = d₂ ∙ w .buffer }
