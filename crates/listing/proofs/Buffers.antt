@@ -3,12 +3,12 @@
 use Prim.Native.Nat.{ℕ, zero, suc, _+_, _-_, _≤_, _<_}
 use native.Mathlib.Nat.{add-zero}
 use native.Mathlib.Omega.{arith}
-use mathlib.Core.Path.{_≡_, refl, sym, ap, _∙_}
+use mathlib.Core.Path.{_≡_, refl, sym, ap, ap₂, _∙_, subst}
 use mathlib.Core.Bool.{Bool, true, false}
 use mathlib.Core.List.{List, [], _∷_, _++_, append-nil, append-assoc}
 use lib.Dec.{leb, leb·suc-zero}
-use lib.ListN.{length, take, drop, length-append, length-take, length-drop, take-append-drop}
-use lib.Seq.{length-take-le, take-at, drop-append-add, drop-drop}
+use lib.ListN.{length, getD, set, take, drop, length-set, length-append, length-take, length-drop, take-append-drop}
+use lib.Seq.{length-take-le, take-all, drop-cons, getD-set-same, drop-set-lt, take-at, drop-append-add, drop-drop}
 use borrow.Author.Tests.{le-leb, lt-leb, leb-true}
 use Rattle.counts.specs.Replies.{over}
 use Rattle.listing.specs.Writing.{fitting, overFrom, Written, LineWritten}
@@ -82,10 +82,10 @@ module _ (at : ℕ) (old : List ℕ) where
       let e : at + length a + length b ≡ at + length (a ++ b) = omega (arith, length-append a b) in
       ap (λ (l : List ℕ). l ++ b ++ drop (at + length a + length b) (head ++ rest)) (take-at head rest (at + length a) long)
       ∙ ap (λ (l : List ℕ). head ++ b ++ l)
-          (ap (λ (n : ℕ). drop (n + length b) (head ++ rest)) (sym long)
-            ∙ drop-append-add head rest (length b)
-            ∙ drop-drop (length b) (at + length a) old
-            ∙ ap (λ (n : ℕ). drop n old) e)
+      (ap (λ (n : ℕ). drop (n + length b) (head ++ rest)) (sym long)
+      ∙ drop-append-add head rest (length b)
+      ∙ drop-drop (length b) (at + length a) old
+      ∙ ap (λ (n : ℕ). drop n old) e)
       ∙ ap (λ (l : List ℕ). l ++ drop (at + length (a ++ b)) old) (append-assoc (take at old) a b)
 
 -- two writers one after the other, with room for both, are one
@@ -97,9 +97,22 @@ joined {a} {b} {at} {s} {t} {u} {n} {k} first second room =
     let l : length t ≡ length s = ap length d ∙ length-overFrom at s a (omega arith) in
     let e₂ : k ≡ at + length (a ++ b) = written-index second (omega arith) ∙ (omega arith) in
     let d₂ : u ≡ overFrom at (a ++ b) s =
-        written-buffer second (omega arith)
-        ∙ ap (λ (i : ℕ). overFrom i b t) e
-        ∙ ap (overFrom (at + length a) b) d
-        ∙ overFrom-overFrom at s a b (omega arith) in
+    written-buffer second (omega arith)
+    ∙ ap (λ (i : ℕ). overFrom i b t) e
+    ∙ ap (overFrom (at + length a) b) d
+    ∙ overFrom-overFrom at s a b (omega arith) in
     let w : Written (a ++ b) at s (overFrom at (a ++ b) s) (at + length (a ++ b)) = wrote (a ++ b) at s room in
     record { index = e₂ ∙ w .index; buffer = d₂ ∙ w .buffer }
+
+pub same-bytes : {a b : List ℕ} {at : ℕ} {s t : List ℕ} {n : ℕ} → a ≡ b → Written a at s t n → Written b at s t n
+same-bytes {at} {s} {t} {n} e w = subst (λ (l : List ℕ). Written l at s t n) e w
+
+-- the part from an index to the end, as it is lent
+pub part-to-end : (l : List ℕ) (end from : ℕ) → length l ≤ end → take (end - from) (drop from l) ≡ drop from l
+part-to-end l end from h = let e : length (drop from l) ≡ length l - from = length-drop from l in take-all (end - from) (drop from l) (omega arith)
+
+-- a byte stored in front of what stands from i on
+pub drop-set : (l : List ℕ) (i b : ℕ) → i < length l → drop i (set l i b) ≡ b ∷ drop (suc i) l
+drop-set l i b h =
+    drop-cons (set l i b) i 0 (subst (λ (n : ℕ). i < n) (sym (length-set l i b)) h)
+    ∙ ap₂ (λ (a : ℕ) (r : List ℕ). a ∷ r) (getD-set-same l i b 0 h) (drop-set-lt (suc i) l i b (omega arith))

@@ -109,12 +109,12 @@ fn read_number(bytes: &[u8], limit: u32) -> Number {
     Number::Value(value)
 }
 
-// The number below 0 with this magnitude.
+// The negative of a magnitude, by way of 64 bits: the lowest number has no counterpart in 32.
 fn negative(magnitude: u32) -> i32
-    requires { ⌜ (1 ≤ magnitude) × (magnitude ≤ 2 ^ 31) ⌝ }
+    requires { ⌜ magnitude ≤ 2 ^ 31 ⌝ }
     ensures { λ r. ⌜ r ≡ negℤ (pos magnitude) ⌝ }
 {
-    -((magnitude - 1) as i32) - 1
+    (-(magnitude as i64)) as i32
 }
 
 // A signed number of 32 bits: a minus only before a number below 0.

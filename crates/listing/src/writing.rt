@@ -1,12 +1,12 @@
 // Writers of bytes, of numbers and of the printed line into a lent buffer. Each writes all or nothing.
 // Assumes nothing.
 ghost use mathlib.Core.Path.{_≡_};
-ghost use mathlib.Core.Bool.{true};
+ghost use mathlib.Core.Bool.{false};
 ghost use mathlib.Core.List.{[], _∷_};
 ghost use Prim.Native.Nat.{_≤_};
 ghost use lib.ListN.{length, drop};
 ghost use lib.IntN.{pos, natAbs};
-ghost use lib.Signed.{ltZ};
+ghost use lib.Signed.{leZ};
 ghost use Rattle.listing.specs.Line.{decimal, signed, line};
 ghost use Rattle.listing.specs.Writing.{Written, LineWritten, fitting};
 
@@ -73,12 +73,12 @@ pub fn put_decimal(out: &mut [u8], at: usize, n: u32) -> usize
     put_bytes(out, at, &digits[from..])
 }
 
-// A number below 0 without its sign. 1 is added after the change of sign, since the lowest number has no counterpart above 0.
+// A number below 0 without its sign, by way of 64 bits: the lowest number has no counterpart in 32.
 fn magnitude(z: i32) -> u32
-    requires { ⌜ ltZ z (pos 0) ≡ true ⌝ }
+    requires { ⌜ leZ (pos 0) z ≡ false ⌝ }
     ensures { λ r. ⌜ r ≡ natAbs z ⌝ }
 {
-    (-(z + 1)) as u32 + 1
+    (-(z as i64)) as u32
 }
 
 // A signed number in decimal, as `put_bytes` writes bytes.

@@ -18,7 +18,7 @@ unfolding overFrom
 stored b at old h =
     let w : Written (b ∷ []) at old (overFrom at (b ∷ []) old) (at + 1) = wrote (b ∷ []) at old (omega arith) in
     let e : set old at b ≡ overFrom at (b ∷ []) old =
-        set-split old at b h ∙ sym (append-snoc (take at old) b (drop (at + 1) old) ∙ ap (λ (n : ℕ). take at old ++ b ∷ drop n old) (add-one at)) in
+    set-split old at b h ∙ sym (append-snoc (take at old) b (drop (at + 1) old) ∙ ap (λ (n : ℕ). take at old ++ b ∷ drop n old) (add-one at)) in
     record { index = w .index; buffer = e ∙ w .buffer }
 
 returns : tie.Need-returns

@@ -71,14 +71,14 @@ loop-again c =
       omega arith,
       simp length-set (at-loop .loop .inv .1),
       copied
-        (now (at-start .args .out))
-        (now (at-start .args .bytes))
-        (at-loop .loop .out)
-        (at-start .args .at)
-        (at-loop .loop .j)
-        (at-loop .loop .inv .2)
-        (omega arith)
-        (c .before .loop-test .taken),
+          (now (at-start .args .out))
+          (now (at-start .args .bytes))
+          (at-loop .loop .out)
+          (at-start .args .at)
+          (at-loop .loop .j)
+          (at-loop .loop .inv .2)
+          (omega arith)
+          (c .before .loop-test .taken),
     )
 
 add-result : tie.Need-add-result Inv-loop μ-loop
