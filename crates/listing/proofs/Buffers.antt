@@ -1,14 +1,14 @@
 -- Laws of what a writer leaves: where the bytes fit, where they do not, and two writers one after the other.
 -- Assumes nothing.
 use Prim.Native.Nat.{ℕ, zero, suc, _+_, _-_, _≤_, _<_}
-use native.Mathlib.Nat.{add-zero}
+use native.Mathlib.Nat.{add-zero, zero-add, sub-zero}
 use native.Mathlib.Omega.{arith}
 use mathlib.Core.Path.{_≡_, refl, sym, ap, ap₂, _∙_, subst}
 use mathlib.Core.Bool.{Bool, true, false}
 use mathlib.Core.List.{List, [], _∷_, _++_, append-nil, append-assoc}
 use lib.Dec.{leb, leb·suc-zero}
 use lib.ListN.{length, getD, set, take, drop, length-set, length-append, length-take, length-drop, take-append-drop}
-use lib.Seq.{length-take-le, take-all, drop-cons, getD-set-same, drop-set-lt, take-at, drop-append-add, drop-drop}
+use lib.Seq.{length-take-le, take-all, drop-cons, getD-set-same, drop-set-lt, take-at, append-snoc, drop-append-add, drop-drop}
 use borrow.Author.Tests.{le-leb, lt-leb, leb-true}
 use Rattle.counts.specs.Replies.{over}
 use Rattle.listing.specs.Writing.{fitting, overFrom, Written, LineWritten}
@@ -106,6 +106,51 @@ joined {a} {b} {at} {s} {t} {u} {n} {k} first second room =
 
 pub same-bytes : {a b : List ℕ} {at : ℕ} {s t : List ℕ} {n : ℕ} → a ≡ b → Written a at s t n → Written b at s t n
 same-bytes {at} {s} {t} {n} e w = subst (λ (l : List ℕ). Written l at s t n) e w
+
+-- one byte between two fields
+pub joined-by : {a b : List ℕ} {between at : ℕ} {s t u v : List ℕ} {n k l : ℕ}
+    → Written a at s t n → Written (between ∷ []) n t u k → Written b k u v l → at + (length a + suc (length b)) ≤ length s → Written (a ++ between ∷ b) at s v l
+joined-by {a} {b} {between} first middle second room =
+    let e : length (a ++ between ∷ []) ≡ length a + 1 = length-append a (between ∷ []) in
+    let f : length ((a ++ between ∷ []) ++ b) ≡ length (a ++ between ∷ []) + length b = length-append (a ++ between ∷ []) b in
+    same-bytes (append-snoc a between b) (joined (joined first middle (omega arith)) second (omega arith))
+
+-- what was written from a buffer's start, with room for it: so many bytes of the buffer
+module _ {bytes old new : List ℕ} {next : ℕ} (w : Written bytes 0 old new next) (room : length bytes ≤ length old) where
+  pub start-index : next ≡ length bytes
+  start-index = written-index w (omega arith) ∙ zero-add (length bytes)
+
+  start-buffer : new ≡ bytes ++ drop (0 + length bytes) old
+  unfolding overFrom
+  start-buffer = written-buffer w (omega arith)
+
+  pub start-part : take next new ≡ bytes
+  start-part = ap (take next) start-buffer ∙ take-at bytes (drop (0 + length bytes) old) next (sym start-index)
+
+  pub start-length : length new ≡ length old
+  start-length = ap length (written-buffer w (omega arith)) ∙ length-overFrom 0 old bytes (omega arith)
+
+-- from the buffer's start
+pub from-start : {bytes old new : List ℕ} {next : ℕ} → Written bytes 0 old new next → LineWritten bytes old new next
+unfolding overFrom
+from-start {bytes} {old} {new} {next} w =
+    let e : fitting (length old - 0) bytes ≡ fitting (length old) bytes = ap (λ (n : ℕ). fitting n bytes) (sub-zero (length old)) in
+    let z : (n : ℕ) → 0 + n ≡ n = zero-add in
+    record {
+      number = w .index ∙ z (length (fitting (length old - 0) bytes)) ∙ ap length e;
+      buffer =
+          w .buffer
+          ∙ ap (λ (l : List ℕ). l ++ drop (0 + length l) old) e
+          ∙ ap (λ (n : ℕ). fitting (length old) bytes ++ drop n old) (z (length (fitting (length old) bytes)));
+    }
+
+-- the part that was written
+module _ {bytes old new : List ℕ} {count : ℕ} (w : LineWritten bytes old new count) where
+  pub line-part : take count new ≡ fitting (length old) bytes
+  line-part = ap (take count) (w .buffer) ∙ take-at (fitting (length old) bytes) (drop (length (fitting (length old) bytes)) old) count (sym (w .number))
+
+  pub line-count : count ≡ length (take count new)
+  line-count = w .number ∙ sym (ap length line-part)
 
 -- the part from an index to the end, as it is lent
 pub part-to-end : (l : List ℕ) (end from : ℕ) → length l ≤ end → take (end - from) (drop from l) ≡ drop from l

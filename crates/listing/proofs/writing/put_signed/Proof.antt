@@ -133,14 +133,14 @@ returns-2 c =
     let at-start = at-digits .before .before .before .before .before in
     same-bytes
     (all-are
-      (at-start .args .z)
-      (at-start .fits .z)
-      (at-digits .before .before .before .if1 .left)
-      (at-digits .write-digits .last .0)
-      (at-digits .write-digits .result)
-      (at-digits .write-digits .kept .0)
-      (at-digits .write-digits .ensures .0)
-      (at-digits .write-digits .ensures .1 ∙ ap decimal (at-digits .before .magnitude .ensures)))
+    (at-start .args .z)
+    (at-start .fits .z)
+    (at-digits .before .before .before .if1 .left)
+    (at-digits .write-digits .last .0)
+    (at-digits .write-digits .result)
+    (at-digits .write-digits .kept .0)
+    (at-digits .write-digits .ensures .0)
+    (at-digits .write-digits .ensures .1 ∙ ap decimal (at-digits .before .magnitude .ensures)))
     (c .before .before .put-bytes .ensures)
 
 pub put-signed-spec : {M : Type 1} → statement M
