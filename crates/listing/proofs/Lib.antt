@@ -1,3 +1,6 @@
 -- Laws that this crate's proofs and the crates above cite.
 pub mod Buffers
 pub mod Decimal
+pub mod Fields
+pub mod Numbers
+pub mod Parts

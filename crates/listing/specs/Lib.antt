@@ -4,3 +4,4 @@ pub mod PerMille
 pub mod Line
 pub mod Writing
 pub mod Input
+pub mod Answers

@@ -1,5 +1,6 @@
-// The list that is read by a person: per mille here, the printed line in `writing`.
+// The list that is read by a person: per mille here, the printed line in `writing`, the three lines of the input in `input`.
 // Assumes nothing.
+pub mod input;
 pub mod writing;
 
 ghost use mathlib.Core.Path.{_≡_};
