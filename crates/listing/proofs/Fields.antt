@@ -19,8 +19,11 @@ use Rattle.listing.specs.Input.{isDigit, isDecimal, decimalValue, isUnsi
 use Rattle.listing.specs.Answers.{firstPart, fieldOf, thresholdOf, answerOf, firstLineOf}
 use Rattle.listing.specs.declared.input.Field.{Field}
 use Rattle.listing.specs.declared.input.Field.the-variants.{Malformed as noField, Given as field}
+use Rattle.listing.specs.declared.input.Threshold.{Threshold}
+use Rattle.listing.specs.declared.input.Threshold.the-variants.{Malformed as noSigned, Value as signedNumber}
 use Rattle.listing.specs.declared.input.FirstLine.{FirstLine}
 use Rattle.listing.specs.declared.input.FirstLine.the-variants.{Malformed as noFirstLine, Given as firstLine}
+use Rattle.listing.proofs.Numbers.{after-cond}
 use Rattle.listing.proofs.Parts.{parts, first-more, parts-one, parts-more, first-le}
 
 cond-same : {A : Type 0} (b : Bool) (x : A) → cond b x x ≡ x
@@ -202,3 +205,12 @@ module _ (ns l : List ℕ) where
           let short : length (firstPart space l) ≤ length l = first-le space l in
           let long : length l ≤ length (firstPart space l) = ltb-false (length (firstPart space l)) (length l) h in
           ap (lastField ns) (parts-one space l (omega arith))
+
+-- the answer from the numbers and what was read of the threshold
+abbrev pub asFirstLine : List ℕ → Threshold → FirstLine
+asFirstLine ns noSigned = noFirstLine
+asFirstLine ns (signedNumber t) = made ns t
+
+pub left-threshold : (ns l : List ℕ) → left 0 ns (fields l) ≡ asFirstLine ns (thresholdOf l)
+unfolding thresholdOf
+left-threshold ns l = left-last ns l ∙ sym (after-cond (asFirstLine ns) (isSigned l) (signedNumber (signedValue l)) noSigned)

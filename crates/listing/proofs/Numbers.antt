@@ -115,7 +115,7 @@ number-le limit v l e = go (isDecimal l && leb (decimalValue 0 l) limit) refl
         let clash : _≡_ {A = ℕ} 0 1 = cc in
         absurd (omega arith)
 
-after-cond : {A B : Type 0} (f : A → B) (b : Bool) (x y : A) → f (cond b x y) ≡ cond b (f x) (f y)
+pub after-cond : {A B : Type 0} (f : A → B) (b : Bool) (x y : A) → f (cond b x y) ≡ cond b (f x) (f y)
 after-cond f true x y = refl
 after-cond f false x y = refl
 
