@@ -82,7 +82,7 @@ module _ (n : ℕ) (ns : List ℕ) (l : List ℕ) where
   left-bad h e = ap (left (suc n) ns) (parts-more space l h) ∙ rw e
 
   left-good : length (firstPart space l) < length l → isUnsigned (firstPart space l) ≡ true
-    → left (suc n) ns (fields l) ≡ left n (ns ++ decimalValue 0 (firstPart space l) ∷ []) (fields (drop (suc (length (firstPart space l))) l))
+      → left (suc n) ns (fields l) ≡ left n (ns ++ decimalValue 0 (firstPart space l) ∷ []) (fields (drop (suc (length (firstPart space l))) l))
   unfolding fields
   left-good h e = ap (left (suc n) ns) (parts-more space l h) ∙ rw e
 
@@ -141,8 +141,10 @@ module _ (line : List ℕ) (from : ℕ) where
     where
       l : List ℕ
       l = drop from line
+
       p : List ℕ
       p = firstPart space l
+
       go : (ltb (length p) (length l) ≡ true) ⊎ (ltb (length p) (length l) ≡ false) → left (suc n) ns (fields l) ≡ noFirstLine
       go (inl t) = left-bad n ns l (ltb-true (length p) (length l) t) (rw t at (read-bad e))
       go (inr t) =

@@ -2,5 +2,6 @@
 pub mod Buffers
 pub mod Decimal
 pub mod Fields
+pub mod Lines
 pub mod Numbers
 pub mod Parts

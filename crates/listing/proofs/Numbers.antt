@@ -22,7 +22,7 @@ use Rattle.listing.specs.declared.input.Threshold.the-variants.{Malforme
 use Rattle.listing.specs.declared.input.Field.{Field}
 use Rattle.listing.specs.declared.input.Field.the-variants.{Malformed as noField, Given as field}
 
-and-false : (b : Bool) → (b && false) ≡ false
+pub and-false : (b : Bool) → (b && false) ≡ false
 and-false true = refl
 and-false false = refl
 
@@ -64,7 +64,7 @@ module _ (limit n : ℕ) where
 
 -- ---- no leading zeros
 
-and-true : (b : Bool) → (b && true) ≡ b
+pub and-true : (b : Bool) → (b && true) ≡ b
 and-true true = refl
 and-true false = refl
 
@@ -133,14 +133,14 @@ unfolding fieldOf
 field-none line from e = rw (le-ltb (length (firstPart space (drop from line))) (length (drop from line)) (omega arith))
 
 pub field-some : (line : List ℕ) (from : ℕ) → length (firstPart space (drop from line)) < length (drop from line)
-  → fieldOf line from ≡ asField (from + length (firstPart space (drop from line)) + 1) (numberOf 4294967295 (firstPart space (drop from line)))
+    → fieldOf line from ≡ asField (from + length (firstPart space (drop from line)) + 1) (numberOf 4294967295 (firstPart space (drop from line)))
 unfolding fieldOf numberOf isUnsigned
 field-some line from h =
     let p : List ℕ = firstPart space (drop from line) in
     let next : ℕ = from + length p + 1 in
     rw (lt-ltb (length (firstPart space (drop from line))) (length (drop from line)) h)
     (ap (λ (t : Bool). cond t (field (decimalValue 0 p) next) noField) (below-suc (isDecimal p) (decimalValue 0 p) 4294967295)
-      ∙ sym (after-cond (asField next) (isDecimal p && leb (decimalValue 0 p) 4294967295) (number (decimalValue 0 p)) noNumber))
+    ∙ sym (after-cond (asField next) (isDecimal p && leb (decimalValue 0 p) 4294967295) (number (decimalValue 0 p)) noNumber))
 
 -- a threshold, from the number behind a minus
 abbrev pub asNegative : Number → Threshold
@@ -170,7 +170,7 @@ threshold-minus [] some e = absurd (some refl)
 threshold-minus (b ∷ l) some e =
     rw (eq-eqb b minus e)
     (minus-tests (isDecimal l) (leb (decimalValue 0 l) (2 ^ 31)) (decimalValue 0 l)
-      ∙ sym (after-cond asNegative (isDecimal l && leb (decimalValue 0 l) (2 ^ 31)) (number (decimalValue 0 l)) noNumber))
+    ∙ sym (after-cond asNegative (isDecimal l && leb (decimalValue 0 l) (2 ^ 31)) (number (decimalValue 0 l)) noNumber))
 
 pub threshold-plain : (l : List ℕ) → (length l ≡ 0 → ⊥) → (getD l 0 0 ≡ minus → ⊥) → thresholdOf l ≡ asPositive (numberOf 2147483647 l)
 unfolding thresholdOf isSigned signedValue numberOf
@@ -179,4 +179,4 @@ threshold-plain (b ∷ l) some ne =
     let v : ℕ = decimalValue 0 (b ∷ l) in
     rw (ne-eqb b minus ne)
     (ap (λ (t : Bool). cond t (signedNumber (pos v)) noSigned) (below-suc (isDecimal (b ∷ l)) v 2147483647)
-      ∙ sym (after-cond asPositive (isDecimal (b ∷ l) && leb v 2147483647) (number v) noNumber))
+    ∙ sym (after-cond asPositive (isDecimal (b ∷ l) && leb v 2147483647) (number v) noNumber))

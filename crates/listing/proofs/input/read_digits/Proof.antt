@@ -74,7 +74,7 @@ returns-3 c =
     let args = at-loop .before .args in
     sym
     (next (args .limit) (at-loop .loop .value) (now (args .bytes)) (at-loop .loop .i) (c .before .before .before .before .loop-test .taken) (c .before .before .if1 .left) (c .before .if2 .left)
-      ∙ digits-over (args .limit) _ _ (c .if3 .taken))
+    ∙ digits-over (args .limit) _ _ (c .if3 .taken))
     ∙ at-loop .loop .inv .2
 
 cast-value : tie.Need-cast-value Inv-loop μ-loop
@@ -89,8 +89,7 @@ loop-less c = omega arith
 loop-again : tie.Need-loop-again Inv-loop μ-loop
 loop-again c =
     let at-loop = c .before .before .before .before .before in
-    let args = at-loop .before .args in
-    (
+    let args = at-loop .before .args in (
       omega arith,
       c .if3 .left,
       sym (next (args .limit) (at-loop .loop .value) (now (args .bytes)) (at-loop .loop .i) (c .before .before .before .before .loop-test .taken) (c .before .before .if1 .left) (c .before .if2 .left)) ∙ at-loop .loop .inv .2,
