@@ -18,10 +18,7 @@ fn main() {
         let library = folder.join(format!("lib{name}.a"));
         println!("cargo:rerun-if-changed={}", library.display());
         if !library.is_file() {
-            eprintln!(
-                "{} is missing: `rt staticlib {name}` makes it, and host/test makes all that is needed",
-                library.display()
-            );
+            eprintln!("{} is missing: `rt staticlib {name}` makes it, and host/test makes all that is needed", library.display());
             exit(1);
         }
         println!("cargo:rustc-link-lib=static={name}");

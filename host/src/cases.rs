@@ -5,14 +5,8 @@ use crate::random::Random;
 use crate::reference::input::Settings;
 
 /// The letters that a case draws from: all four, few of them (which makes ties), lower case, and some outside the eight.
-const ALPHABETS: [&[u8]; 6] = [
-    b"ACGT",
-    b"ACGT",
-    b"AC",
-    b"ACGTacgt",
-    b"ACGTACGTACGTACGTN",
-    b"acgtACGTACGTACGTACGTACGTACGTACGTnR-*",
-];
+const ALPHABETS: [&[u8]; 6] =
+    [b"ACGT", b"ACGT", b"AC", b"ACGTacgt", b"ACGTACGTACGTACGTN", b"acgtACGTACGTACGTACGTACGTACGTACGTnR-*"];
 
 /// Random letters of an alphabet.
 pub fn letters(random: &mut Random, length: usize, alphabet: &[u8]) -> Vec<u8> {
@@ -73,29 +67,10 @@ pub fn settings(random: &mut Random) -> Settings {
     let (u, v) = match random.below(10) {
         0 => (random.between(1, 1000) as u32, random.between(1, 1000) as u32),
         1 => (random.between(0, 1) as u32 * 1000, random.between(1000, 1001) as u32),
-        _ => random.one_of(&[
-            (1, 1),
-            (1, 1),
-            (2, 1),
-            (1, 2),
-            (3, 1),
-            (1, 5),
-            (7, 1),
-            (1000, 1000),
-            (1, 1000),
-            (1000, 1),
-        ]),
+        _ => random.one_of(&[(1, 1), (1, 1), (2, 1), (1, 2), (3, 1), (1, 5), (7, 1), (1000, 1000), (1, 1000), (1000, 1)]),
     };
-    let k = if random.once_in(5) {
-        random.between(1, 15)
-    } else {
-        random.between(1, 5)
-    };
-    let w = if random.once_in(5) {
-        random.between(1, 64)
-    } else {
-        random.between(1, 6)
-    };
+    let k = if random.once_in(5) { random.between(1, 15) } else { random.between(1, 5) };
+    let w = if random.once_in(5) { random.between(1, 64) } else { random.between(1, 6) };
     Settings {
         k: k as u32,
         w: w as u32,

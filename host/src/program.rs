@@ -13,11 +13,7 @@ pub fn maplist() -> PathBuf {
         Some(path) => PathBuf::from(path),
         None => Path::new(env!("CARGO_MANIFEST_DIR")).join("../target/bin/maplist"),
     };
-    assert!(
-        path.is_file(),
-        "{} is missing: `rt check maplist` makes it, and host/test makes all that is needed",
-        path.display()
-    );
+    assert!(path.is_file(), "{} is missing: `rt check maplist` makes it, and host/test makes all that is needed", path.display());
     path
 }
 

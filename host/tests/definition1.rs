@@ -15,23 +15,14 @@ fn task(random: &mut Random) -> Task {
     pattern.push(0);
     let u = random.between(1, 4) as u32;
     let v = random.between(1, 4) as u32;
-    Task {
-        text,
-        pattern,
-        u,
-        v,
-        threshold: random.between(0, 20) as i32 - 15,
-    }
+    Task { text, pattern, u, v, threshold: random.between(0, 20) as i32 - 15 }
 }
 
 /// Every final interval by the definition's words alone, in the order of the list.
 fn by_words(task: &Task) -> Vec<Mapping> {
     let n = task.text.len();
     let intervals = (0..n).rev().flat_map(|b| (0..=b).map(move |a| (a, b)));
-    intervals
-        .filter(|&(a, b)| is_final(task, a, b))
-        .map(|(a, b)| mapping_of(task, a, b))
-        .collect()
+    intervals.filter(|&(a, b)| is_final(task, a, b)).map(|(a, b)| mapping_of(task, a, b)).collect()
 }
 
 #[test]
@@ -49,11 +40,8 @@ fn final_intervals_are_cells_in_order() {
         let cells = cells(&task);
         assert_eq!(cells.len(), cell_count(hits(&task).len()));
         let listed: Vec<Mapping> = finals(&task);
-        let among: Vec<Mapping> = cells
-            .iter()
-            .filter(|cell| is_final(&task, cell.0, cell.1))
-            .map(|cell| mapping_of(&task, cell.0, cell.1))
-            .collect();
+        let among: Vec<Mapping> =
+            cells.iter().filter(|cell| is_final(&task, cell.0, cell.1)).map(|cell| mapping_of(&task, cell.0, cell.1)).collect();
         assert_eq!(listed, among, "seed {seed}: {task:?}");
     }
 }
@@ -69,29 +57,14 @@ fn steps_hand_out_the_list() {
             lent: if random.once_in(4) { WORK_WORDS - 1 } else { WORK_WORDS },
         };
         let mut steps: Vec<Step> = (0..random.below(30)).map(|_| step(&mut random)).collect();
-        steps.extend(std::iter::repeat_n(
-            Step {
-                budget: 1,
-                lent: WORK_WORDS,
-            },
-            last + 1,
-        ));
+        steps.extend(std::iter::repeat_n(Step { budget: 1, lent: WORK_WORDS }, last + 1));
         let (answers, q) = answers(&task, &steps);
         let handed_out: Vec<Mapping> = answers
             .iter()
-            .filter_map(|answer| {
-                if let Answer::Found(mapping, _) = answer {
-                    Some(*mapping)
-                } else {
-                    None
-                }
-            })
+            .filter_map(|answer| if let Answer::Found(mapping, _) = answer { Some(*mapping) } else { None })
             .collect();
         assert_eq!(handed_out, finals(&task), "seed {seed}: {task:?}");
         assert_eq!(q, last, "seed {seed}");
-        assert!(
-            answers.iter().any(|answer| matches!(answer, Answer::Finished(_))),
-            "seed {seed}"
-        );
+        assert!(answers.iter().any(|answer| matches!(answer, Answer::Finished(_))), "seed {seed}");
     }
 }

@@ -19,11 +19,7 @@ fn folder() -> PathBuf {
 /// The lines of a file of vectors, without the first, which names the columns.
 fn lines(name: &str) -> Vec<Vec<String>> {
     let text = fs::read_to_string(folder().join(name)).expect("a file of vectors");
-    let lines: Vec<Vec<String>> = text
-        .lines()
-        .skip(1)
-        .map(|line| line.split('\t').map(String::from).collect())
-        .collect();
+    let lines: Vec<Vec<String>> = text.lines().skip(1).map(|line| line.split('\t').map(String::from).collect()).collect();
     assert_eq!(lines.len(), 200, "{name}");
     lines
 }
@@ -44,19 +40,14 @@ fn bytes(hexadecimal: &str) -> Vec<u8> {
 }
 
 fn entries(list: &[Entry]) -> String {
-    let entries: Vec<String> = list
-        .iter()
-        .map(|entry| format!("{}:{}", entry.code, entry.position))
-        .collect();
+    let entries: Vec<String> = list.iter().map(|entry| format!("{}:{}", entry.code, entry.position)).collect();
     entries.join(" ")
 }
 
 #[test]
 fn sketches() {
     for line in lines("sketch.tsv") {
-        let [k, w, letters, expected] = &line[..] else {
-            panic!("four columns: {line:?}")
-        };
+        let [k, w, letters, expected] = &line[..] else { panic!("four columns: {line:?}") };
         let made = sketch(&bytes(letters), k.parse().expect("k"), w.parse().expect("w"));
         assert_eq!(entries(&made), items(expected, ' ').collect::<Vec<_>>().join(" "), "{line:?}");
     }
@@ -66,13 +57,7 @@ fn sketches() {
 fn step(text: &str) -> (Step, String) {
     let (step, answer) = text.split_once(':').expect("a step and its answer");
     let (budget, lent) = step.split_once('/').expect("a budget and words lent");
-    (
-        Step {
-            budget: budget.parse().expect("a budget"),
-            lent: lent.parse().expect("words"),
-        },
-        answer.to_string(),
-    )
+    (Step { budget: budget.parse().expect("a budget"), lent: lent.parse().expect("words") }, answer.to_string())
 }
 
 fn written(answer: &Answer) -> String {
@@ -87,9 +72,7 @@ fn written(answer: &Answer) -> String {
 #[test]
 fn sessions() {
     for line in lines("sessions.tsv") {
-        let [t, p, u, v, threshold, h, steps] = &line[..] else {
-            panic!("seven columns: {line:?}")
-        };
+        let [t, p, u, v, threshold, h, steps] = &line[..] else { panic!("seven columns: {line:?}") };
         let number = |text: &String| text.parse().expect("a number");
         let task = Task {
             text: numbers(t),
@@ -108,12 +91,8 @@ fn sessions() {
 #[test]
 fn stores() {
     for line in lines("store.tsv") {
-        let [words, room, expected] = &line[..] else {
-            panic!("three columns: {line:?}")
-        };
-        let words: Vec<u32> = items(words, ' ')
-            .map(|word| u32::from_str_radix(word, 16).expect("a word"))
-            .collect();
+        let [words, room, expected] = &line[..] else { panic!("three columns: {line:?}") };
+        let words: Vec<u32> = items(words, ' ').map(|word| u32::from_str_radix(word, 16).expect("a word")).collect();
         let room = room.parse().expect("room");
         let answer = match load(&words, room, room) {
             Ok(stored) => format!("loaded {} {} {}", stored.k, stored.w, entries(&stored.entries)),

@@ -8,9 +8,7 @@ use super::score::Task;
 /// "A hit is an index of t whose code is in p"
 pub fn hits(task: &Task) -> Vec<usize> {
     let pattern: BTreeSet<u32> = task.pattern.iter().copied().collect();
-    (0..task.text.len())
-        .filter(|&index| pattern.contains(&task.text[index]))
-        .collect()
+    (0..task.text.len()).filter(|&index| pattern.contains(&task.text[index])).collect()
 }
 
 /// h(h + 1)/2

@@ -16,12 +16,7 @@ pub struct Mapping {
 
 /// The mapping of an interval, final or not.
 pub fn mapping_of(task: &Task, a: usize, b: usize) -> Mapping {
-    Mapping {
-        a,
-        b,
-        score: score_of(task, a, b),
-        m: shared_of(task, a, b),
-    }
+    Mapping { a, b, score: score_of(task, a, b), m: shared_of(task, a, b) }
 }
 
 /// The code of entry `end` occurs in [a, b] at most as often as in p.
@@ -50,11 +45,7 @@ pub fn is_final(task: &Task, a: usize, b: usize) -> bool {
 pub fn finals(task: &Task) -> Vec<Mapping> {
     let numbering = occurrences(task.text.iter().copied());
     let names: Vec<u32> = numbering.into_keys().collect();
-    let text: Vec<usize> = task
-        .text
-        .iter()
-        .map(|code| names.binary_search(code).expect("a code of the text"))
-        .collect();
+    let text: Vec<usize> = task.text.iter().map(|code| names.binary_search(code).expect("a code of the text")).collect();
     let in_pattern = occurrences(task.pattern.iter().copied());
     let allowed: Vec<usize> = names.iter().map(|code| in_pattern.get(code).copied().unwrap_or(0)).collect();
 
@@ -86,12 +77,7 @@ fn intervals_from(task: &Task, text: &[usize], allowed: &[usize], a: usize) -> V
             m += 1;
         }
         let reasonable = |end: usize| times[text[end]] <= allowed[text[end]];
-        let mapping = Mapping {
-            a,
-            b,
-            score: linear(task, m, b - a + 1),
-            m,
-        };
+        let mapping = Mapping { a, b, score: linear(task, m, b - a + 1), m };
         row.push((mapping, reasonable(a) && reasonable(b)));
     }
     row

@@ -74,9 +74,5 @@ pub fn input(bytes: &[u8]) -> Option<Input> {
     if text.len() > MAX_LINE || read.len() > MAX_LINE {
         return None;
     }
-    Some(Input {
-        settings,
-        text: text.to_vec(),
-        read: read.to_vec(),
-    })
+    Some(Input { settings, text: text.to_vec(), read: read.to_vec() })
 }

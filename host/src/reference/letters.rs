@@ -22,19 +22,13 @@ pub struct Run {
 /// The runs of the letters: "a letter outside the eight ends the run".
 pub fn runs(letters: &[u8]) -> Vec<Run> {
     let mut runs = Vec::new();
-    let mut run = Run {
-        first: 0,
-        values: Vec::new(),
-    };
+    let mut run = Run { first: 0, values: Vec::new() };
     for (index, &letter) in letters.iter().enumerate() {
         match value(letter) {
             Some(value) => run.values.push(value),
             None => {
                 runs.push(run);
-                run = Run {
-                    first: index + 1,
-                    values: Vec::new(),
-                };
+                run = Run { first: index + 1, values: Vec::new() };
             }
         }
     }

@@ -23,13 +23,7 @@ pub fn signed(number: i64) -> Vec<u8> {
 /// "first letter, last letter, score, m, per mille", one space between them and a line feed after.
 pub fn line(first: u32, last: u32, score: i32, m: u32, per_mille: u32) -> Vec<u8> {
     let unsigned = |number: u32| decimal(u64::from(number));
-    let fields = [
-        unsigned(first),
-        unsigned(last),
-        signed(i64::from(score)),
-        unsigned(m),
-        unsigned(per_mille),
-    ];
+    let fields = [unsigned(first), unsigned(last), signed(i64::from(score)), unsigned(m), unsigned(per_mille)];
     let mut line = fields.join(&32);
     line.push(10);
     line

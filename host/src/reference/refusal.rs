@@ -14,8 +14,5 @@ pub fn refused(number: u32) -> Refusal {
 
 /// A refusal with a second value: what is needed, h, or the index of a word.
 pub fn refused_with(number: u32, value: usize) -> Refusal {
-    Refusal {
-        number,
-        value: Some(value),
-    }
+    Refusal { number, value: Some(value) }
 }

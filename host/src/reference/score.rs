@@ -17,10 +17,7 @@ pub struct Task {
 pub fn shared(pattern: &[u32], interval: &[u32]) -> usize {
     let in_pattern = occurrences(pattern.iter().copied());
     let in_interval = occurrences(interval.iter().copied());
-    in_pattern
-        .iter()
-        .map(|(code, &times)| times.min(in_interval.get(code).copied().unwrap_or(0)))
-        .sum()
+    in_pattern.iter().map(|(code, &times)| times.min(in_interval.get(code).copied().unwrap_or(0))).sum()
 }
 
 /// "d = len + |p| − 2m. The score is u·m − v·d"

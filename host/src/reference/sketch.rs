@@ -28,12 +28,7 @@ pub fn rank(code: u32) -> u64 {
 /// The k-mers of a run: "k neighbouring letters of one run".
 pub fn kmers(run: &Run, k: u32) -> Vec<Entry> {
     let places = run.values.windows(k as usize).enumerate();
-    places
-        .map(|(at, values)| Entry {
-            code: code(values),
-            position: (run.first + at) as u32,
-        })
-        .collect()
+    places.map(|(at, values)| Entry { code: code(values), position: (run.first + at) as u32 }).collect()
 }
 
 /// "each w neighbouring k-mers form a window; if 1 ≤ n < w, all n form one"

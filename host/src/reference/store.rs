@@ -70,11 +70,7 @@ fn head(words: &[u32]) -> Result<(u32, u32), Refusal> {
     let word = *words.first().ok_or(refused_with(12, 0))?;
     let (k, w) = (word & 0x1f, word >> 5 & 0x7f);
     let laid_out = kind(word) == 0 && content(word) >> 12 == 0;
-    if laid_out && (1..=MAX_K).contains(&k) && (1..=MAX_W).contains(&w) {
-        Ok((k, w))
-    } else {
-        Err(refused_with(12, 0))
-    }
+    if laid_out && (1..=MAX_K).contains(&k) && (1..=MAX_W).contains(&w) { Ok((k, w)) } else { Err(refused_with(12, 0)) }
 }
 
 /// What the words hold, judged in order: 12, 13 and 14 as met.
@@ -95,10 +91,7 @@ fn judged(words: &[u32]) -> Result<Stored, Refusal> {
         if kind(next) != 2 || !is_position(before, content(next)) {
             return Err(refused_with(13, at + 1));
         }
-        entries.push(Entry {
-            code: content(word),
-            position: content(next),
-        });
+        entries.push(Entry { code: content(word), position: content(next) });
         at += 2;
     }
     if content(words[at]) as usize != entries.len() {

@@ -21,11 +21,7 @@ pub fn occurrences(codes: impl Iterator<Item = u32>) -> BTreeMap<u32, usize> {
 /// "drops each text entry whose code occurs more than c times in the text sketch. The rest keep order and positions."
 pub fn strike(entries: &[Entry], c: u32) -> Vec<Entry> {
     let counts = occurrences(entries.iter().map(|entry| entry.code));
-    entries
-        .iter()
-        .copied()
-        .filter(|entry| counts[&entry.code] <= c as usize)
-        .collect()
+    entries.iter().copied().filter(|entry| counts[&entry.code] <= c as usize).collect()
 }
 
 /// The call of strike, with the lengths of the two output buffers. Refusals in their order: 5, 8, 6, 4.
