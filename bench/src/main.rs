@@ -93,7 +93,7 @@ fn step_job(text: &[u32], pattern: &[u32], budget: u32, job: &str, goal: &'stati
         })
     };
     let plain: (Start, Step) = (start::start, step::step);
-    let runs = [Some(plain), Some((start::start, fastest_step::step)), OURS.map(|ours| (ours.start, ours.step))];
+    let runs = [Some(plain), Some((fastest_start::start, fastest_step::step)), OURS.map(|ours| (ours.start, ours.step))];
     line(job.to_string(), goal, runs.into_iter().flatten().map(run).collect())
 }
 

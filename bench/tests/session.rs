@@ -13,11 +13,8 @@ type Start = fn(&[u32], &[u32], u32, u32, i32, &mut [u32]) -> i32;
 /// Passes cells.
 type StepOf = fn(&mut [u32], u32) -> Answer;
 
-const SESSIONS: [(&str, Start, StepOf); 3] = [
-    ("the same algorithm", start::start, step::step),
-    ("the fastest start", fastest_start::start, step::step),
-    ("the fastest step", start::start, fastest_step::step),
-];
+const SESSIONS: [(&str, Start, StepOf); 2] =
+    [("the same algorithm", start::start, step::step), ("the fastest", fastest_start::start, fastest_step::step)];
 
 fn task(random: &mut Random) -> Task {
     let kinds = random.one_of(&[2, 4, 10, 60]);

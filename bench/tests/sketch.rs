@@ -30,12 +30,26 @@ fn sketches_and_counts() {
         let length = random.below(length);
         let alphabet = random.one_of(&[b"ACGT".as_slice(), b"AC", b"ACGTacgtACGTacgtACGTacgtN", b"AAAAAAAAAAAAT"]);
         let letters = letters(&mut random, length, alphabet);
-        let (k, w) = (random.between(1, 15) as u32, random.one_of(&[1, 2, 3, 10, 31, 63, 64]));
+        let (k, w) = (random.between(1, 15) as u32, random.one_of(&[1, 2, 3, 5, 10, 16, 19, 20, 31, 63, 64]));
         let case = format!("seed {seed}, k {k}, w {w}");
         hold(&case, "the same algorithm", sketch::sketch, &letters, k, w);
         hold(&case, "the fastest", fastest_sketch::sketch, &letters, k, w);
         assert_eq!(sketch::count(&letters, k, w), reference::count(&letters, k, w), "{case}");
         assert_eq!(fastest_sketch::count(&letters, k, w), reference::count(&letters, k, w), "{case}");
+    }
+}
+
+#[test]
+fn runs_about_as_long_as_a_chunk() {
+    let mut random = Random::new(5000);
+    for kmers in [511, 512, 513, 1023, 1024, 1025] {
+        for (k, w) in [(1, 1), (3, 2), (15, 10), (9, 19), (7, 20), (15, 64)] {
+            let text = letters(&mut random, kmers + k as usize - 1, b"ACGT");
+            for letters in [text.clone(), [&text, b"N".as_slice(), &text].concat()] {
+                let case = format!("{kmers} k-mers, k {k}, w {w}");
+                hold(&case, "the fastest", fastest_sketch::sketch, &letters, k, w);
+            }
+        }
     }
 }
 

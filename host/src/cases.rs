@@ -48,11 +48,11 @@ pub fn gene(random: &mut Random, length: usize, alphabet: &[u8]) -> Vec<u8> {
 /// A text with a cluster of near copies of one gene, and a read of one of them.
 pub fn cluster(random: &mut Random, longest: usize) -> (Vec<u8>, Vec<u8>) {
     let alphabet = random.one_of(&ALPHABETS);
-    let size = random.between(1, 1 + longest / 4);
+    let size = random.between(1 + longest / 20, 1 + longest / 4);
     let gene = gene(random, size, alphabet);
     let rate = random.one_of(&[4, 10, 30, 1000]);
     let mut text = Vec::new();
-    for _ in 0..random.below(5) {
+    for _ in 0..random.one_of(&[0, 1, 2, 2, 3, 3, 4]) {
         let gap = random.below(1 + longest / 8);
         text.extend(letters(random, gap, alphabet));
         text.extend(near_copy(random, &gene, rate, alphabet));
@@ -62,19 +62,20 @@ pub fn cluster(random: &mut Random, longest: usize) -> (Vec<u8>, Vec<u8>) {
     (text, read)
 }
 
-/// Settings that are mostly accepted. The threshold is one of a few that stand out.
-pub fn settings(random: &mut Random) -> Settings {
+/// Settings that are mostly accepted, with a k and w that mostly suit a text of this length. The threshold is one of a few that
+/// stand out.
+pub fn settings(random: &mut Random, longest: usize) -> Settings {
     let (u, v) = match random.below(10) {
         0 => (random.between(1, 1000) as u32, random.between(1, 1000) as u32),
         1 => (random.between(0, 1) as u32 * 1000, random.between(1000, 1001) as u32),
         _ => random.one_of(&[(1, 1), (1, 1), (2, 1), (1, 2), (3, 1), (1, 5), (7, 1), (1000, 1000), (1, 1000), (1000, 1)]),
     };
-    let k = if random.once_in(5) { random.between(1, 15) } else { random.between(1, 5) };
-    let w = if random.once_in(5) { random.between(1, 64) } else { random.between(1, 6) };
+    let k = if random.once_in(9) { random.between(1, 15) } else { random.between(1, (longest / 20).clamp(1, 7)) };
+    let w = if random.once_in(9) { random.between(1, 64) } else { random.between(1, (longest / 12).clamp(1, 6)) };
     Settings {
         k: k as u32,
         w: w as u32,
-        c: random.one_of(&[1, 2, 3, 5, 100, 100, 65_535, 65_535]),
+        c: random.one_of(&[1, 2, 3, 5, 100, 100, 1000, 65_535, 65_535]),
         u,
         v,
         threshold: random.one_of(&[i32::MIN, -1000, -30, -10, -3, -1, 0, 1, 2, 3, 6, 10, 30, 1000, i32::MAX]),

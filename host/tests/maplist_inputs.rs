@@ -146,7 +146,7 @@ fn damaged_clusters() {
     for seed in 1100..1500 {
         let mut random = Random::new(seed);
         let (text, read) = cluster(&mut random, 120);
-        let mut input = three_lines(&settings(&mut random), &text, &read);
+        let mut input = three_lines(&settings(&mut random, 120), &text, &read);
         for _ in 0..random.between(1, 3) {
             let at = random.below(input.len());
             match random.below(4) {

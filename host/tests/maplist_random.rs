@@ -5,7 +5,7 @@ use host::cases::{cluster, settings, three_lines};
 use host::program::{expect, run_on};
 use host::random::Random;
 use host::reference::definition1::finals;
-use host::reference::input::input;
+use host::reference::input::{Settings, input};
 use host::reference::output::{output, prepared};
 
 /// What a sweep of random cases met, so that it can't pass on empty lists alone.
@@ -21,14 +21,15 @@ struct Met {
 /// A case whose threshold is, mostly, at a score that some interval has, or one beside it.
 fn case(random: &mut Random, longest: usize) -> Vec<u8> {
     let (text, read) = cluster(random, longest);
-    let mut settings = settings(random);
-    let lowest = host::reference::input::Settings { threshold: i32::MIN, ..settings };
-    let all = input(&three_lines(&lowest, &text, &read)).expect("three lines");
+    let mut settings = settings(random, longest);
+    let open = Settings { threshold: i32::MIN, ..settings };
+    let all = input(&three_lines(&open, &text, &read)).expect("three lines");
     if let Ok((task, _, _)) = prepared(&all)
         && random.below(4) > 0
         && let found @ [_, ..] = finals(&task).as_slice()
     {
-        let score = found[random.below(found.len())].score as i32;
+        let lowest = found.iter().map(|mapping| mapping.score).min().expect("a mapping");
+        let score = if random.once_in(3) { lowest } else { found[random.below(found.len())].score } as i32;
         settings.threshold = score + random.below(3) as i32 - 1;
     }
     three_lines(&settings, &text, &read)
@@ -63,7 +64,7 @@ fn sweep_thousand(first: u64, longest: usize) {
     assert!(met.mapped > 400, "cases with a mapping: {}", met.mapped);
     assert!(met.several > 200, "cases with several mappings: {}", met.several);
     assert!(met.ties > 100, "cases with equal scores: {}", met.ties);
-    assert!(met.negative > 100, "cases with a negative score: {}", met.negative);
+    assert!(met.negative > 50, "cases with a negative score: {}", met.negative);
     assert!(met.refused > 20, "refused cases: {}", met.refused);
 }
 

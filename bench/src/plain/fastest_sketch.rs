@@ -1,135 +1,25 @@
-//! Sketch and count by chunks of a run: keys of rank and place for a whole chunk, then the least of each window by doubling the
-//! span, then the picks that are new. No branch depends on the letters but for a run's end.
-//! Assumes k 1 to 15, w 1 to 64 and at most 1,048,576 letters where it does not test them.
+//! Sketch and count by the fastest plain Rust known to us: by chunks for small windows, by events for greater ones.
+//! Assumes nothing.
 
-use super::letters::{FOREIGN, table};
+use super::keys::{code_of, position_of};
+use super::letters::table;
 use super::sketch::refusal;
+use super::{chunks, events};
 
-/// New k-mers of a chunk, and room for the w − 1 that are left over from the chunk before.
-const CHUNK: usize = 512;
-const ROOM: usize = CHUNK + 64;
-/// A key has the rank above 20 bits that hold 2^20 − 1 − position: the least key is the lowest rank, rightmost among equals.
-/// It stands as the digits of a float between 1 and 2, since the machine has a least of two floats and none of two such words.
-const PLACE: u32 = 20;
-const LAST_PLACE: u64 = (1 << PLACE) - 1;
-const ONE: u64 = 0x3ff << 52;
-const RANKS: u64 = (1 << 30) - 1;
-/// 2,654,435,761 · 244,002,641 is 1 mod 2^30, so a rank gives its code back.
-const INVERSE: u64 = 244_002_641;
-
-/// The least of two floats, neither of which is a NaN: one instruction, as `f64::min` is not.
-#[inline(always)]
-fn least(a: f64, b: f64) -> f64 {
-    if a < b { a } else { b }
-}
-
-/// Appends the keys of the k-mers that end at the letters from `at` on, up to a run's end or a full chunk; returns how many.
-#[inline(always)]
-fn fill(keys: &mut [f64], letters: &[u8], at: usize, k: usize, code: &mut u64, values: &[u8; 256]) -> usize {
-    let mask = (1 << (2 * k)) - 1;
-    let mut rolling = *code;
-    let mut number = 0;
-    for (key, &letter) in keys.iter_mut().zip(&letters[at..]) {
-        let value = values[usize::from(letter)];
-        if value == FOREIGN {
-            break;
-        }
-        rolling = rolling << 2 | u64::from(value);
-        let rank = (rolling & mask).wrapping_mul(2_654_435_761) & RANKS;
-        *key = f64::from_bits(ONE | rank << PLACE | (LAST_PLACE - (at + number + 1 - k) as u64));
-        number += 1;
-    }
-    *code = rolling;
-    number
-}
-
-/// The least key of each window of w keys: spans of 1, 2, 4 and so on up to w, and then two such spans that overlap.
-fn least_of_windows(keys: &[f64], w: usize, low: &mut [f64; ROOM]) {
-    let windows = keys.len() + 1 - w;
-    let mut other = [0.0; ROOM];
-    low[..keys.len()].copy_from_slice(keys);
-    let (mut from, mut to) = (low, &mut other);
-    let (mut span, mut left) = (1, keys.len());
-    let mut swaps = 0;
-    loop {
-        // the last turn, where two spans no longer fit into a window, joins its two ends
-        let apart = span.min(w - span);
-        left -= apart;
-        for ((to, &a), &b) in to[..left].iter_mut().zip(&from[..left]).zip(&from[apart..]) {
-            *to = least(a, b);
-        }
-        (from, to) = (to, from);
-        swaps += 1;
-        span += apart;
-        if span == w {
-            break;
-        }
-    }
-    if swaps % 2 == 1 {
-        to[..windows].copy_from_slice(&from[..windows]);
-    }
-}
-
-/// Hands the picks of a chunk's windows on, each once. `latest` is the last one before.
-#[inline(always)]
-fn hand_on(low: &[f64], latest: &mut u64, take: &mut impl FnMut(&[u64])) {
-    let mut picks = [0u64; ROOM];
-    let (mut number, mut before) = (0, *latest);
-    for key in low.iter().map(|key| key.to_bits()) {
-        picks[number % ROOM] = key;
-        number += usize::from(key != before);
-        before = key;
-    }
-    *latest = before;
-    take(&picks[..number]);
-}
-
-/// Hands on the picks of the run that begins at `start`; returns the index behind it.
-fn pick_run(letters: &[u8], start: usize, k: usize, w: usize, values: &[u8; 256], take: &mut impl FnMut(&[u64])) -> usize {
-    let (mut keys, mut low) = ([0.0; ROOM], [0.0; ROOM]);
-    let (mut code, mut latest) = (0, 0);
-    // the letters before the first k-mer's last one have no key of their own
-    let mut at = start;
-    while at < letters.len() && at + 1 < start + k {
-        let value = values[usize::from(letters[at])];
-        if value == FOREIGN {
-            return at;
-        }
-        code = code << 2 | u64::from(value);
-        at += 1;
-    }
-    let mut kept = 0;
-    loop {
-        let new = fill(&mut keys[kept..kept + CHUNK], letters, at, k, &mut code, values);
-        at += new;
-        let number = kept + new;
-        if number >= w && new > 0 {
-            if w > 1 {
-                least_of_windows(&keys[..number], w, &mut low);
-                hand_on(&low[..number + 1 - w], &mut latest, take);
-            } else {
-                hand_on(&keys[..number], &mut latest, take);
-            }
-        }
-        if new < CHUNK {
-            // a run with fewer k-mers than w has one window
-            if 0 < number && number < w {
-                let whole = keys[..number].iter().copied().fold(f64::INFINITY, least);
-                hand_on(&[whole], &mut latest, take);
-            }
-            return at;
-        }
-        keys.copy_within(number + 1 - w..number, 0);
-        kept = w - 1;
-    }
-}
+/// Below this w lowest k-mers change so often that a branch for each costs more than the chunks' passes.
+const EVENTS_FROM: usize = 20;
 
 /// Hands the keys of all entries to `take`, in pieces.
 fn each_piece(letters: &[u8], k: usize, w: usize, mut take: impl FnMut(&[u64])) {
     let values = table();
     let mut start = 0;
     while start < letters.len() {
-        start = pick_run(letters, start, k, w, &values, &mut take) + 1;
+        let end = if w < EVENTS_FROM {
+            chunks::pick_run(letters, start, k, w, &values, &mut take)
+        } else {
+            events::pick_run(letters, start, k, w, &values, &mut |key| take(&[key]))
+        };
+        start = end + 1;
     }
 }
 
@@ -156,12 +46,12 @@ pub fn sketch(letters: &[u8], k: u32, w: u32, codes: &mut [u32], positions: &mut
     }
     let mut count = 0;
     each_piece(letters, k as usize, w as usize, |keys| {
-        let (codes, positions) = (&mut codes[count..count + keys.len()], &mut positions[count..count + keys.len()]);
-        for ((key, code), position) in keys.iter().zip(codes).zip(positions) {
-            *code = ((key >> PLACE & RANKS) * INVERSE & RANKS) as u32;
-            *position = (LAST_PLACE - (key & LAST_PLACE)) as u32;
+        let end = count + keys.len();
+        for ((&key, code), position) in keys.iter().zip(&mut codes[count..end]).zip(&mut positions[count..end]) {
+            *code = code_of(key);
+            *position = position_of(key);
         }
-        count += keys.len();
+        count = end;
     });
     count as i32
 }

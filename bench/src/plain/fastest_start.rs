@@ -1,8 +1,8 @@
-//! Start with an open-addressing table of the pattern's codes in place of the search.
+//! Start with an open-addressing table of the pattern's codes in place of the search, for the fastest step.
 //! Assumes nothing.
 
 use super::start::{Hits, begin, refusal};
-use super::work::MAX_HITS;
+use super::work::{BEST, INDEX, LIFTED, MAX_HITS, REACH, Tables, tables};
 
 const MAX_PATTERN: usize = 4_096;
 const SLOTS: usize = 1 << 14;
@@ -66,5 +66,16 @@ pub fn start(text: &[u32], pattern: &[u32], u: u32, v: u32, threshold: i32, work
         return -11;
     }
     begin(&hits, &times, pattern.len(), u, v, threshold, work);
+    lift(tables(work), hits.number, u + 2 * v, v);
     hits.number as i32
+}
+
+/// Writes each row's lifted score in the last column, (u + 2v)·m + v·index, and nothing yet as its best.
+fn lift(tables: &mut Tables, h: usize, scale: u32, v: u32) {
+    let mut m = 0;
+    for i in (0..h).rev() {
+        m += u32::from(tables[REACH + i] == h as u32);
+        tables[LIFTED + i] = scale * m + v * tables[INDEX + i];
+        tables[BEST + i] = i32::MIN as u32;
+    }
 }

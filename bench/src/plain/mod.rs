@@ -2,11 +2,14 @@
 //! to us.
 //! Assumes nothing.
 
+pub mod chunks;
+pub mod events;
 pub mod fastest_sketch;
 pub mod fastest_start;
 pub mod fastest_step;
 pub mod fastest_strike;
 pub mod hash_strike;
+pub mod keys;
 pub mod letters;
 pub mod sketch;
 pub mod start;

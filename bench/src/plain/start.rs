@@ -2,7 +2,9 @@
 //! over the hits in which the places of a code in the sorted copy are the ring of its last hits.
 //! Assumes nothing.
 
-use super::work::{BIAS, COLUMN, FLOOR, HITS, MAX_HITS, PASSED, ROW, SHARED, SIZE, U, V, WORK_WORDS, tables};
+use super::work::{
+    BACK, BEST, BIAS, COLUMN, FLOOR, HITS, INDEX, MAX_HITS, PASSED, REACH, ROW, SHARED, SIZE, U, V, WHOLE, WORK_WORDS, tables,
+};
 
 const MAX_PATTERN: usize = 4_096;
 
@@ -82,14 +84,14 @@ pub fn begin(hits: &Hits, times: &[u32; MAX_PATTERN], size: usize, u: u32, v: u3
         let slot = &mut ring[first + (met[first] % times[first]) as usize];
         let full = met[first] >= times[first];
         if full {
-            tables.reach[*slot as usize] = j as u32;
+            tables[REACH + *slot as usize] = j as u32;
         }
-        tables.back[j] = if full { *slot + 1 } else { 0 };
-        whole += u32::from(tables.back[j] == 0);
-        tables.whole[j] = whole;
-        tables.reach[j] = h as u32;
-        tables.index[j] = hits.index[j];
-        tables.best[j] = 0;
+        tables[BACK + j] = if full { *slot + 1 } else { 0 };
+        whole += u32::from(!full);
+        tables[WHOLE + j] = whole;
+        tables[REACH + j] = h as u32;
+        tables[INDEX + j] = hits.index[j];
+        tables[BEST + j] = 0;
         *slot = j as u32;
         met[first] += 1;
     }

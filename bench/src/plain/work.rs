@@ -15,32 +15,27 @@ pub const SHARED: usize = 7;
 /// |p|, and the threshold with the bias.
 pub const SIZE: usize = 8;
 pub const FLOOR: usize = 9;
-/// Five tables with a word for each hit: best, reach, back, whole and the hit's index in t.
+/// Six tables with a word for each hit, one after the other from this word on.
 pub const TABLES: usize = 16;
+
+/// Where each table begins in the block of them: best, reach, back, whole, the hit's index in t, and the lifted scores, which
+/// only the fastest session has.
+pub const BEST: usize = 0;
+pub const REACH: usize = MAX_HITS;
+pub const BACK: usize = 2 * MAX_HITS;
+pub const WHOLE: usize = 3 * MAX_HITS;
+pub const INDEX: usize = 4 * MAX_HITS;
+pub const LIFTED: usize = 5 * MAX_HITS;
+
+/// The block of the tables.
+pub type Tables = [u32; 6 * MAX_HITS];
 
 /// Scores are kept with this bias, so that unsigned numbers are in their order.
 pub const BIAS: u32 = 1 << 31;
 
-/// The tables of a session. `best` is the one that changes.
-pub struct Tables<'a> {
-    pub best: &'a mut [u32; MAX_HITS],
-    pub reach: &'a mut [u32; MAX_HITS],
-    pub back: &'a mut [u32; MAX_HITS],
-    pub whole: &'a mut [u32; MAX_HITS],
-    pub index: &'a mut [u32; MAX_HITS],
-}
-
 /// The tables in the work words, of which there are at least 16,384.
-pub fn tables(work: &mut [u32]) -> Tables<'_> {
-    fn cut(words: &mut [u32]) -> (&mut [u32; MAX_HITS], &mut [u32]) {
-        words.split_first_chunk_mut().expect("five tables fit")
-    }
-    let (best, rest) = cut(&mut work[TABLES..]);
-    let (reach, rest) = cut(rest);
-    let (back, rest) = cut(rest);
-    let (whole, rest) = cut(rest);
-    let (index, _) = cut(rest);
-    Tables { best, reach, back, whole, index }
+pub fn tables(work: &mut [u32]) -> &mut Tables {
+    work[TABLES..].first_chunk_mut().expect("six tables fit")
 }
 
 #[derive(Clone, Copy, Debug, PartialEq, Eq)]
