@@ -18,19 +18,20 @@ use Rattle.mappings.proofs.Range.{Limited}
 use Rattle.start.specs.Start.{badWeights, startReply}
 
 -- an accepted call passed the check
-not-refused : (b : Bool) (number : ℕ) (values : List ℕ) (rest : Reply) (answered : List ℕ) → cond b (refused number values) rest ≡ accepted answered → (b ≡ false) × (rest ≡ accepted answered)
+pub not-refused : (b : Bool) (number : ℕ) (values : List ℕ) (rest : Reply) (answered : List ℕ) → cond b (refused number values) rest ≡ accepted answered → (b ≡ false) × (rest ≡ accepted answered)
 not-refused true number values rest answered e = absurd (let z : _≡_ {A = ℕ} 0 1 = cc in omega arith)
 not-refused false number values rest answered e = (refl, e)
 
--- u and v, text and pattern, the work words and h are within their limits, and the pattern has an entry
-pub record Admitted (task : Task) (lent : ℕ) : Type 0 where
+-- u and v, text and pattern, the work words and h are within their limits, and h is answered
+pub record Admitted (task : Task) (lent : ℕ) (values : List ℕ) : Type 0 where
   pub limited : Limited task
   pub lowest-u : 1 ≤ task .u
   pub lowest-v : 1 ≤ task .v
   pub few-hits : hitCount task ≤ 2048
   pub many-words : 16384 ≤ lent
+  pub answered : values ≡ hitCount task ∷ []
 
-pub admitted : (task : Task) (lent : ℕ) (values : List ℕ) → startReply task lent ≡ accepted values → Admitted task lent
+pub admitted : (task : Task) (lent : ℕ) (values : List ℕ) → startReply task lent ≡ accepted values → Admitted task lent values
 unfolding startReply badWeights
 admitted task lent values e =
     let u = task .u in
@@ -55,4 +56,5 @@ admitted task lent values e =
       lowest-v = ltb-false v 1 (vs .0);
       few-hits = ltb-false 2048 (hitCount task) (f .0);
       many-words = ltb-false lent 16384 (d .0);
+      answered = let g : accepted (hitCount task ∷ []) ≡ accepted values = f .1 in (cc);
     }

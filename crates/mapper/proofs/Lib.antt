@@ -12,3 +12,5 @@ pub mod StepTests
 pub mod Accepted
 pub mod Within
 pub mod StepPromise
+pub mod Demand3
+pub mod Consequences

@@ -38,7 +38,7 @@ use Rattle.mapper.proofs.Within.{Kept, kept-walk}
 
 -- a session with its words after q cells, and what follows from start's acceptance
 pub record InSession (task : Task) (before : List ℕ) (q : ℕ) (work : List ℕ) : Type 0 where
-  pub limits : Admitted task (length before)
+  pub limits : Admitted task (length before) (hitCount task ∷ [])
   pub held : Holds task before q work
   pub number : 16384 ≤ length work
 

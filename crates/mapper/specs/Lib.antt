@@ -4,3 +4,4 @@ pub mod Step
 pub mod Passing
 pub mod Walking
 pub mod Promise
+pub mod Sessions

@@ -1,7 +1,22 @@
 // A step of a session: what is refused, and the walk from the place in the work words.
 use crate::place::Place;
-use crate::walk::{Stepped, Terms, walk};
-use start::words::{COLUMNS, HIT_LIMIT, HITS, PASSED, ROW, SHARED, SIZE, THRESHOLD, U, V, WEIGHT_LIMIT, WORK_WORDS, wide, wider};
+use crate::walk::Stepped;
+use crate::walk::Terms;
+use crate::walk::walk;
+use start::words::COLUMNS;
+use start::words::HIT_LIMIT;
+use start::words::HITS;
+use start::words::PASSED;
+use start::words::ROW;
+use start::words::SHARED;
+use start::words::SIZE;
+use start::words::THRESHOLD;
+use start::words::U;
+use start::words::V;
+use start::words::WEIGHT_LIMIT;
+use start::words::WORK_WORDS;
+use start::words::wide;
+use start::words::wider;
 ghost use mathlib.Core.Path.{_≡_};
 ghost use Prim.Native.Nat.{ℕ, _+_, _*_, _≤_};
 ghost use lib.ListN.{length, getD};
