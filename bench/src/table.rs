@@ -16,8 +16,9 @@ fn milliseconds(timed: Timed) -> String {
     format!("{:.3}", timed.best.as_secs_f64() * 1e3)
 }
 
-fn ratio(ours: Timed, other: Timed) -> String {
-    format!("{:.2}", ours.best.as_secs_f64() / other.best.as_secs_f64())
+/// What one takes over the other.
+pub fn ratio(one: Timed, other: Timed) -> String {
+    format!("{:.2}", one.best.as_secs_f64() / other.best.as_secs_f64())
 }
 
 /// Prints the head of the table.

@@ -1,7 +1,12 @@
 //! Timing of runs that do the same job: they take turns, and the best time of each counts.
 //! Assumes nothing.
 
-use std::time::{Duration, Instant};
+use std::time::Duration;
+
+use crate::clock::thread_time;
+
+/// How often each run is made.
+pub const ROUNDS: usize = 40;
 
 /// A run of a job: it returns the time that counts and a checksum of what it made.
 pub type Run<'a> = Box<dyn FnMut() -> (Duration, u64) + 'a>;
@@ -15,9 +20,9 @@ pub struct Timed {
 
 /// Times one call.
 pub fn timed<T>(call: impl FnOnce() -> T) -> (Duration, T) {
-    let start = Instant::now();
+    let start = thread_time();
     let made = std::hint::black_box(call());
-    (start.elapsed(), made)
+    (thread_time() - start, made)
 }
 
 /// Runs all in turn, this many rounds. Panics where a run's checksum differs from that of the first.

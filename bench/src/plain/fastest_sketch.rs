@@ -1,7 +1,7 @@
 //! Sketch and count by the fastest plain Rust known to us: by chunks for small windows, by events for greater ones.
 //! Assumes nothing.
 
-use super::keys::{code_of, position_of};
+use super::keys::{Key, code_of, position_of};
 use super::letters::table;
 use super::sketch::refusal;
 use super::{chunks, events};
@@ -10,14 +10,14 @@ use super::{chunks, events};
 const EVENTS_FROM: usize = 20;
 
 /// Hands the keys of all entries to `take`, in pieces.
-fn each_piece(letters: &[u8], k: usize, w: usize, mut take: impl FnMut(&[u64])) {
+fn each_piece(letters: &[u8], k: usize, w: usize, mut take: impl FnMut(&[Key])) {
     let values = table();
     let mut start = 0;
     while start < letters.len() {
         let end = if w < EVENTS_FROM {
             chunks::pick_run(letters, start, k, w, &values, &mut take)
         } else {
-            events::pick_run(letters, start, k, w, &values, &mut |key| take(&[key]))
+            events::pick_run(letters, start, k, w, &values, &mut take)
         };
         start = end + 1;
     }

@@ -39,7 +39,7 @@ pub fn value_at(letters: &[u8], values: &[u8; 256], at: usize) -> u8 {
 
 /// Reads the letters before the last one of a run's first k-mer: the index behind them, and their code.
 #[inline(always)]
-fn prime(letters: &[u8], values: &[u8; 256], start: usize, k: usize) -> (usize, u32) {
+pub fn prime(letters: &[u8], values: &[u8; 256], start: usize, k: usize) -> (usize, u32) {
     let (mut at, mut code) = (start, 0);
     while at + 1 < start + k {
         let value = value_at(letters, values, at);

@@ -90,14 +90,27 @@ fn what_follows_the_third_line_is_ignored() {
     }
 }
 
+/// The longest first line that is well formed, one that is accepted too, and some others.
+const FIRST_LINES: [&[u8]; 6] = [
+    b"4294967295 4294967295 4294967295 4294967295 4294967295 -2147483648",
+    b"15 64 65535 1000 1000 -2147483648",
+    b"15 64 100 1 1 1",
+    b"7 20 3 2 1 -40",
+    b"0 64 100 1 1 1",
+    b"15 64 100 1 1 1x",
+];
+
 #[test]
 fn lengths_of_the_text_and_read_lines() {
     let mut random = Random::new(1000);
     for text in [0, 1, 4095, 4096, 4097, 9000] {
         for read in [0, 1, 4095, 4096, 4097, 9000] {
-            for first in ["15 64 100 1 1 1", "7 20 3 2 1 -40", "0 64 100 1 1 1", "15 64 100 1 1 1x"] {
+            for first in FIRST_LINES {
                 let (text, read) = (letters(&mut random, text, b"ACGT"), letters(&mut random, read, b"ACGT"));
-                hold("lengths", &[first.as_bytes(), b"\n", &text, b"\n", &read, b"\n"].concat());
+                let lines = [first, b"\n", &text, b"\n", &read, b"\n"].concat();
+                hold("lengths", &lines);
+                hold("without the last line feed", &lines[..lines.len() - 1]);
+                hold("with a rest", &[&lines, b"A\nACGT".as_slice()].concat());
             }
         }
     }

@@ -25,7 +25,7 @@ fn lines(name: &str) -> Vec<Vec<String>> {
 }
 
 /// The items of a list, of which `-` is the empty one.
-fn items<'a>(list: &'a str, between: char) -> impl Iterator<Item = &'a str> {
+fn items(list: &str, between: char) -> impl Iterator<Item = &str> {
     list.split(between).filter(|item| !item.is_empty() && *item != "-")
 }
 
