@@ -8,4 +8,6 @@ pub mod Runs
 pub mod Steps
 pub mod Picks
 pub mod Passing
+pub mod Buffers
+pub mod Answering
 pub mod Laws

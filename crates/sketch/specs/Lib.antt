@@ -6,3 +6,4 @@ pub mod Windows
 pub mod Sketch
 pub mod Places
 pub mod Scan
+pub mod Answers
