@@ -1,3 +1,6 @@
--- Sessions: what start and step answer, and the work words.
-pub mod Start
+-- Sessions: what step answers, and what it does to the work words.
+pub mod Answers
 pub mod Step
+pub mod Passing
+pub mod Walking
+pub mod Promise

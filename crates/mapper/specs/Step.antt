@@ -7,7 +7,7 @@ use lib.Dec.{ltb}
 use lib.ListN.{length, getD}
 use Rattle.mappings.specs.Limits.{hitLimit, workWords}
 use Rattle.mappings.specs.Cells.{cellCount}
-use Rattle.mapper.specs.Start.{badWeights}
+use Rattle.start.specs.Start.{badWeights}
 
 -- 10: fewer than 16,384 work words
 unfoldable pub tooFewWords : List ℕ → Bool

@@ -1,4 +1,4 @@
--- Cases 5 to 9 of document 01's table: each is computed from the definitions.
+-- Cases 5 to 9 of document 01's table, and examples that each rule out a mistaken definition: all are computed from the definitions.
 -- Assumes nothing.
 use Prim.Native.Nat.{ℕ}
 use mathlib.Core.Path.{_≡_, refl}
@@ -10,18 +10,22 @@ use Rattle.strike.specs.Strike.{struck}
 use Rattle.mappings.specs.Limits.{workWords}
 use Rattle.mappings.specs.Score.{Task}
 use Rattle.mappings.specs.Cells.{Mapping}
-use Rattle.mappings.specs.Rule.{Answer, found, finished, spent, refused, Step, answers}
+use Rattle.mappings.specs.Rule.{found, finished, spent, refused, Step, answers}
 use Rattle.mappings.proofs.Compute.{mappings-compute}
 
--- the task of text and read letters with k 1, w 1, c 100 and u = v = 1
-abbrev task : List ℕ → List ℕ → ℤ → Task
-task text read threshold = record {
-  text = codes (struck 100 (sketch 1 1 text));
+-- the task of text and read letters with k 1 and w 1, struck with c
+abbrev weighed : ℕ → ℕ → ℕ → List ℕ → List ℕ → ℤ → Task
+weighed c u v text read threshold = record {
+  text = codes (struck c (sketch 1 1 text));
   pattern = codes (sketch 1 1 read);
-  u = 1;
-  v = 1;
+  u = u;
+  v = v;
   threshold = threshold;
 }
+
+-- with c 100 and u = v = 1
+abbrev task : List ℕ → List ℕ → ℤ → Task
+task text read threshold = weighed 100 1 1 text read threshold
 
 abbrev mapping : ℕ → ℕ → ℤ → ℕ → Mapping
 mapping a b score m = record { a = a; b = b; score = score; m = m }
@@ -29,6 +33,10 @@ mapping a b score m = record { a = a; b = b; score = score; m = m }
 -- an accepted step with this budget
 abbrev step : ℕ → Step
 step budget = record { budget = budget; lent = workWords }
+
+-- a step that is lent too few words
+abbrev short : ℕ → ℕ → Step
+short budget lent = record { budget = budget; lent = lent }
 
 -- 003's Figure 1: AC, CG, GA and AC in AC, AC, CA, TA, CA, GA, CG, AC and GG, as codes of k 2
 abbrev figure1 : Task
@@ -54,3 +62,20 @@ pub record MappingCases : Type 0 where
 pub mapping-cases : MappingCases
 unfolding mappings-compute
 mapping-cases = record { case5 = refl; case6 = refl; case7 = refl; case8 = refl; case9 = refl }
+
+-- Examples beyond the table. `struck-text`: ACAG struck with c 1 is CG, so the list is another than in case 6.
+-- `tied`: AATC, AC: [0, 0] stays, though [0, 3] scores as much. `wider`: CCAT, AC, u = 2: [0, 0] is not final, though only [0, 2]
+-- and [0, 3] score more, neither of which is reasonable, and [0, 3] does not end on a hit. `one-end`: ACC, AC: [0, 2] scores
+-- 1 and nothing is wider, but only its left end is reasonable. `weights`: ATGCA, AC, u = 2, v = 3, threshold −2: scores below 0, one at
+-- the threshold. `refusals`: case 6 by steps of which two are lent too few words
+pub record MappingExamples : Type 0 where
+  pub struck-text : answers (weighed 1 1 1 (65 ∷ 67 ∷ 65 ∷ 71 ∷ []) (65 ∷ 67 ∷ 71 ∷ []) (pos 1)) 0 (step 9 ∷ step 9 ∷ []) ≡ found (mapping 0 1 (pos 1) 2) 1 ∷ finished 2 ∷ []
+  pub tied : answers (task (65 ∷ 65 ∷ 84 ∷ 67 ∷ []) (65 ∷ 67 ∷ []) (pos 0)) 0 (step 9 ∷ step 9 ∷ step 9 ∷ []) ≡ found (mapping 1 3 (pos 1) 2) 2 ∷ found (mapping 0 0 (pos 0) 1) 4 ∷ finished 0 ∷ []
+  pub wider : answers (weighed 100 2 1 (67 ∷ 67 ∷ 65 ∷ 84 ∷ []) (65 ∷ 67 ∷ []) (pos 1)) 0 (step 9 ∷ step 9 ∷ []) ≡ found (mapping 1 2 (pos 4) 2) 2 ∷ finished 4 ∷ []
+  pub one-end : answers (task (65 ∷ 67 ∷ 67 ∷ []) (65 ∷ 67 ∷ []) (pos 0)) 0 (step 9 ∷ step 9 ∷ []) ≡ found (mapping 0 1 (pos 2) 2) 4 ∷ finished 2 ∷ []
+  pub weights : answers (weighed 100 2 3 (65 ∷ 84 ∷ 71 ∷ 67 ∷ 65 ∷ []) (65 ∷ 67 ∷ []) (negsuc 1)) 0 (step 9 ∷ step 9 ∷ step 9 ∷ step 9 ∷ []) ≡ found (mapping 3 4 (pos 4) 2) 2 ∷ found (mapping 0 3 (negsuc 1) 2) 2 ∷ found (mapping 0 0 (negsuc 0) 1) 2 ∷ finished 0 ∷ []
+  pub refusals : answers (task (65 ∷ 67 ∷ 65 ∷ 71 ∷ []) (65 ∷ 67 ∷ 71 ∷ []) (pos 1)) 0 (step 1 ∷ short 9 16383 ∷ step 5 ∷ short 8 0 ∷ step 8 ∷ step 0 ∷ []) ≡ spent 1 ∷ refused 10 ∷ found (mapping 1 3 (pos 3) 3) 1 ∷ refused 10 ∷ finished 8 ∷ finished 0 ∷ []
+
+pub mapping-examples : MappingExamples
+unfolding mappings-compute
+mapping-examples = record { struck-text = refl; tied = refl; wider = refl; one-end = refl; weights = refl; refusals = refl }

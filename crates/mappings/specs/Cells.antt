@@ -1,12 +1,12 @@
 -- Hits of the text, and cells: pairs of hits in the order in which a session passes them.
 -- Assumes nothing.
-use Prim.Native.Nat.{ℕ, zero, suc, _*_, _/_}
+use Prim.Native.Nat.{ℕ, zero, suc, _+_, _-_, _*_, _/_}
 use mathlib.Core.Bool.{Bool}
 use mathlib.Core.List.{List, [], _∷_, _++_, map}
 use lib.Dec.{ltb}
 use lib.ListN.{length, getD}
 use lib.IntN.{ℤ}
-use Rattle.counts.specs.Lists.{addIf, range}
+use Rattle.counts.specs.Lists.{addIf, keep, range}
 use Rattle.counts.specs.Counts.{occ}
 use Rattle.mappings.specs.Score.{Task, scoreOf, sharedOf}
 use Rattle.mappings.specs.Definition1.{isFinal}
@@ -22,6 +22,10 @@ hits task = hitsFrom (task .pattern) 0 (task .text)
 -- h
 unfoldable pub hitCount : Task → ℕ
 hitCount task = length (hits task)
+
+-- the codes of the hits, in their order
+unfoldable pub hitCodes : Task → List ℕ
+hitCodes task = keep (λ (x : ℕ). ltb 0 (occ x (task .pattern))) (task .text)
 
 -- a cell (i, j), i ≤ j, by the numbers of its two hits, from 0
 pub record Cell : Type 0 where
@@ -40,6 +44,10 @@ cells (suc j) = column j (suc j) ++ cells j
 -- h(h + 1)/2
 unfoldable pub cellCount : ℕ → ℕ
 cellCount h = h * suc h / 2
+
+-- how many of the cells of h hits stand before cell (i, j)
+unfoldable pub place : ℕ → ℕ → ℕ → ℕ
+place h i j = cellCount h - cellCount (suc j) + i
 
 -- the cells of a task, in the order of the list
 unfoldable pub cellsOf : Task → List Cell

@@ -5,7 +5,6 @@ use mathlib.Core.Bool.{Bool, cond, not}
 use mathlib.Core.List.{List, [], _∷_}
 use lib.Dec.{eqb, ltb}
 use lib.ListN.{length, take, drop}
-use Rattle.counts.specs.Lists.{sum}
 use Rattle.mappings.specs.Limits.{workWords}
 use Rattle.mappings.specs.Score.{Task}
 use Rattle.mappings.specs.Cells.{Cell, Mapping, mappingOf, cellsOf, hitCount, cellCount, isFinalCell}
@@ -24,6 +23,13 @@ reported (found mapping cells) = cells
 reported (finished cells) = cells
 reported (spent cells) = cells
 reported (refused number) = 0
+
+-- the answer, with n cells more reported
+abbrev pub moreCells : ℕ → Answer → Answer
+moreCells n (found mapping cells) = found mapping (n + cells)
+moreCells n (finished cells) = finished (n + cells)
+moreCells n (spent cells) = spent (n + cells)
+moreCells n (refused number) = refused number
 
 -- the first of these cells that is final, with its number among them, from 1; or none of them
 pub data First : Type 0 where

@@ -11,7 +11,7 @@ use Rattle.strike.specs.Strike.{struck, strikeReply}
 use Rattle.mappings.specs.Limits.{workWords}
 use Rattle.mappings.specs.Score.{Task, lengthOf}
 use Rattle.mappings.specs.Cells.{Cell, Mapping, cellsOf, isFinalCell, mappingOf}
-use Rattle.mapper.specs.Start.{startReply}
+use Rattle.start.specs.Start.{startReply}
 use Rattle.listing.specs.Limits.{lineLimit}
 use Rattle.listing.specs.PerMille.{perMille}
 use Rattle.listing.specs.Line.{decimal, line, space, lineFeed}

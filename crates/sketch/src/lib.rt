@@ -1,1 +1,5 @@
-// Sketches of letters, and striking of frequent k-mers.
+// Sketches of letters.
+mod kmers;
+mod letters;
+mod scan;
+mod windows;

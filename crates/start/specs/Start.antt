@@ -1,4 +1,4 @@
--- What start answers.
+-- What start answers, and the work words afterwards.
 -- Assumes nothing.
 use Prim.Native.Nat.{ℕ}
 use mathlib.Core.Bool.{Bool, cond, _||_}
@@ -6,6 +6,7 @@ use mathlib.Core.List.{List, [], _∷_}
 use lib.Dec.{ltb, eqb}
 use lib.ListN.{length}
 use Rattle.counts.specs.Replies.{Reply, accepted, refused}
+use Rattle.start.specs.WorkWords.{sessionWords}
 use Rattle.sketch.specs.Limits.{textLimit, outside}
 use Rattle.mappings.specs.Limits.{weightLimit, patternLimit, hitLimit, workWords}
 use Rattle.mappings.specs.Score.{Task}
@@ -24,3 +25,11 @@ startReply task lent =
     (cond (ltb lent workWords) (refused 10 [])
     (cond (ltb hitLimit (hitCount task)) (refused 11 (hitCount task ∷ []))
     (accepted (hitCount task ∷ []))))))
+
+-- the work words after start, given as they came: a refusal changes none of them
+abbrev pub afterStart : Reply → Task → List ℕ → List ℕ
+afterStart (accepted values) task before = sessionWords task before 0
+afterStart (refused number values) task before = before
+
+unfoldable pub startWords : Task → List ℕ → List ℕ
+startWords task before = afterStart (startReply task (length before)) task before

@@ -1,0 +1,71 @@
+//! The picks of a run by its events: between a new lowest key and the moment when the lowest leaves its window, a k-mer costs a
+//! store and a comparison.
+//! Assumes k 1 to 15, w 1 to 64 and at most 1,048,576 letters.
+
+use super::keys::key_of;
+use super::letters::FOREIGN;
+use super::sketch::value_at;
+
+const RING: usize = 64;
+
+/// The least of the w keys up to number n, and its number.
+fn search(ring: &[u64; RING], n: usize, w: usize) -> (u64, usize) {
+    let mut lowest = (u64::MAX, 0);
+    for at in n + 1 - w..n + 1 {
+        let key = ring[at % RING];
+        if key < lowest.0 {
+            lowest = (key, at);
+        }
+    }
+    lowest
+}
+
+/// Hands on the picks of the run that begins at `start`; returns the index behind it.
+pub fn pick_run(letters: &[u8], start: usize, k: usize, w: usize, values: &[u8; 256], take: &mut impl FnMut(u64)) -> usize {
+    let mask = (1 << (2 * k)) - 1;
+    let mut ring = [0u64; RING];
+    let mut lowest = (u64::MAX, 0);
+    let (mut code, mut at) = (0u64, start);
+    // the first window, or a run's only one
+    while at < start + k - 1 + w {
+        let value = value_at(letters, values, at);
+        if value == FOREIGN {
+            if at >= start + k {
+                take(lowest.0);
+            }
+            return at;
+        }
+        code = code << 2 | u64::from(value);
+        at += 1;
+        if at >= start + k {
+            let n = at - k - start;
+            ring[n] = key_of(code & mask, at - k);
+            lowest = lowest.min((ring[n], n));
+        }
+    }
+    take(lowest.0);
+    loop {
+        // up to the k-mer with which the lowest leaves, only a lower one is an event
+        let leaves = start + lowest.1 + w + k - 1;
+        let mut key = u64::MAX;
+        for &letter in &letters[at..(leaves + 1).min(letters.len())] {
+            let value = values[usize::from(letter)];
+            if value == FOREIGN {
+                return at;
+            }
+            code = code << 2 | u64::from(value);
+            at += 1;
+            key = key_of(code & mask, at - k);
+            ring[(at - k - start) % RING] = key;
+            if key < lowest.0 {
+                break;
+            }
+        }
+        if key > lowest.0 && at <= leaves {
+            return at;
+        }
+        let n = at - k - start;
+        lowest = if key < lowest.0 { (key, n) } else { search(&ring, n, w) };
+        take(lowest.0);
+    }
+}

@@ -1,0 +1,48 @@
+-- Words that hold a signed number with 2^31 added: what the casts back to it ask and give.
+-- Assumes nothing.
+use Prim.Native.Nat.{ℕ, zero, suc, _+_, _-_, _≤_, _<_, _^_}
+use native.Mathlib.Omega.{arith}
+use mathlib.Core.Path.{_≡_, refl, sym, ap, _∙_}
+use mathlib.Core.Bool.{Bool, true, false, false≢true, true≢false}
+use lib.Dec.{T, leb·zero}
+use lib.IntN.{ℤ, pos, negsuc, natAbs, subℕ, _+ℤ_, _-ℤ_}
+use lib.Signed.{leZ, nonNeg, mag}
+use mir.Syntax.{w32}
+use mir.Val.{Fits, SFits, toZ, ofZ}
+use mir.ValLaws.{toZ-ofZ}
+use borrow.Author.Tests.{lt-ltb, le-ltb}
+use Rattle.mappings.specs.Bias.{bias, unbiased}
+
+-- a signed number as the code reads it back from its bits
+abbrev pub read : ℤ → ℤ
+read z = toZ w32 (ofZ w32 z)
+
+-- a word below 2^31 is a signed number as it stands
+small : (n : ℕ) → n < 2 ^ 31 → toZ w32 n ≡ pos n
+small n h = rw (lt-ltb n (2 ^ 31) h)
+
+module _ (word : ℕ) where
+  pub word-high : 2147483648 ≤ word → word < 2 ^ 32 → toZ w32 (word - 2147483648) ≡ subℕ word 2147483648
+  word-high h f =
+      let l : word - 2147483648 < 2 ^ 31 = omega arith in
+      small (word - 2147483648) l ∙ rw (le-ltb word 2147483648 h)
+
+  -- −1 − (2^31 − 1 − word)
+  word-left : word < 2147483648 → negsuc 0 -ℤ toZ w32 (2147483647 - word) ≡ negsuc (2147483647 - word)
+  word-left h =
+      let l : 2147483647 - word < 2 ^ 31 = omega arith in
+      ap (λ (y : ℤ). negsuc 0 -ℤ y) (small (2147483647 - word) l) ∙ less-one (2147483647 - word)
+    where
+      less-one : (n : ℕ) → negsuc 0 -ℤ pos n ≡ negsuc n
+      less-one zero = refl
+      less-one (suc n) = let e : suc (0 + n) ≡ suc n = omega arith in ap negsuc e
+
+  pub word-sub : word < 2147483648 → SFits w32 (negsuc 0 -ℤ toZ w32 (2147483647 - word))
+  word-sub h = rw (word-left h) (record { sfits = omega arith })
+
+  pub word-low : word < 2147483648 → read (negsuc 0 -ℤ toZ w32 (2147483647 - word)) ≡ subℕ word 2147483648
+  word-low h =
+      toZ-ofZ w32 (negsuc 0 -ℤ toZ w32 (2147483647 - word)) (word-sub h)
+      ∙ word-left h
+      ∙ (let e : 2147483647 - word ≡ 2147483648 - suc word = omega arith in ap negsuc e)
+      ∙ rw (lt-ltb word 2147483648 h)

@@ -1,0 +1,14 @@
+-- Laws about the work words, the column's update and sessions.
+pub mod Bias
+pub mod Passing
+pub mod Walking
+pub mod Places
+pub mod Best
+pub mod CellTests
+pub mod Chunk
+pub mod SessionWords
+pub mod WalkRule
+pub mod StepTests
+pub mod Accepted
+pub mod Within
+pub mod StepPromise

@@ -1,0 +1,77 @@
+-- The column's update, unrolled by one cell: where the cell is final it stops there, otherwise it goes on.
+-- Assumes nothing.
+use Prim.Native.Nat.{ℕ, zero, suc, _+_, _-_, _≤_, _<_, max}
+use native.Mathlib.Nat.{le-refl, le-suc}
+use native.Mathlib.Omega.{arith}
+use native.Mathlib.Numerals.{add-one}
+use mathlib.Core.Path.{_≡_, refl, sym, ap, _∙_}
+use mathlib.Core.Bool.{Bool, true, false, cond, true≢false, false≢true}
+use mathlib.Core.List.{List}
+use lib.ListN.{length, getD, set, length-set}
+use Rattle.mapper.specs.declared.column.Line.{Line}
+use Rattle.mapper.specs.declared.column.Passed.{Passed}
+use Rattle.mapper.specs.Passing.{lowered, lineScore, bestWith, inReach, finalTest, Update, passRows}
+
+left-suc : (to i : ℕ) → i < to → to - i ≡ suc (to - (i + 1))
+left-suc to i h = omega arith
+
+-- what the code has computed at a cell of row i: its score word, whether its left end is reasonable, the best so far
+pub record AtCell (line : Line) (i m before : ℕ) (part : List ℕ) (s one greatest best : ℕ) : Type 0 where
+  pub score : s ≡ lineScore line m (getD part i 0)
+  pub reach : one ≡ inReach line part i
+  pub greatest-is : greatest ≡ max (getD part (4096 + i) 0) s
+  pub best-is : best ≡ max before greatest
+
+module _ (line : Line) (to i m before : ℕ) (part : List ℕ) (s one greatest best : ℕ) (h : i < to) (at : AtCell line i m before part s one greatest best) where
+  best-with : bestWith part i before (lineScore line m (getD part i 0)) ≡ best
+  unfolding bestWith
+  best-with = sym (at .best-is ∙ ap (max before) (at .greatest-is ∙ ap (max (getD part (4096 + i) 0)) (at .score)))
+
+  unrolled : passRows line (to - i) i m before part ≡ cond (finalTest (line .threshold) s best one (line .back) i) (record { answer = record { found = true; row = suc i; m = m; score = s }; part = set part (4096 + i) best }) (passRows line (to - (i + 1)) (suc i) (lowered m one) best (set part (4096 + i) best))
+  unrolled = rw (left-suc to i h, at .score, at .reach, ← best-with)
+
+  pub pass-stop : finalTest (line .threshold) s best one (line .back) i ≡ true → passRows line (to - i) i m before part ≡ record { answer = record { found = true; row = i + 1; m = m; score = s }; part = set part (4096 + i) best }
+  pass-stop t = unrolled ∙ rw (t, add-one)
+
+  pub pass-on : (m′ : ℕ) → finalTest (line .threshold) s best one (line .back) i ≡ false → m′ ≡ lowered m one → passRows line (to - i) i m before part ≡ passRows line (to - (i + 1)) (i + 1) m′ best (set part (4096 + i) best)
+  pass-on m′ t e = unrolled ∙ rw (t, e, add-one)
+
+-- ---- where the update stops
+
+-- the rows that it passes, the found flag, and the length of the part
+pub record Bounded (i n : ℕ) (part : List ℕ) (update : Update) : Type 0 where
+  pub from : i ≤ update .answer .row
+  pub to : update .answer .row ≤ i + n
+  pub whole : update .answer .found ≡ false → update .answer .row ≡ i + n
+  pub moved : update .answer .found ≡ true → suc i ≤ update .answer .row
+  pub size : length (update .part) ≡ length part
+
+pub bounded : (line : Line) (n i m before : ℕ) (part : List ℕ) → Bounded i n part (passRows line n i m before part)
+bounded line zero i m before part = record {
+  from = le-refl i;
+  to = omega arith;
+  whole = λ e. omega arith;
+  moved = λ e. absurd (false≢true e);
+  size = refl;
+}
+bounded line (suc n) i m before part =
+    let s = lineScore line m (getD part i 0) in
+    let best = bestWith part i before s in
+    let one = inReach line part i in
+    go (finalTest (line .threshold) s best one (line .back) i) best s (bounded line n (suc i) (lowered m one) best (set part (4096 + i) best))
+  where
+    go : (b : Bool) (best s : ℕ) {later : Update} → Bounded (suc i) n (set part (4096 + i) best) later → Bounded i (suc n) part (cond b (record { answer = record { found = true; row = suc i; m = m; score = s }; part = set part (4096 + i) best }) later)
+    go true best s r = record {
+      from = le-suc i;
+      to = omega arith;
+      whole = λ e. absurd (true≢false e);
+      moved = λ e. le-refl (suc i);
+      size = length-set part (4096 + i) best;
+    }
+    go false best s r = record {
+      from = omega (arith, r .from);
+      to = omega (arith, r .to);
+      whole = λ e. let w = r .whole e in omega arith;
+      moved = λ e. omega (arith, r .from);
+      size = r .size ∙ length-set part (4096 + i) best;
+    }

@@ -1,0 +1,54 @@
+-- What a column's update and a step do to any work words, made by start and steps or not.
+-- Assumes nothing.
+use Prim.Native.Nat.{ℕ, zero, suc, _+_, _-_, _*_, _%_, _^_, min, max}
+use mathlib.Core.Bool.{Bool, true, false, cond, _&&_}
+use mathlib.Core.List.{List, [], _∷_}
+use lib.Dec.{leb, ltb, eqb}
+use lib.ListN.{length, getD, take, drop, set}
+use lib.Seq.{slice, sets}
+use Rattle.counts.specs.Lists.{bit}
+use Rattle.mapper.specs.declared.column.Line.{Line}
+use Rattle.mapper.specs.declared.column.Passed.{Passed}
+
+-- m less one or none, as a word
+abbrev pub lowered : ℕ → ℕ → ℕ
+lowered m one = (m + 4294967296 - one) % 4294967296
+
+-- the score word of a cell of the line, whose m is this and whose left end has index x in the text
+unfoldable pub lineScore : Line → ℕ → ℕ → ℕ
+lineScore line m x = (line .gain * m + line .v * x + line .base) % 4294967296
+
+-- the greatest score word that the rows before this one have seen
+abbrev pub seenBefore : List ℕ → ℕ → ℕ
+seenBefore part zero = 0
+seenBefore part (suc i) = getD part (4096 + i) 0
+
+-- the greatest score word of row i with the cell of this score word passed, where the rows before have seen `before`
+unfoldable pub bestWith : List ℕ → ℕ → ℕ → ℕ → ℕ
+bestWith part i before s = max before (max (getD part (4096 + i) 0) s)
+
+-- 1 where hit i is reasonable as the left end in this line's column
+unfoldable pub inReach : Line → List ℕ → ℕ → ℕ
+inReach line part i = bit (ltb (line .column) (getD part (2048 + i) 0))
+
+-- the four tests of Definition 1 at a cell of row i
+unfoldable pub finalTest : ℕ → ℕ → ℕ → ℕ → ℕ → ℕ → Bool
+finalTest threshold s best one from i = leb threshold s && eqb s best && eqb one 1 && leb from i
+
+-- a column's update: what it answers, and the part of the work words afterwards
+pub record Update : Type 0 where
+  pub answer : Passed
+  pub part : List ℕ
+
+-- the next n cells of the line from row i on, up to the first final one; `before` is what the rows before i have seen
+abbrev pub passRows : Line → ℕ → ℕ → ℕ → ℕ → List ℕ → Update
+passRows line zero i m before part = record { answer = record { found = false; row = i; m = m; score = 0 }; part = part }
+passRows line (suc n) i m before part =
+    let s = lineScore line m (getD part i 0) in
+    let best = bestWith part i before s in
+    let one = inReach line part i in
+    let updated = set part (4096 + i) best in
+    let later = passRows line n (suc i) (lowered m one) best updated in
+    cond (finalTest (line .threshold) s best one (line .back) i)
+    (record { answer = record { found = true; row = suc i; m = m; score = s }; part = updated })
+    later

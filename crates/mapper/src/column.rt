@@ -1,0 +1,77 @@
+// Passing the cells of one column.
+use crate::score::{below, greater, lowered, score_word};
+use start::words::{BEST, REACH};
+ghost use mathlib.Core.Path.{_≡_};
+ghost use Prim.Native.Nat.{ℕ, _-_, _≤_};
+ghost use lib.ListN.{length};
+ghost use Rattle.mapper.specs.Passing.{seenBefore, finalTest, passRows};
+
+// What the cells of a column share: its number, the factors and the sum of the score words, the row from which its hit is
+// reasonable as a right end, and the threshold.
+pub struct Line {
+    pub column: u32,
+    pub gain: u64,
+    pub v: u64,
+    pub base: u64,
+    pub back: usize,
+    pub threshold: u32,
+}
+
+// Whether the last cell passed was final, the row of the next one, and m and the score word of the last one.
+pub struct Passed {
+    pub found: bool,
+    pub row: usize,
+    pub m: u32,
+    pub score: u32,
+}
+
+// The greatest score word that the rows before this one have seen.
+fn best_before(part: &[u32], row: usize) -> u32
+    requires { ⌜ (length (now part) ≡ 6144) × (row ≤ 2048) ⌝ }
+    ensures { λ r. ⌜ r ≡ seenBefore (now (part .entry)) row ⌝ }
+{
+    if row == 0 {
+        return 0;
+    }
+    part[BEST + row - 1]
+}
+
+// Definition 1 at a cell: its score word s is enough and the greatest so far, and both of its ends are reasonable.
+fn is_final(threshold: u32, s: u32, best: u32, one: u32, back: usize, row: usize) -> bool
+    ensures { λ r. ⌜ r ≡ finalTest threshold s best one back row ⌝ }
+{
+    if s < threshold {
+        return false;
+    }
+    if s != best {
+        return false;
+    }
+    if one != 1 {
+        return false;
+    }
+    back <= row
+}
+
+// Passes the cells of rows from `from` up to `to`, or up to the first final one. m0 is the first cell's m.
+pub fn pass(part: &mut [u32], line: Line, from: usize, to: usize, m0: u32) -> Passed
+    requires { ⌜ (length (now part) ≡ 6144) × (from ≤ to) × (to ≤ 2048) ⌝ }
+    requires { ⌜ (line .gain ≤ 3000) × (line .v ≤ 1000) × (line .base ≤ 17594333528064) ⌝ }
+    ensures { λ r. ⌜ r ≡ passRows line (to - from) from m0 (seenBefore (now (part .entry)) from) (now (part .entry)) .answer ⌝ }
+    ensures { λ r. ⌜ now (part .exit) ≡ passRows line (to - from) from m0 (seenBefore (now (part .entry)) from) (now (part .entry)) .part ⌝ }
+{
+    let mut m = m0;
+    let mut best = best_before(part, from);
+    let mut i = from;
+    while i < to {
+        let s = score_word(line.gain, m, line.v, part[i], line.base);
+        let one = below(line.column, part[REACH + i]);
+        best = greater(best, greater(part[BEST + i], s));
+        part[BEST + i] = best;
+        if is_final(line.threshold, s, best, one, line.back, i) {
+            return Passed { found: true, row: i + 1, m, score: s };
+        }
+        m = lowered(m, one);
+        i += 1;
+    }
+    Passed { found: false, row: i, m, score: 0 }
+}

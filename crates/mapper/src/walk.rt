@@ -1,0 +1,131 @@
+// Walking along the columns from a place, until a final cell, the budget's end or the last cell.
+use crate::column::{Line, Passed, pass};
+use crate::place::{Place, save, settled, top_shared};
+use crate::score::{lowered, unbiased};
+use start::words::{BACK, INDEX, PART_END, wide, wider};
+ghost use mathlib.Core.Path.{_≡_};
+ghost use Prim.Native.Nat.{ℕ, _≤_, _<_, min};
+ghost use lib.ListN.{length};
+ghost use Rattle.mapper.specs.Walking.{lineOf, spentWalk, finishedWalk, foundWalk, walkOn};
+
+// What a step answers.
+pub enum Stepped {
+    Found {
+        a: u32,
+        b: u32,
+        score: i32,
+        m: u32,
+        cells: u32,
+    },
+    Finished(u32),
+    Spent(u32),
+    TooFewWords,
+    BadWords,
+}
+
+// What the score words of a session share: u + 2v, v, the pattern's length, and the threshold with its bias.
+pub struct Terms {
+    pub gain: u64,
+    pub v: u64,
+    pub size: u64,
+    pub threshold: u32,
+}
+
+// The smaller of two.
+fn smaller(a: usize, b: usize) -> usize
+    ensures { λ r. ⌜ r ≡ min a b ⌝ }
+{
+    if a < b { a } else { b }
+}
+
+// What the cells of column j share. The base has 2^44 added, so that words that no start made stay within range.
+fn line_of(work: &[u32], terms: Terms, j: usize) -> Line
+    requires { ⌜ (16384 ≤ length (now work)) × (j < 2048) × (terms .gain ≤ 3000) × (terms .v ≤ 1000) × (terms .size ≤ 4294967295) ⌝ }
+    ensures { λ r. ⌜ r ≡ lineOf (now (work .entry)) terms j ⌝ }
+{
+    let x = wider(work[INDEX + j]);
+    let back = wide(work[BACK + j]);
+    let v = terms.v;
+    Line {
+        column: j as u32,
+        gain: terms.gain,
+        v,
+        base: 17594333528064 - v * (x + 1 + terms.size),
+        back,
+        threshold: terms.threshold,
+    }
+}
+
+// The budget's cells are passed.
+fn spent(work: &mut [u32], place: Place, cells: usize) -> Stepped
+    requires { ⌜ (16384 ≤ length (now work)) × (place .columns ≤ 2048) × (place .row ≤ 4294967295) × (cells ≤ 4294967295) ⌝ }
+    ensures { λ r. ⌜ r ≡ spentWalk (now (work .entry)) place cells .answer ⌝ }
+    ensures { λ r. ⌜ now (work .exit) ≡ spentWalk (now (work .entry)) place cells .words ⌝ }
+{
+    save(work, place, cells);
+    Stepped::Spent(cells as u32)
+}
+
+// No cell remains.
+fn finished(work: &mut [u32], place: Place, cells: usize) -> Stepped
+    requires { ⌜ (16384 ≤ length (now work)) × (place .columns ≤ 2048) × (place .row ≤ 4294967295) × (cells ≤ 4294967295) ⌝ }
+    ensures { λ r. ⌜ r ≡ finishedWalk (now (work .entry)) place cells .answer ⌝ }
+    ensures { λ r. ⌜ now (work .exit) ≡ finishedWalk (now (work .entry)) place cells .words ⌝ }
+{
+    save(work, place, cells);
+    Stepped::Finished(cells as u32)
+}
+
+// The cell passed last, in the last of these columns, is final.
+fn found(work: &mut [u32], columns: usize, p: Passed, cells: usize) -> Stepped
+    requires { ⌜ (16384 ≤ length (now work)) × (1 ≤ columns) × (columns ≤ 2048) × (1 ≤ p .row) × (p .row ≤ 2048) × (cells ≤ 4294967295) ⌝ }
+    ensures { λ r. ⌜ r ≡ foundWalk (now (work .entry)) columns p cells .answer ⌝ }
+    ensures { λ r. ⌜ now (work .exit) ≡ foundWalk (now (work .entry)) columns p cells .words ⌝ }
+{
+    let row = p.row;
+    let a = work[INDEX + row - 1];
+    let b = work[INDEX + columns - 1];
+    let score = unbiased(p.score);
+    let place = settled(work, columns, row, lowered(p.m, 1));
+    save(work, place, cells);
+    Stepped::Found {
+        a,
+        b,
+        score,
+        m: p.m,
+        cells: cells as u32,
+    }
+}
+
+// The cells from this place on, at most `budget` of them.
+pub fn walk(work: &mut [u32], terms: Terms, start: Place, budget: usize) -> Stepped
+    requires { ⌜ (16384 ≤ length (now work)) × (budget ≤ 4294967295) × (start .columns ≤ 2048) × (start .row ≤ start .columns) ⌝ }
+    requires { ⌜ (terms .gain ≤ 3000) × (terms .v ≤ 1000) × (terms .size ≤ 4294967295) ⌝ }
+    ensures { λ r. ⌜ r ≡ walkOn terms budget (start .columns) (start .row) (start .m) budget (now (work .entry)) .answer ⌝ }
+    ensures { λ r. ⌜ now (work .exit) ≡ walkOn terms budget (start .columns) (start .row) (start .m) budget (now (work .entry)) .words ⌝ }
+{
+    let mut columns = start.columns;
+    let mut row = start.row;
+    let mut m = start.m;
+    let mut left = budget;
+    while 0 < columns {
+        if left == 0 {
+            return spent(work, Place { columns, row, m }, budget);
+        }
+        let line = line_of(work, terms, columns - 1);
+        let to = row + smaller(left, columns - row);
+        let p = pass(&mut work[INDEX..PART_END], line, row, to, m);
+        let next = p.row;
+        left -= next - row;
+        if p.found {
+            return found(work, columns, p, budget - left);
+        }
+        if next < columns {
+            return spent(work, Place { columns, row: next, m: p.m }, budget - left);
+        }
+        columns -= 1;
+        row = 0;
+        m = top_shared(work, columns);
+    }
+    finished(work, Place { columns: 0, row, m }, budget - left)
+}
