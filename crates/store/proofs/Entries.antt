@@ -1,15 +1,19 @@
 -- The entries of two buffers, one word of each for an entry, the length of their store, and what storable entries are.
 -- Assumes nothing.
-use Prim.Native.Nat.{ℕ, zero, suc, _+_, _*_, _≤_, _<_}
+use Prim.Native.Nat.{ℕ, zero, suc, _+_, _*_, _^_, _≤_, _<_}
+use native.Mathlib.Nat.{le-trans}
 use native.Mathlib.Omega.{arith}
 use mathlib.Core.Path.{_≡_, refl, ap, ap₂, _∙_}
 use mathlib.Core.List.{List, [], _∷_}
 use mathlib.Core.Bool.{Bool, true, _&&_}
-use lib.ListN.{length, getD, drop}
+use lib.ListN.{length, getD, drop, length-map}
 use lib.Seq.{drop-cons}
-use Rattle.counts.proofs.Lists.{and-left, and-right}
+use borrow.Author.Tests.{lt-ltb, le-leb}
+use Rattle.counts.proofs.Lists.{and-both, and-left, and-right}
 use Rattle.sketch.specs.Limits.{letterLimit}
 use Rattle.sketch.specs.Kmers.{Entry, entries, codes, positions}
+use Rattle.sketch.specs.Sketch.{sketch}
+use Rattle.sketch.proofs.Laws.{Rising, rising-length, positions-rise, codes-below}
 use Rattle.store.specs.Words.{word, isCode, isPosition}
 use Rattle.store.specs.Save.{entryWords, stored, storable}
 use Rattle.store.proofs.WordLaws.{isPosition-range}
@@ -31,12 +35,10 @@ positions-entries (c ∷ cs) [] h = absurd (omega arith)
 positions-entries (c ∷ cs) (p ∷ ps) h = ap (λ (l : List ℕ). p ∷ l) (positions-entries cs ps (omega arith))
 
 pub length-codes : (es : List Entry) → length (codes es) ≡ length es
-length-codes [] = refl
-length-codes (e ∷ es) = ap suc (length-codes es)
+length-codes es = length-map es (λ (e : Entry). e .code)
 
 pub length-positions : (es : List Entry) → length (positions es) ≡ length es
-length-positions [] = refl
-length-positions (e ∷ es) = ap suc (length-positions es)
+length-positions es = length-map es (λ (e : Entry). e .position)
 
 -- the entries from an index on, one further
 pub entries-drop :
@@ -110,3 +112,28 @@ storable-at k low (e ∷ es) zero s h =
 storable-at k low (e ∷ es) (suc i) s h =
     let parts = storable-parts k low e es s in
     storable-at k (suc (e .position)) es i (parts .rest-good) (omega arith)
+
+-- codes below 4^k at positions that rise strictly below 1,048,576 are storable
+pub rising-storable :
+    (k low : ℕ) (es : List Entry) →
+    Rising low letterLimit (positions es) →
+    ((i : ℕ) → i < length es → getD (codes es) i 0 < 4 ^ k) →
+    storable k low es ≡ true
+unfolding isCode isPosition
+rising-storable k low [] r h = refl
+rising-storable k low (e ∷ es) r h =
+    let below : e .position < letterLimit = omega (arith, rising-length (suc (e .position)) letterLimit (positions es) (r .1)) in
+    and-both
+    (and-both (lt-ltb (e .code) (4 ^ k) (h 0 (omega arith))) (and-both (le-leb low (e .position) (r .0)) (lt-ltb (e .position) letterLimit below)))
+    (rising-storable k (suc (e .position)) es (r .1) (λ i l. h (suc i) (omega arith)))
+
+rising-up : (low high high′ : ℕ) (ps : List ℕ) → high ≤ high′ → Rising low high ps → Rising low high′ ps
+rising-up low high high′ [] h r = le-trans r h
+rising-up low high high′ (p ∷ ps) h r = (r .0, rising-up (suc p) high high′ ps h (r .1))
+
+-- so is every sketch of accepted letters
+pub sketch-storable : (k w : ℕ) (letters : List ℕ) → 1 ≤ k → length letters ≤ letterLimit → storable k 0 (sketch k w letters) ≡ true
+sketch-storable k w letters some few =
+    rising-storable k 0 (sketch k w letters)
+    (rising-up 0 (length letters) letterLimit (positions (sketch k w letters)) few (positions-rise k w letters some))
+    (codes-below k w letters some)

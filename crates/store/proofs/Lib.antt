@@ -6,4 +6,6 @@ pub mod Judging
 pub mod RoundTrip
 pub mod FirstBad
 pub mod Filling
+pub mod Accepting
+pub mod Contracts
 pub mod Cases

@@ -20,6 +20,7 @@ use Rattle.store.specs.Load.{Judged, good, bad, judgeFrom, judge, storeK
 use Rattle.store.specs.Answers.{counted, verdictReply}
 use Rattle.store.proofs.WordLaws.{isHeader-holds}
 use Rattle.store.proofs.Judging.{judge-empty, judge-no-header, judge-header, storeK-header, storeW-header, counted-bad, counted-good}
+use Rattle.store.proofs.Accepting.{Loads, load-accepts, load-fills}
 use Rattle.store.proofs.load.Statement.{statement}
 use Rattle.store.proofs.load.Tie as tie
 
@@ -159,7 +160,6 @@ same-length-2 : tie.Need-same-length-2
 same-length-2 c = search needs
 
 returns-6 : tie.Need-returns-6
-unfolding loadRoom loadCodes loadPositions
 returns-6 c =
     let r = c .before .before .before .before in
     let e = r .before .before .before in
@@ -169,26 +169,19 @@ returns-6 c =
     let ws = now (s .args .words) in
     let cs = now (s .args .codes) in
     let ps = now (s .args .positions) in
-    let n = d .before .entries .given .0 .0 in
+    let es = entriesOf (judge ws) in
     let some : 1 ≤ length ws = omega (arith, h .before .before .before .before .before .if1 .left) in
-    let loaded = loads d in
-    let reply : loadReply ws (length cs) (length ps) ≡ accepted (h .before .header-k .result ∷ h .header-w .result ∷ n ∷ []) =
-    judged-good ws cs ps n (loaded .0) (loaded .1)
-    ∙ rw (
-      le-ltb (length cs) n (e .before .if3 .left),
-      e .if4 .left,
-      storeK-header ws some,
-      storeW-header ws some,
-      ← h .before .header-k .ensures,
-      ← h .header-w .ensures,
-    )
-    in (
-      sym reply,
-      (
-        r .read .ensures .0 ∙ sym (ap (λ (x : Reply). after x (codesOf (entriesOf (judge ws))) cs) reply),
-        r .read .ensures .1 ∙ sym (ap (λ (x : Reply). after x (positionsOf (entriesOf (judge ws))) ps) reply),
-      ),
-    )
+    let found-entries = loads d in
+    let loaded : Loads ws es (length cs) (length ps) = record {
+      judged = found-entries .0;
+      code-enough = rw (found-entries .1) (e .before .if3 .left);
+      position-enough = rw (found-entries .1) (ltb-false _ _ (e .if4 .left))
+    } in
+    let fills = load-fills ws cs ps es loaded in
+    (sym
+    (load-accepts ws (length cs) (length ps) es loaded
+    ∙ rw (found-entries .1, storeK-header ws some, storeW-header ws some, ← h .before .header-k .ensures, ← h .header-w .ensures)),
+    (r .read .ensures .0 ∙ sym (fills .0), r .read .ensures .1 ∙ sym (fills .1)))
 
 pub load-spec : {M : Type 1} → statement M
 load-spec =

@@ -8,14 +8,15 @@ use mathlib.Core.List.{List, [], _∷_}
 use lib.ListN.{length}
 use lib.Dec.{eqb}
 use borrow.Author.Needs.{needs}
-use borrow.Author.Tests.{lt-ltb, le-ltb, eq-eqb, ne-eqb, not-true, not-false}
+use borrow.Author.Tests.{lt-ltb, eq-eqb, ne-eqb, not-true, not-false}
 use denote.Ref.{now}
-use Rattle.counts.specs.Replies.{Reply, accepted, refused, after, over}
+use Rattle.counts.specs.Replies.{Reply, accepted, refused, after}
 use Rattle.sketch.specs.Limits.{kLimit, wLimit, outside}
 use Rattle.sketch.specs.Kmers.{entries}
 use Rattle.store.specs.Save.{stored, storable, saveReply, saveWords}
 use Rattle.store.proofs.WordLaws.{inside-range}
 use Rattle.store.proofs.Entries.{length-entries, length-stored}
+use Rattle.store.proofs.Accepting.{Savable, save-accepts, save-fills}
 use Rattle.store.proofs.save.Statement.{statement}
 use Rattle.store.proofs.save.Tie as tie
 
@@ -130,17 +131,22 @@ same-length : tie.Need-same-length
 same-length c = search needs
 
 returns-6 : tie.Need-returns-6
-unfolding saveReply saveWords
 returns-6 c =
     let g = c .before .before .before .before in
     let f = g .before in
     let e = f .before .before in
     let d = e .before .before .before in
     let a = d .before .before .before .before .before .args in
-    let reply : saveReply (a .k) (a .w) (now (a .codes)) (now (a .positions)) (length (now (a .words))) ≡ accepted ((2 * length (now (a .codes)) + 2) ∷ []) =
-    rw (k-inside d, w-inside (e .before), same-size e, entries-good f, size e, le-ltb (length (now (a .words))) (2 * length (now (a .codes)) + 2) (g .if5 .left))
-    in
-    (sym reply, c .before .before .write .ensures ∙ sym (ap (λ (r : Reply). after r (stored (a .k) (a .w) (entries (now (a .codes)) (now (a .positions)))) (now (a .words))) reply))
+    let savable : Savable (a .k) (a .w) (now (a .codes)) (now (a .positions)) (length (now (a .words))) = record {
+      k-inside = k-inside d;
+      w-inside = w-inside (e .before);
+      paired = e .if3 .left;
+      entries-good = entries-good f;
+      enough = rw (size e) (g .if5 .left)
+    } in
+    ( sym (save-accepts (a .k) (a .w) (now (a .codes)) (now (a .positions)) (length (now (a .words))) savable ∙ ap (λ (n : ℕ). accepted (n ∷ [])) (size e))
+    , c .before .before .write .ensures ∙ sym (save-fills (a .k) (a .w) (now (a .codes)) (now (a .positions)) (now (a .words)) savable)
+    )
 
 pub save-spec : {M : Type 1} → statement M
 save-spec =
