@@ -1,23 +1,23 @@
 -- The first bytes of the input decide: a program that reads `inputLimit` of them decides like one that reads all.
 -- Assumes nothing.
 use Prim.Native.Nat.{ℕ, zero, suc, _+_, _-_, _*_, _^_, min, _≤_, _<_}
-use native.Mathlib.Nat.{sub-zero, mul-le-mul-right, pow-le-pow-right, pow-succ', le-trans, mul-assoc, mul-comm, one-mul}
+use native.Mathlib.Nat.{sub-zero, mul-le-mul-right, pow-le-pow-right, pow-succ'}
 use native.Mathlib.Omega.{arith}
 use mathlib.Core.Path.{_≡_, refl, sym, ap, ap₂, _∙_, subst}
 use mathlib.Core.Logic.{_⊎_, inl, inr}
-use mathlib.Core.Bool.{Bool, true, false, not, cond, _&&_, false≢true}
+use mathlib.Core.Bool.{Bool, true, false, not, _&&_, false≢true}
 use mathlib.Core.List.{List, [], _∷_}
 use lib.Dec.{leb, ltb, eqb}
 use lib.ListN.{length, getD, take, drop, length-take}
 use lib.Seq.{take-nil, take-all}
-use borrow.Author.Tests.{ltb-true, ltb-false, leb-true, leb-false, eqb-true, eqb-false, ne-eqb, not-true, le-leb}
+use borrow.Author.Tests.{ltb-true, ltb-false, leb-true, leb-false, eqb-false, ne-eqb, not-true, le-leb}
 use Rattle.counts.specs.Lists.{every, extend}
 use Rattle.counts.proofs.Lists.{and-left, and-right, decided}
 use Rattle.listing.specs.Limits.{lineLimit, wordLimit, signedLimit, inputLimit}
 use Rattle.listing.specs.Line.{space, lineFeed, minus, digit}
-use Rattle.listing.specs.Input.{isDigit, isDecimal, decimalValue, isUnsigned, isSigned, fields, lines, isFirstLine, isWellFormed, Input, malformed, given, inputOf}
+use Rattle.listing.specs.Input.{isDigit, isDecimal, decimalValue, isUnsigned, isSigned, fields, lines, isFirstLine, isWellFormed, malformed, inputOf}
 use Rattle.listing.specs.Answers.{firstPart}
-use Rattle.listing.proofs.Parts.{parts, first-at, first-more, first-le, first-take, parts-one, parts-more}
+use Rattle.listing.proofs.Parts.{parts, first-at, first-more, first-le, parts-one, parts-more}
 use Rattle.listing.proofs.Lines.{inputFrom, input-from, some-part}
 
 -- ---- the parts of the first n bytes

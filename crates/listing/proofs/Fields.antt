@@ -2,7 +2,7 @@
 -- Assumes nothing.
 use Prim.Native.Nat.{ℕ, zero, suc, _+_, _-_, _≤_, _<_}
 use native.Mathlib.Omega.{arith}
-use mathlib.Core.Path.{_≡_, refl, sym, ap, ap₂, _∙_}
+use mathlib.Core.Path.{_≡_, refl, sym, ap, _∙_}
 use mathlib.Core.Logic.{_⊎_, inl, inr}
 use mathlib.Core.Bool.{Bool, true, false, cond, not, _&&_}
 use mathlib.Core.List.{List, [], _∷_, _++_}
@@ -10,14 +10,13 @@ use lib.Dec.{ltb, leb, eqb}
 use lib.ListN.{length, getD, drop, length-drop}
 use lib.Seq.{drop-drop}
 use lib.IntN.{ℤ}
-use borrow.Author.Tests.{ltb-true, ltb-false, leb-true, leb-false, eqb-true, eq-eqb, ne-eqb}
-use Rattle.counts.specs.Lists.{every, extend}
+use borrow.Author.Tests.{ltb-true, ltb-false, leb-true, eqb-true, ne-eqb}
+use Rattle.counts.specs.Lists.{every}
 use Rattle.counts.proofs.Lists.{and-left, and-right, decided}
 use Rattle.listing.specs.Limits.{signedLimit}
 use Rattle.listing.specs.Line.{space, minus, digit}
 use Rattle.listing.specs.Input.{isDigit, isDecimal, decimalValue, isUnsigned, isSigned, signedValue, fields, isFirstLine, settingsOf}
-use Rattle.listing.specs.Answers.{firstPart, fieldOf, thresholdOf, answerOf, firstLineOf}
-use Rattle.listing.specs.declared.input.Field.{Field}
+use Rattle.listing.specs.Answers.{firstPart, fieldOf, thresholdOf, firstLineOf}
 use Rattle.listing.specs.declared.input.Field.the-variants.{Malformed as noField, Given as field}
 use Rattle.listing.specs.declared.input.Threshold.{Threshold}
 use Rattle.listing.specs.declared.input.Threshold.the-variants.{Malformed as noSigned, Value as signedNumber}
