@@ -1,16 +1,14 @@
 -- Laws of what a writer leaves: where the bytes fit, where they do not, and two writers one after the other.
 -- Assumes nothing.
-use Prim.Native.Nat.{ℕ, zero, suc, _+_, _-_, _≤_, _<_}
+use Prim.Native.Nat.{ℕ, suc, _+_, _-_, _≤_, _<_}
 use native.Mathlib.Nat.{add-zero, zero-add, sub-zero}
 use native.Mathlib.Omega.{arith}
 use mathlib.Core.Path.{_≡_, refl, sym, ap, ap₂, _∙_, subst}
-use mathlib.Core.Bool.{Bool, true, false}
 use mathlib.Core.List.{List, [], _∷_, _++_, append-nil, append-assoc}
-use lib.Dec.{leb, leb·suc-zero}
-use lib.ListN.{length, getD, set, take, drop, length-set, length-append, length-take, length-drop, take-append-drop}
+use lib.Dec.{leb·suc-zero}
+use lib.ListN.{length, set, take, drop, length-set, length-append, length-drop, take-append-drop}
 use lib.Seq.{length-take-le, take-all, drop-cons, getD-set-same, drop-set-lt, take-at, append-snoc, drop-append-add, drop-drop}
-use borrow.Author.Tests.{le-leb, lt-leb, leb-true}
-use Rattle.counts.specs.Replies.{over}
+use borrow.Author.Tests.{le-leb, lt-leb}
 use Rattle.listing.specs.Writing.{fitting, overFrom, Written, LineWritten}
 
 pub fitting-all : (room : ℕ) (bytes : List ℕ) → length bytes ≤ room → fitting room bytes ≡ bytes

@@ -1,23 +1,24 @@
 -- The first bytes of the input decide: a program that reads `inputLimit` of them decides like one that reads all.
 -- Assumes nothing.
 use Prim.Native.Nat.{ℕ, zero, suc, _+_, _-_, _*_, _^_, min, _≤_, _<_}
-use native.Mathlib.Nat.{sub-zero, mul-le-mul-right, pow-le-pow-right, pow-succ', le-trans, mul-assoc, mul-comm, one-mul}
+use native.Mathlib.Nat.{sub-zero, mul-le-mul-right, pow-le-pow-right, pow-succ'}
 use native.Mathlib.Omega.{arith}
 use mathlib.Core.Path.{_≡_, refl, sym, ap, ap₂, _∙_, subst}
 use mathlib.Core.Logic.{_⊎_, inl, inr}
-use mathlib.Core.Bool.{Bool, true, false, not, cond, _&&_, false≢true}
+use mathlib.Core.Bool.{Bool, true, false, not, _&&_, false≢true}
 use mathlib.Core.List.{List, [], _∷_}
 use lib.Dec.{leb, ltb, eqb}
 use lib.ListN.{length, getD, take, drop, length-take}
 use lib.Seq.{take-nil, take-all}
-use borrow.Author.Tests.{ltb-true, ltb-false, leb-true, leb-false, eqb-true, eqb-false, ne-eqb, not-true, le-leb}
+use borrow.Author.Tests.{ltb-true, ltb-false, leb-true, leb-false, eqb-false, ne-eqb, not-true, le-leb}
 use Rattle.counts.specs.Lists.{every, extend}
 use Rattle.counts.proofs.Lists.{and-left, and-right, decided}
 use Rattle.listing.specs.Limits.{lineLimit, wordLimit, signedLimit, inputLimit}
 use Rattle.listing.specs.Line.{space, lineFeed, minus, digit}
-use Rattle.listing.specs.Input.{isDigit, isDecimal, decimalValue, isUnsigned, isSigned, fields, lines, isFirstLine, isWellFormed, Input, malformed, given, inputOf}
+use Rattle.listing.specs.Input.{isDigit, isDecimal, decimalValue, isUnsigned, isSigned, fields, lines, isFirstLine, isWellFormed, malformed, inputOf}
 use Rattle.listing.specs.Answers.{firstPart}
-use Rattle.listing.proofs.Parts.{parts, first-at, first-more, first-le, first-take, parts-one, parts-more}
+use Rattle.listing.proofs.Numbers.{signed-tests}
+use Rattle.listing.proofs.Parts.{parts, first-at, first-more, first-le, parts-one, parts-more}
 use Rattle.listing.proofs.Lines.{inputFrom, input-from, some-part}
 
 -- ---- the parts of the first n bytes
@@ -212,23 +213,16 @@ length-unsigned l e =
     let v : decimalValue 0 l < wordLimit = ltb-true (decimalValue 0 l) wordLimit (and-right (isDecimal l) (ltb (decimalValue 0 l) wordLimit) e) in
     length-number l (and-left (isDecimal l) (ltb (decimalValue 0 l) wordLimit) e) (omega arith)
 
-length-signed : (l : List ℕ) → isSigned l ≡ true → length l ≤ 11
-unfolding isSigned
-length-signed [] e = omega arith
-length-signed (b ∷ l) e = go (eqb b minus) refl
+length-threshold : (l : List ℕ) → isSigned l ≡ true → length l ≤ 11
+length-threshold [] e = omega arith
+length-threshold (b ∷ l) e = go (signed-tests b l e)
   where
-    go : (t : Bool) → eqb b minus ≡ t → suc (length l) ≤ 11
-    go true t =
-        let tests : (isDecimal l && ltb 0 (decimalValue 0 l) && leb (decimalValue 0 l) signedLimit) ≡ true = rw t at e in
-        let d : isDecimal l ≡ true = and-left (isDecimal l) (ltb 0 (decimalValue 0 l)) (and-left (isDecimal l && ltb 0 (decimalValue 0 l)) (leb (decimalValue 0 l) signedLimit) tests) in
-        let v : decimalValue 0 l ≤ signedLimit = leb-true (decimalValue 0 l) signedLimit (and-right (isDecimal l && ltb 0 (decimalValue 0 l)) (leb (decimalValue 0 l) signedLimit) tests) in
-        let k : length l ≤ 10 = length-number l d (omega arith) in
-        omega arith
-    go false t =
-        let tests : (isDecimal (b ∷ l) && ltb (decimalValue 0 (b ∷ l)) signedLimit) ≡ true = rw t at e in
-        let d : isDecimal (b ∷ l) ≡ true = and-left (isDecimal (b ∷ l)) (ltb (decimalValue 0 (b ∷ l)) signedLimit) tests in
-        let v : decimalValue 0 (b ∷ l) < signedLimit = ltb-true (decimalValue 0 (b ∷ l)) signedLimit (and-right (isDecimal (b ∷ l)) (ltb (decimalValue 0 (b ∷ l)) signedLimit) tests) in
-        let k : suc (length l) ≤ 10 = length-number (b ∷ l) d (omega arith) in
+    go : ((b ≡ minus) × (isDecimal l ≡ true) × (decimalValue 0 l ≤ signedLimit)) ⊎ ((isDecimal (b ∷ l) ≡ true) × (decimalValue 0 (b ∷ l) < signedLimit))
+        → suc (length l) ≤ 11
+    go (inl t) = let v : decimalValue 0 l ≤ signedLimit = t .2 in let k : length l ≤ 10 = length-number l (t .1) (omega arith) in omega arith
+    go (inr t) =
+        let v : decimalValue 0 (b ∷ l) < signedLimit = t .1 in
+        let k : suc (length l) ≤ 10 = length-number (b ∷ l) (t .0) (omega arith) in
         omega arith
 
 -- the bytes of the parts, with one byte more for each part
@@ -269,7 +263,7 @@ total-fields (a ∷ b ∷ c ∷ d ∷ f ∷ g ∷ []) e =
     let c₁ : length c ≤ 10 = length-unsigned c (and-right (isUnsigned a && isUnsigned b) (isUnsigned c) e₃) in
     let d₁ : length d ≤ 10 = length-unsigned d (and-right (isUnsigned a && isUnsigned b && isUnsigned c) (isUnsigned d) e₄) in
     let f₁ : length f ≤ 10 = length-unsigned f (and-right (isUnsigned a && isUnsigned b && isUnsigned c && isUnsigned d) (isUnsigned f) e₅) in
-    let g₁ : length g ≤ 11 = length-signed g (and-right (isUnsigned a && isUnsigned b && isUnsigned c && isUnsigned d && isUnsigned f) (isSigned g) e) in
+    let g₁ : length g ≤ 11 = length-threshold g (and-right (isUnsigned a && isUnsigned b && isUnsigned c && isUnsigned d && isUnsigned f) (isSigned g) e) in
     omega arith
 total-fields (a ∷ b ∷ c ∷ d ∷ f ∷ g ∷ h ∷ fs) e =
     let six : eqb (length (a ∷ b ∷ c ∷ d ∷ f ∷ g ∷ h ∷ fs)) 6 ≡ false = ne-eqb (length (a ∷ b ∷ c ∷ d ∷ f ∷ g ∷ h ∷ fs)) 6 (λ q. omega arith) in

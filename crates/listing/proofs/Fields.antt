@@ -2,7 +2,7 @@
 -- Assumes nothing.
 use Prim.Native.Nat.{ℕ, zero, suc, _+_, _-_, _≤_, _<_}
 use native.Mathlib.Omega.{arith}
-use mathlib.Core.Path.{_≡_, refl, sym, ap, ap₂, _∙_}
+use mathlib.Core.Path.{_≡_, refl, sym, ap, _∙_}
 use mathlib.Core.Logic.{_⊎_, inl, inr}
 use mathlib.Core.Bool.{Bool, true, false, cond, not, _&&_}
 use mathlib.Core.List.{List, [], _∷_, _++_}
@@ -10,20 +10,19 @@ use lib.Dec.{ltb, leb, eqb}
 use lib.ListN.{length, getD, drop, length-drop}
 use lib.Seq.{drop-drop}
 use lib.IntN.{ℤ}
-use borrow.Author.Tests.{ltb-true, ltb-false, leb-true, leb-false, eqb-true, eq-eqb, ne-eqb}
-use Rattle.counts.specs.Lists.{every, extend}
+use borrow.Author.Tests.{ltb-true, ltb-false, leb-true, ne-eqb}
+use Rattle.counts.specs.Lists.{every}
 use Rattle.counts.proofs.Lists.{and-left, and-right, decided}
 use Rattle.listing.specs.Limits.{signedLimit}
 use Rattle.listing.specs.Line.{space, minus, digit}
 use Rattle.listing.specs.Input.{isDigit, isDecimal, decimalValue, isUnsigned, isSigned, signedValue, fields, isFirstLine, settingsOf}
-use Rattle.listing.specs.Answers.{firstPart, fieldOf, thresholdOf, answerOf, firstLineOf}
-use Rattle.listing.specs.declared.input.Field.{Field}
+use Rattle.listing.specs.Answers.{firstPart, fieldOf, thresholdOf, firstLineOf}
 use Rattle.listing.specs.declared.input.Field.the-variants.{Malformed as noField, Given as field}
 use Rattle.listing.specs.declared.input.Threshold.{Threshold}
 use Rattle.listing.specs.declared.input.Threshold.the-variants.{Malformed as noSigned, Value as signedNumber}
 use Rattle.listing.specs.declared.input.FirstLine.{FirstLine}
 use Rattle.listing.specs.declared.input.FirstLine.the-variants.{Malformed as noFirstLine, Given as firstLine}
-use Rattle.listing.proofs.Numbers.{after-cond}
+use Rattle.listing.proofs.Numbers.{after-cond, signed-tests}
 use Rattle.listing.proofs.Parts.{parts, first-more, parts-one, parts-more, first-le}
 
 cond-same : {A : Type 0} (b : Bool) (x : A) → cond b x x ≡ x
@@ -168,19 +167,16 @@ decimal-digits (b ∷ []) e = rw e
 decimal-digits (b ∷ x ∷ l) e = and-right (not (eqb b (digit 0))) (every isDigit (b ∷ x ∷ l)) e
 
 signed-whole : (l : List ℕ) → isSigned l ≡ true → length (firstPart space l) ≡ length l
-unfolding isSigned firstPart
+unfolding firstPart
 signed-whole [] e = refl
-signed-whole (b ∷ l) e = go (eqb b minus) refl
+signed-whole (b ∷ l) e = go (signed-tests b l e)
   where
-    go : (t : Bool) → eqb b minus ≡ t → length (firstPart space (b ∷ l)) ≡ suc (length l)
-    go true t =
-        let tests : (isDecimal l && ltb 0 (decimalValue 0 l) && leb (decimalValue 0 l) signedLimit) ≡ true = rw t at e in
-        let d : isDecimal l ≡ true = and-left (isDecimal l) (ltb 0 (decimalValue 0 l)) (and-left (isDecimal l && ltb 0 (decimalValue 0 l)) (leb (decimalValue 0 l) signedLimit) tests) in
-        let is : b ≡ 45 = eqb-true b minus t in
-        ap length (first-more space b l (ne-eqb b space (λ q. omega arith))) ∙ ap suc (digits-whole l (decimal-digits l d))
-    go false t =
-        let tests : (isDecimal (b ∷ l) && ltb (decimalValue 0 (b ∷ l)) signedLimit) ≡ true = rw t at e in
-        digits-whole (b ∷ l) (decimal-digits (b ∷ l) (and-left (isDecimal (b ∷ l)) (ltb (decimalValue 0 (b ∷ l)) signedLimit) tests))
+    go : ((b ≡ minus) × (isDecimal l ≡ true) × (decimalValue 0 l ≤ signedLimit)) ⊎ ((isDecimal (b ∷ l) ≡ true) × (decimalValue 0 (b ∷ l) < signedLimit))
+        → length (firstPart space (b ∷ l)) ≡ suc (length l)
+    go (inl t) =
+        let is : b ≡ minus = t .0 in
+        ap length (first-more space b l (ne-eqb b space (λ q. omega arith))) ∙ ap suc (digits-whole l (decimal-digits l (t .1)))
+    go (inr t) = digits-whole (b ∷ l) (decimal-digits (b ∷ l) (t .0))
 
 more-than-one : (ns p : List ℕ) (l : List ℕ) → lastField ns (p ∷ parts space l) ≡ noFirstLine
 more-than-one ns p [] = refl

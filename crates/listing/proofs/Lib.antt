@@ -1,8 +1,10 @@
--- Laws that this crate's proofs and the crates above cite.
+-- Laws of buffers, numbers in decimal and the input, which the crates above cite, and examples that compute.
+pub mod Compute
+pub mod Cases
 pub mod Buffers
 pub mod Decimal
-pub mod Enough
+pub mod Parts
+pub mod Numbers
 pub mod Fields
 pub mod Lines
-pub mod Numbers
-pub mod Parts
+pub mod Enough

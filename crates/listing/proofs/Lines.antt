@@ -1,17 +1,17 @@
 -- Laws of the input: what it is from its lines, and that its first bytes decide.
 -- Assumes nothing.
-use Prim.Native.Nat.{ℕ, zero, suc, _+_, _-_, _≤_, _<_}
+use Prim.Native.Nat.{ℕ, _+_, _-_, _≤_, _<_}
 use native.Mathlib.Omega.{arith}
-use mathlib.Core.Path.{_≡_, refl, sym, ap, ap₂, _∙_}
-use mathlib.Core.Bool.{Bool, true, false, cond, _&&_}
-use mathlib.Core.List.{List, [], _∷_, _++_}
-use lib.Dec.{leb, eqb}
+use mathlib.Core.Path.{_≡_, refl, sym, ap, _∙_}
+use mathlib.Core.Bool.{Bool, true, false, cond}
+use mathlib.Core.List.{List, [], _∷_}
+use lib.Dec.{eqb}
 use lib.ListN.{length, getD, take, drop}
 use borrow.Author.Tests.{le-leb, lt-leb}
 use Rattle.listing.specs.Limits.{lineLimit}
 use Rattle.listing.specs.Input.{fields, lines, isFirstLine, isWellFormed, settingsOf, Input, malformed, given, inputOf}
 use Rattle.listing.specs.Line.{lineFeed}
-use Rattle.listing.specs.Answers.{firstPart, part, answerOf, firstLineOf}
+use Rattle.listing.specs.Answers.{firstPart, answerOf, firstLineOf}
 use Rattle.listing.specs.declared.input.FirstLine.{FirstLine}
 use Rattle.listing.specs.declared.input.FirstLine.the-variants.{Malformed as noFirstLine, Given as firstLine}
 use Rattle.listing.proofs.Buffers.{part-to-end}

@@ -3,15 +3,16 @@
 use Prim.Native.Nat.{ℕ, zero, suc, _+_, _-_, _*_, _^_, _≤_, _<_}
 use native.Mathlib.Omega.{arith}
 use mathlib.Core.Path.{_≡_, refl, sym, ap, _∙_}
+use mathlib.Core.Logic.{_⊎_, inl, inr}
 use mathlib.Core.Bool.{Bool, true, false, cond, _&&_}
 use mathlib.Core.List.{List, [], _∷_}
 use lib.Dec.{leb, ltb, eqb, leb·zero, leb·suc-suc}
 use lib.ListN.{length, getD, drop}
 use lib.IntN.{pos, negℤ}
-use lib.Seq.{drop-cons}
-use borrow.Author.Tests.{lt-ltb, le-ltb, le-leb, lt-leb, leb-true, eq-eqb, ne-eqb}
+use borrow.Author.Tests.{lt-ltb, le-ltb, le-leb, lt-leb, leb-true, ltb-true, eqb-true, eq-eqb, ne-eqb}
 use Rattle.counts.specs.Lists.{every}
-use Rattle.counts.proofs.Lists.{and-right}
+use Rattle.counts.proofs.Lists.{and-left, and-right}
+use Rattle.listing.specs.Limits.{signedLimit}
 use Rattle.listing.specs.Line.{space, minus, digit}
 use Rattle.listing.specs.Input.{isDigit, isDecimal, decimalValue, isUnsigned, isSigned, signedValue}
 use Rattle.listing.specs.Answers.{firstPart, digitsOf, numberOf, fieldOf, thresholdOf}
@@ -97,6 +98,28 @@ module _ (limit : ℕ) where
   number-zero [] e some h = absurd (some refl)
   number-zero (b ∷ []) e some h = rw (e, leb·zero limit)
   number-zero (b ∷ x ∷ l) e some h = absurd (omega arith)
+
+-- ---- a signed number is a minus and a number, or a number
+
+pub signed-tests : (b : ℕ) (l : List ℕ) → isSigned (b ∷ l) ≡ true
+    → ((b ≡ minus) × (isDecimal l ≡ true) × (decimalValue 0 l ≤ signedLimit)) ⊎ ((isDecimal (b ∷ l) ≡ true) × (decimalValue 0 (b ∷ l) < signedLimit))
+unfolding isSigned
+signed-tests b l e = go (eqb b minus) refl
+  where
+    go : (t : Bool) → eqb b minus ≡ t
+        → ((b ≡ minus) × (isDecimal l ≡ true) × (decimalValue 0 l ≤ signedLimit)) ⊎ ((isDecimal (b ∷ l) ≡ true) × (decimalValue 0 (b ∷ l) < signedLimit))
+    go true t =
+        let v : ℕ = decimalValue 0 l in
+        let tests : (isDecimal l && ltb 0 v && leb v signedLimit) ≡ true = rw t at e in
+        inl (
+          eqb-true b minus t,
+          and-left (isDecimal l) (ltb 0 v) (and-left (isDecimal l && ltb 0 v) (leb v signedLimit) tests),
+          leb-true v signedLimit (and-right (isDecimal l && ltb 0 v) (leb v signedLimit) tests),
+        )
+    go false t =
+        let v : ℕ = decimalValue 0 (b ∷ l) in
+        let tests : (isDecimal (b ∷ l) && ltb v signedLimit) ≡ true = rw t at e in
+        inr (and-left (isDecimal (b ∷ l)) (ltb v signedLimit) tests, ltb-true v signedLimit (and-right (isDecimal (b ∷ l)) (ltb v signedLimit) tests))
 
 -- ---- what is made of a number that was read
 

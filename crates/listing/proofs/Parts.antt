@@ -1,15 +1,14 @@
 -- Laws of the parts between separators: the first part is what stands before the first separator, the rest are the parts of what stands
 -- behind it. Lines and fields are both read by them. Assumes nothing.
-use Prim.Native.Nat.{ℕ, zero, suc, _+_, _-_, _≤_, _<_}
+use Prim.Native.Nat.{ℕ, suc, _+_, _-_, _≤_, _<_}
 use native.Mathlib.Omega.{arith}
 use mathlib.Core.Path.{_≡_, refl, sym, ap, ap₂, _∙_}
-use mathlib.Core.Bool.{Bool, true, false, cond}
-use mathlib.Core.List.{List, [], _∷_, _++_}
+use mathlib.Core.Bool.{Bool, true, false}
+use mathlib.Core.List.{List, [], _∷_}
 use lib.Dec.{eqb}
 use lib.ListN.{length, getD, take, drop, length-drop}
 use lib.Seq.{drop-drop}
-use borrow.Author.Tests.{eq-eqb, ne-eqb}
-use Rattle.counts.specs.Lists.{every, extend, partsBetween}
+use Rattle.counts.specs.Lists.{extend, partsBetween}
 use Rattle.listing.specs.Answers.{firstPart}
 use Rattle.listing.proofs.Buffers.{part-to-end}
 

@@ -6,7 +6,6 @@ use mathlib.Core.Bool.{cond, _&&_}
 use mathlib.Core.List.{List, []}
 use lib.Dec.{leb, ltb, eqb}
 use lib.ListN.{length, getD, take, drop}
-use lib.IntN.{ℤ}
 use Rattle.counts.specs.Lists.{every, partsBetween}
 use Rattle.listing.specs.Limits.{lineLimit}
 use Rattle.listing.specs.Line.{space}

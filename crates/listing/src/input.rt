@@ -1,19 +1,15 @@
 // Reading the three lines of standard input: `k w c u v threshold`, the text line and the read line.
 // Assumes nothing.
+use crate::LINE_FEED;
+use crate::MINUS;
+use crate::SPACE;
+use crate::ZERO;
 ghost use mathlib.Core.Path.{_≡_};
 ghost use Prim.Native.Nat.{_≤_, _^_};
 ghost use lib.ListN.{length};
 ghost use lib.IntN.{pos, negℤ};
 ghost use Rattle.listing.specs.Input.{fields};
 ghost use Rattle.listing.specs.Answers.{firstPart, digitsOf, numberOf, thresholdOf, fieldOf, firstLineOf, InputRead};
-
-const SPACE: u8 = 32;
-
-const LINE_FEED: u8 = 10;
-
-const MINUS: u8 = 45;
-
-const ZERO: u8 = 48;
 
 const NINE: u8 = 57;
 

@@ -1,5 +1,9 @@
 // Writers of bytes, of numbers and of the printed line into a lent buffer. Each writes all or nothing.
 // Assumes nothing.
+use crate::LINE_FEED;
+use crate::MINUS;
+use crate::SPACE;
+use crate::ZERO;
 ghost use mathlib.Core.Path.{_≡_};
 ghost use mathlib.Core.Bool.{false};
 ghost use mathlib.Core.List.{[], _∷_};
@@ -9,14 +13,6 @@ ghost use lib.IntN.{pos, natAbs};
 ghost use lib.Signed.{leZ};
 ghost use Rattle.listing.specs.Line.{decimal, signed, line};
 ghost use Rattle.listing.specs.Writing.{Written, LineWritten, fitting};
-
-const SPACE: u8 = 32;
-
-const LINE_FEED: u8 = 10;
-
-const MINUS: u8 = 45;
-
-const ZERO: u32 = 48;
 
 // Writes the bytes from an index on and answers the next index. Where they do not all fit it writes none, and the index stays.
 pub fn put_bytes(out: &mut [u8], at: usize, bytes: &[u8]) -> usize
@@ -56,11 +52,11 @@ fn write_digits(digits: &mut [u8], n: u32) -> usize
     let mut i: usize = 10;
     while 10 <= rest {
         i -= 1;
-        digits[i] = (ZERO + rest % 10) as u8;
+        digits[i] = ZERO + (rest % 10) as u8;
         rest = rest / 10;
     }
     i -= 1;
-    digits[i] = (ZERO + rest) as u8;
+    digits[i] = ZERO + rest as u8;
     i
 }
 

@@ -16,8 +16,6 @@ use Rattle.listing.specs.Limits.{lenLimit, sizeLimit}
 use Rattle.listing.specs.PerMille.{perMille, isRefused, perMilleNumber}
 use Rattle.listing.proofs.huddlewool_per_mille.Statement.{statement}
 use Rattle.listing.proofs.huddlewool_per_mille.Tie as tie
-use Rattle.listing.proofs.huddlewool_per_mille.Reads as reads
-use Rattle.listing.proofs.huddlewool_per_mille.Lts as lts
 
 returns : tie.Need-returns
 unfolding perMilleNumber isRefused

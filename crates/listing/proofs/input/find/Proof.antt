@@ -3,8 +3,8 @@
 use Prim.Native.Nat.{ℕ, suc, _+_, _-_, _≤_, _<_}
 use native.Mathlib.Numerals.{add-one}
 use native.Mathlib.Omega.{arith}
-use mathlib.Core.Path.{_≡_, refl, sym, ap, _∙_}
-use mathlib.Core.List.{List, [], _∷_}
+use mathlib.Core.Path.{_≡_, sym, ap, _∙_}
+use mathlib.Core.List.{List}
 use lib.ListN.{length, getD, drop, drop-of-length-le}
 use lib.Seq.{drop-cons}
 use borrow.Author.Tests.{eq-eqb, ne-eqb}
@@ -13,8 +13,6 @@ use Rattle.listing.specs.Answers.{firstPart}
 use Rattle.listing.proofs.Parts.{first-at, first-more}
 use Rattle.listing.proofs.input.find.Statement.{statement}
 use Rattle.listing.proofs.input.find.Tie as tie
-use Rattle.listing.proofs.input.find.Reads as reads
-use Rattle.listing.proofs.input.find.Lts as lts
 
 abbrev Inv-loop : tie.InvT-loop
 Inv-loop bytes b i₀ i = (i ≤ length bytes) × (i + length (firstPart b (drop i bytes)) ≡ length (firstPart b bytes))

@@ -11,13 +11,10 @@ use lib.Seq.{drop-cons}
 use denote.Ref.{now}
 use Rattle.listing.specs.Input.{isDigit}
 use Rattle.listing.specs.Answers.{digitsOf}
-use Rattle.listing.specs.declared.input.Number.{Number}
 use Rattle.listing.specs.declared.input.Number.the-variants.{Malformed as noNumber, Value as number}
 use Rattle.listing.proofs.Numbers.{below-digit, above-digit, is-digit, digits-bad, digits-next, digits-over, digits-end}
 use Rattle.listing.proofs.input.read_digits.Statement.{statement}
 use Rattle.listing.proofs.input.read_digits.Tie as tie
-use Rattle.listing.proofs.input.read_digits.Reads as reads
-use Rattle.listing.proofs.input.read_digits.Lts as lts
 
 abbrev Inv-loop : tie.InvT-loop
 Inv-loop bytes limit value₀ i₀ value i = (i ≤ length bytes) × (value ≤ limit) × (digitsOf limit value (drop i bytes) ≡ digitsOf limit 0 bytes)

@@ -1,7 +1,7 @@
 -- `listing::input::read_field` meets its contract: the bytes up to the first space are read as a number. Assumes nothing.
-use Prim.Native.Nat.{ℕ, _+_, _-_, _≤_, _<_}
+use Prim.Native.Nat.{ℕ, _+_, _-_, _≤_}
 use native.Mathlib.Omega.{arith}
-use mathlib.Core.Path.{_≡_, sym, ap, _∙_, subst}
+use mathlib.Core.Path.{_≡_, sym, ap, _∙_}
 use mathlib.Core.List.{List}
 use lib.ListN.{length, take, drop}
 use lib.Seq.{length-take-le}
@@ -9,19 +9,13 @@ use denote.Ref.{now}
 use Rattle.listing.specs.Line.{space}
 use Rattle.listing.specs.Answers.{firstPart, numberOf, fieldOf}
 use Rattle.listing.specs.declared.input.Number.{Number}
-use Rattle.listing.specs.declared.input.Number.the-variants.{Malformed as noNumber, Value as number}
-use Rattle.listing.specs.declared.input.Field.{Field}
-use Rattle.listing.specs.declared.input.Field.the-variants.{Malformed as noField, Given as field}
+use Rattle.listing.specs.declared.input.Field.the-variants.{Malformed as noField}
 use Rattle.listing.proofs.Buffers.{part-to-end}
 use Rattle.listing.proofs.Numbers.{asField, field-none, field-some}
 use Rattle.listing.proofs.Parts.{first-le, found-place, found-inside, found-part}
 use borrow.Author.Needs.{needs}
 use Rattle.listing.proofs.input.read_field.Statement.{statement}
 use Rattle.listing.proofs.input.read_field.Tie as tie
-use Rattle.listing.proofs.input.read_field.Reads as reads
-use Rattle.listing.proofs.input.read_field.Lts as lts
-use Rattle.listing.proofs.input.find.Reads as find-reads
-use Rattle.listing.proofs.input.read_number.Reads as read-number-reads
 
 module _ (line : List ℕ) (from n : ℕ) (inside : from ≤ length line) (found : n ≡ length (firstPart space (take (length line - from) (drop from line)))) where
   abbrev rest : List ℕ

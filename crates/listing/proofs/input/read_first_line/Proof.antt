@@ -3,29 +3,22 @@
 use Prim.Native.Nat.{ℕ, suc, _+_, _-_, _≤_, _<_}
 use native.Mathlib.Numerals.{add-one}
 use native.Mathlib.Omega.{arith}
-use mathlib.Core.Path.{_≡_, refl, sym, ap, ap₂, _∙_, subst}
+use mathlib.Core.Path.{_≡_, refl, sym, ap, _∙_}
 use mathlib.Core.List.{List, [], _∷_, _++_}
-use lib.ListN.{length, getD, set, take, drop, length-set}
+use lib.ListN.{length, set, take, drop, length-set}
 use lib.Seq.{take-suc-set, take-all}
 use mir.Facts.{toZ-ofZ}
 use borrow.Author.Needs.{needs, sfits-of}
 use denote.Ref.{now}
 use Rattle.listing.specs.Input.{fields}
 use Rattle.listing.specs.Answers.{fieldOf, thresholdOf, firstLineOf}
-use Rattle.listing.specs.declared.input.Field.{Field}
 use Rattle.listing.specs.declared.input.Field.the-variants.{Malformed as noField, Given as field}
 use Rattle.listing.specs.declared.input.Threshold.{Threshold}
-use Rattle.listing.specs.declared.input.Threshold.the-variants.{Malformed as noSigned, Value as signedNumber}
-use Rattle.listing.specs.declared.input.FirstLine.{FirstLine}
-use Rattle.listing.specs.declared.input.FirstLine.the-variants.{Malformed as noFirstLine, Given as firstLine}
+use Rattle.listing.specs.declared.input.FirstLine.the-variants.{Malformed as noFirstLine}
 use Rattle.listing.proofs.Buffers.{part-to-end}
 use Rattle.listing.proofs.Fields.{made, left, left-all, left-field, next-inside, left-malformed, asFirstLine, left-threshold}
 use Rattle.listing.proofs.input.read_first_line.Statement.{statement}
 use Rattle.listing.proofs.input.read_first_line.Tie as tie
-use Rattle.listing.proofs.input.read_first_line.Reads as reads
-use Rattle.listing.proofs.input.read_first_line.Lts as lts
-use Rattle.listing.proofs.input.read_field.Reads as read-field-reads
-use Rattle.listing.proofs.input.read_signed.Reads as read-signed-reads
 
 abbrev Inv-loop : tie.InvT-loop
 Inv-loop line numbers₀ at₀ i₀ numbers at i = (i ≤ 5) × (at ≤ length line) × (length numbers ≡ 5) × (left (5 - i) (take i numbers) (fields (drop at line)) ≡ firstLineOf (fields line))

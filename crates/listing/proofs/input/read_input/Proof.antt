@@ -1,30 +1,23 @@
 -- `listing::input::read_input` meets its contract: the lines found are the first three of the bytes' lines. Assumes nothing.
-use Prim.Native.Nat.{ℕ, suc, _+_, _-_, _≤_, _<_}
+use Prim.Native.Nat.{ℕ, _+_, _-_, _≤_}
 use native.Mathlib.Omega.{arith}
-use mathlib.Core.Path.{_≡_, refl, sym, ap, _∙_, subst}
+use mathlib.Core.Path.{_≡_, sym, ap, _∙_}
 use mathlib.Core.List.{List, [], _∷_}
-use lib.ListN.{length, getD, take, drop, length-drop}
+use lib.ListN.{length, take, drop, length-drop}
 use lib.Seq.{length-take-le}
 use lib.IntN.{ℤ}
 use mir.Facts.{toZ-ofZ}
 use denote.Ref.{now}
-use Rattle.listing.specs.Limits.{lineLimit}
 use Rattle.listing.specs.Line.{lineFeed}
-use Rattle.listing.specs.Input.{lines, fields, Input, malformed, given, inputOf}
-use Rattle.listing.specs.Answers.{firstPart, firstLineOf, part, requestInput, LinesInside, Inside, InputRead}
+use Rattle.listing.specs.Input.{lines, malformed, given, inputOf}
+use Rattle.listing.specs.Answers.{part, InputRead}
 use Rattle.listing.specs.declared.input.FirstLine.{FirstLine}
-use Rattle.listing.specs.declared.input.FirstLine.the-variants.{Malformed as noFirstLine, Given as firstLine}
-use Rattle.listing.specs.declared.input.Request.{Request}
-use Rattle.listing.specs.declared.input.Request.the-variants.{Malformed as noRequest, Given as request}
+use Rattle.listing.specs.declared.input.Request.the-variants.{Malformed as noRequest}
 use Rattle.listing.proofs.Parts.{parts, found-inside, found-end, found-more}
 use Rattle.listing.proofs.Lines.{inputFrom, input-from, asInput, few-lines, long-text, long-read, by-first-line, some-part, first-inside, first-end, first-more}
 use borrow.Author.Needs.{needs, sfits-of}
 use Rattle.listing.proofs.input.read_input.Statement.{statement}
 use Rattle.listing.proofs.input.read_input.Tie as tie
-use Rattle.listing.proofs.input.read_input.Reads as reads
-use Rattle.listing.proofs.input.read_input.Lts as lts
-use Rattle.listing.proofs.input.find.Reads as find-reads
-use Rattle.listing.proofs.input.read_first_line.Reads as read-first-line-reads
 
 -- a refusal, from the lines
 refused : (bytes : List ℕ) {ls : List (List ℕ)} → lines bytes ≡ ls → inputFrom ls ≡ malformed → InputRead bytes noRequest

@@ -2,10 +2,9 @@
 -- Assumes nothing.
 use Prim.Native.Nat.{ℕ, _-_, _^_, _≤_, _<_}
 use native.Mathlib.Omega.{arith}
-use mathlib.Core.Path.{_≡_, refl, sym, ap, _∙_}
+use mathlib.Core.Path.{_≡_, sym, ap, _∙_}
 use mathlib.Core.Bool.{Bool, cond}
 use mathlib.Core.List.{List}
-use lib.Dec.{eqb}
 use lib.ListN.{length, getD, take, drop}
 use lib.IntN.{pos, negℤ}
 use mir.Syntax.{w32}
@@ -15,18 +14,13 @@ use denote.Ref.{now}
 use Rattle.listing.specs.Line.{minus}
 use Rattle.listing.specs.Answers.{numberOf, thresholdOf}
 use Rattle.listing.specs.declared.input.Number.{Number}
-use Rattle.listing.specs.declared.input.Number.the-variants.{Malformed as noNumber, Value as number}
-use Rattle.listing.specs.declared.input.Threshold.{Threshold}
+use Rattle.listing.specs.declared.input.Number.the-variants.{Value as number}
 use Rattle.listing.specs.declared.input.Threshold.the-variants.{Malformed as noSigned, Value as signedNumber}
 use Rattle.listing.proofs.Buffers.{part-to-end}
 use Rattle.listing.proofs.Numbers.{number-le, asNegative, asPositive, threshold-none, threshold-minus, threshold-plain}
 use borrow.Author.Needs.{needs, sfits-of}
 use Rattle.listing.proofs.input.read_signed.Statement.{statement}
 use Rattle.listing.proofs.input.read_signed.Tie as tie
-use Rattle.listing.proofs.input.read_signed.Reads as reads
-use Rattle.listing.proofs.input.read_signed.Lts as lts
-use Rattle.listing.proofs.input.negative.Reads as negative-reads
-use Rattle.listing.proofs.input.read_number.Reads as read-number-reads
 
 -- what the number read behind a minus makes
 module _ (l : List ℕ) (some : length l ≡ 0 → ⊥) (first : getD l 0 0 ≡ minus) {read : Number} (is : read ≡ numberOf (2 ^ 31) (take (length l - 1) (drop 1 l))) where

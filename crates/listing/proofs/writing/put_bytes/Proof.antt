@@ -13,8 +13,6 @@ use Rattle.listing.specs.Writing.{overFrom, Written}
 use Rattle.listing.proofs.Buffers.{kept-behind, kept-short, wrote}
 use Rattle.listing.proofs.writing.put_bytes.Statement.{statement}
 use Rattle.listing.proofs.writing.put_bytes.Tie as tie
-use Rattle.listing.proofs.writing.put_bytes.Reads as reads
-use Rattle.listing.proofs.writing.put_bytes.Lts as lts
 
 abbrev Inv-loop : tie.InvT-loop
 Inv-loop out₀ at bytes j₀ out j = (j ≤ length bytes) × (length out ≡ length out₀) × (out ≡ paste out₀ at bytes j)

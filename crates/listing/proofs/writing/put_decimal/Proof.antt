@@ -1,46 +1,34 @@
 -- `listing::writing::put_decimal` meets its contract: what it passes to `put_bytes` are the digits. Assumes nothing.
 use Prim.Native.Nat.{_≤_}
 use native.Mathlib.Omega.{arith}
-use mathlib.Core.Path.{_≡_, _∙_}
+use mathlib.Core.Path.{_∙_}
 use lib.ListN.{length}
 use borrow.Author.Needs.{needs}
 use Rattle.listing.proofs.Buffers.{same-bytes, part-to-end}
 use Rattle.listing.proofs.writing.put_decimal.Statement.{statement}
 use Rattle.listing.proofs.writing.put_decimal.Tie as tie
-use Rattle.listing.proofs.writing.put_decimal.Reads as reads
-use Rattle.listing.proofs.writing.put_decimal.Lts as lts
-use Rattle.listing.proofs.writing.put_bytes.Reads as put-bytes-reads
-use Rattle.listing.proofs.writing.write_digits.Reads as write-digits-reads
 
--- src/writing.rt:72:29
 slice-aggregate-write-digits : tie.Need-slice-aggregate-write-digits
 slice-aggregate-write-digits c = search needs
 
--- src/writing.rt:72:9
 write-digits-requires : tie.Need-write-digits-requires
 write-digits-requires c κs = search needs
 
--- src/writing.rt:73:24
 sub-put-bytes : tie.Need-sub-put-bytes
 sub-put-bytes c = search needs
 
--- src/writing.rt:73:24
 part-put-bytes-start : tie.Need-part-put-bytes-start
 part-put-bytes-start c = search needs
 
--- src/writing.rt:73:24
 part-put-bytes-end : tie.Need-part-put-bytes-end
 part-put-bytes-end c = search needs
 
--- src/writing.rt:73:5
 put-bytes-requires : tie.Need-put-bytes-requires
 put-bytes-requires c κs = search needs
 
--- src/writing.rt:68:1
 same-length : tie.Need-same-length
 same-length c = search needs
 
--- src/writing.rt:68:1
 returns : tie.Need-returns
 returns c =
     let at-digits = c .before .before .before .before .before .before .before in

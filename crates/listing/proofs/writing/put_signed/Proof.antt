@@ -1,8 +1,8 @@
 -- `listing::writing::put_signed` meets its contract: what it passes on are the digits, with the minus in front of those of a number below 0.
 -- Assumes nothing.
-use Prim.Native.Nat.{ℕ, suc, _-_, _≤_, _<_}
+use Prim.Native.Nat.{ℕ, _-_, _≤_}
 use native.Mathlib.Omega.{arith}
-use mathlib.Core.Path.{_≡_, refl, sym, ap, _∙_, subst}
+use mathlib.Core.Path.{_≡_, refl, ap, _∙_}
 use mathlib.Core.Bool.{true, false, false≢true}
 use mathlib.Core.List.{List, [], _∷_, _++_, append-nil}
 use lib.Dec.{T, leb·zero}
@@ -18,12 +18,6 @@ use Rattle.listing.proofs.Buffers.{same-bytes, part-to-end, drop-set}
 use borrow.Author.Needs.{needs}
 use Rattle.listing.proofs.writing.put_signed.Statement.{statement}
 use Rattle.listing.proofs.writing.put_signed.Tie as tie
-use Rattle.listing.proofs.writing.put_signed.Reads as reads
-use Rattle.listing.proofs.writing.put_signed.Lts as lts
-use Rattle.listing.proofs.writing.magnitude.Reads as magnitude-reads
-use Rattle.listing.proofs.writing.put_bytes.Reads as put-bytes-reads
-use Rattle.listing.proofs.writing.put_decimal.Reads as put-decimal-reads
-use Rattle.listing.proofs.writing.write_digits.Reads as write-digits-reads
 
 -- a number from 0 on
 module _ (z : ℤ) (fits : SFits w32 z) (above : leZ (pos 0) (toZ w32 (ofZ w32 z)) ≡ true) where
@@ -64,69 +58,53 @@ module _ (z : ℤ) (fits : SFits w32 z) (below : leZ (pos 0) (toZ w32 (ofZ w32 z
 sized : (d : List ℕ) (from : ℕ) → length d ≡ 10 → 11 ≤ length (set (0 ∷ (d ++ [])) from minus)
 sized d from long = let longer : length (d ++ []) ≡ 10 = ap length (append-nil d) ∙ long in simp length-set (omega arith)
 
--- src/writing.rt:89:37
 cast-put-decimal : tie.Need-cast-put-decimal
 cast-put-decimal c = let at-start = c .before .before .before in cast-fits (at-start .args .z) (at-start .fits .z) (c .before .if1 .taken)
 
--- src/writing.rt:89:9
 put-decimal-requires : tie.Need-put-decimal-requires
 put-decimal-requires c κs = search needs
 
--- src/writing.rt:89:9
 same-length : tie.Need-same-length
 same-length c = search needs
 
--- src/writing.rt:89:9
 returns : tie.Need-returns
 returns c =
     let at-start = c .before .before .before .before .before .before in
     same-bytes (digits-are (at-start .args .z) (at-start .fits .z) (c .before .before .before .before .if1 .taken)) (c .before .before .put-decimal .ensures)
 
--- src/writing.rt:92:29
 sub-write-digits : tie.Need-sub-write-digits
 sub-write-digits c = search needs
 
--- src/writing.rt:92:29
 part-digits-start : tie.Need-part-digits-start
 part-digits-start c = search needs
 
--- src/writing.rt:92:29
 part-digits-end : tie.Need-part-digits-end
 part-digits-end c = search needs
 
--- src/writing.rt:92:47
 magnitude-requires : tie.Need-magnitude-requires
 magnitude-requires c κs = search needs
 
--- src/writing.rt:92:9
 write-digits-requires : tie.Need-write-digits-requires
 write-digits-requires c κs = search needs
 
--- src/writing.rt:93:5
 array-write-digits : tie.Need-array-write-digits
 array-write-digits c = search needs
 
--- src/writing.rt:94:24
 sub-put-bytes : tie.Need-sub-put-bytes
 sub-put-bytes c = search needs
 
--- src/writing.rt:94:24
 part-put-bytes-start : tie.Need-part-put-bytes-start
 part-put-bytes-start c = search needs
 
--- src/writing.rt:94:24
 part-put-bytes-end : tie.Need-part-put-bytes-end
 part-put-bytes-end c = let at-digits = c .before .before .before in sized (at-digits .write-digits .last .0) (at-digits .write-digits .result) (at-digits .write-digits .kept .0)
 
--- src/writing.rt:94:5
 put-bytes-requires : tie.Need-put-bytes-requires
 put-bytes-requires c κs = search needs
 
--- src/writing.rt:85:1
 same-length-2 : tie.Need-same-length-2
 same-length-2 c = search needs
 
--- src/writing.rt:85:1
 returns-2 : tie.Need-returns-2
 returns-2 c =
     let at-digits = c .before .before .before .before .before .before .before in

@@ -1,19 +1,16 @@
 -- `listing::writing::write_digits` meets its contract. The loop's invariant: the digits of what is left, in front of those written, are the
 -- digits of n; what is left has at most i digits. Assumes nothing.
 use Prim.Native.Nat.{ℕ, zero, suc, _+_, _-_, _/_, _%_, _^_, _≤_, _<_}
-use native.Mathlib.Nat.{div-lt-self}
 use native.Mathlib.Omega.{arith}
-use mathlib.Core.Path.{_≡_, refl, sym, ap, _∙_, subst}
-use mathlib.Core.List.{List, _∷_}
-use lib.ListN.{length, getD, set, drop, length-set, drop-of-length-le}
+use mathlib.Core.Path.{_≡_, sym, ap, _∙_, subst}
+use mathlib.Core.List.{List}
+use lib.ListN.{length, set, drop, length-set, drop-of-length-le}
 use denote.Ref.{now}
-use Rattle.listing.specs.Line.{digit, digitsBefore, decimal}
+use Rattle.listing.specs.Line.{digitsBefore, decimal}
 use Rattle.listing.proofs.Buffers.{drop-set}
 use Rattle.listing.proofs.Decimal.{digits-last, digits-more, tenth}
 use Rattle.listing.proofs.writing.write_digits.Statement.{statement}
 use Rattle.listing.proofs.writing.write_digits.Tie as tie
-use Rattle.listing.proofs.writing.write_digits.Reads as reads
-use Rattle.listing.proofs.writing.write_digits.Lts as lts
 
 abbrev Left : List ℕ → ℕ → ℕ → ℕ → Type 0
 Left digits n rest i = (1 ≤ i) × (i ≤ 10) × (rest < 10 ^ i) × (digitsBefore i rest (drop i digits) ≡ decimal n)
@@ -58,11 +55,11 @@ loop-holds c = (c .pre, (omega arith, omega arith, omega arith, none (now (c .ar
 sub-i : tie.Need-sub-i Inv-loop μ-loop
 sub-i c = omega arith
 
-add-digits : tie.Need-add-digits Inv-loop μ-loop
-add-digits c = omega arith
-
 cast-digits : tie.Need-cast-digits Inv-loop μ-loop
 cast-digits c = omega arith
+
+add-digits : tie.Need-add-digits Inv-loop μ-loop
+add-digits c = omega arith
 
 slice-write-digits : tie.Need-slice-write-digits Inv-loop μ-loop
 slice-write-digits c = omega arith
@@ -76,11 +73,11 @@ loop-again c = (simp length-set (c .before .loop .inv .0), more (c .before .loop
 sub-i-2 : tie.Need-sub-i-2 Inv-loop μ-loop
 sub-i-2 c = omega arith
 
-add-digits-2 : tie.Need-add-digits-2 Inv-loop μ-loop
-add-digits-2 c = omega arith
-
 cast-digits-2 : tie.Need-cast-digits-2 Inv-loop μ-loop
 cast-digits-2 c = omega arith
+
+add-digits-2 : tie.Need-add-digits-2 Inv-loop μ-loop
+add-digits-2 c = omega arith
 
 slice-write-digits-2 : tie.Need-slice-write-digits-2 Inv-loop μ-loop
 slice-write-digits-2 c = omega arith
@@ -99,14 +96,14 @@ write-digits-spec =
     μ-loop
     loop-holds
     sub-i
-    add-digits
     cast-digits
+    add-digits
     slice-write-digits
     loop-less
     loop-again
     sub-i-2
-    add-digits-2
     cast-digits-2
+    add-digits-2
     slice-write-digits-2
     same-length
     returns)
