@@ -6,6 +6,7 @@ ghost use Rattle.counts.specs.Lists.{sum};
 ghost use Rattle.counts.specs.Replies.{over, after};
 ghost use Rattle.counts.specs.Keys.{zeros};
 ghost use Rattle.counts.specs.Marks.{marksOf};
+ghost use Rattle.sketch.specs.Limits.{textLimit};
 ghost use Rattle.sketch.specs.Kmers.{codes as codesOf, positions as positionsOf, entries};
 ghost use Rattle.sketch.specs.Sketch.{roomFor};
 ghost use Rattle.strike.specs.Strike.{struck, strikeReply, strikeCodes, strikePositions};
@@ -76,7 +77,7 @@ fn strike_marked(
     codes_out: &mut [u32],
     positions_out: &mut [u32],
 ) -> Struck
-    requires { ⌜ (length (now codes) ≡ length (now positions)) × (length (now codes) ≤ 65535) × (length (now marks) ≡ length (now codes)) ⌝ }
+    requires { ⌜ (length (now codes) ≡ length (now positions)) × (length (now codes) ≤ textLimit) × (length (now marks) ≡ length (now codes)) ⌝ }
     ensures { λ r. ⌜ replyOf r ≡ roomFor (length (struck c (entries (now (codes .entry)) (now (positions .entry))))) (length (now («codes_out» .entry))) (length (now («positions_out» .entry))) ⌝ }
     ensures { λ _. ⌜ now (marks .exit) ≡ marksOf (now (codes .entry)) c ⌝ }
     ensures { λ r. ⌜ now («codes_out» .exit) ≡ after (replyOf r) (codesOf (struck c (entries (now (codes .entry)) (now (positions .entry))))) (now («codes_out» .entry)) ⌝ }
