@@ -32,12 +32,12 @@ module _ (k w : ℕ) (cs ps : List ℕ) (room : ℕ) where
   pub save-accepts : Savable k w cs ps room → saveReply k w cs ps room ≡ accepted (length (stored k w (entries cs ps)) ∷ [])
   unfolding saveReply
   save-accepts s =
-      rw
-      ( s .k-inside
-      , s .w-inside
-      , eq-eqb (length cs) (length ps) (s .paired)
-      , s .entries-good
-      , le-ltb room (length (stored k w (entries cs ps))) (s .enough)
+      rw (
+        s .k-inside,
+        s .w-inside,
+        eq-eqb (length cs) (length ps) (s .paired),
+        s .entries-good,
+        le-ltb room (length (stored k w (entries cs ps))) (s .enough),
       )
 
   pub save-accepted : {answer : List ℕ} → saveReply k w cs ps room ≡ accepted answer → Savable k w cs ps room × (answer ≡ length (stored k w (entries cs ps)) ∷ [])
@@ -50,15 +50,15 @@ module _ (k w : ℕ) (cs ps : List ℕ) (room : ℕ) where
       let p₂ = past (outside 1 wLimit w) 2 [] (p₁ .1) in
       let p₃ = past (unequal || bad-entries) 5 [] (p₂ .1) in
       let p₄ = past (ltb room size) 4 (size ∷ []) (p₃ .1) in
-      let fits = or-neither unequal bad-entries (p₃ .0) in
-      ( record {
+      let fits = or-neither unequal bad-entries (p₃ .0) in (
+        record {
           k-inside = p₁ .0;
           w-inside = p₂ .0;
           paired = eqb-true (length cs) (length ps) (not-false (eqb (length cs) (length ps)) (fits .0));
           entries-good = not-false (storable k 0 (entries cs ps)) (fits .1);
-          enough = ltb-false room size (p₄ .0)
-        }
-      , cc
+          enough = ltb-false room size (p₄ .0);
+        },
+        cc,
       )
 
 -- the buffer after a save that is accepted
@@ -96,14 +96,14 @@ module _ (words : List ℕ) (codeRoom positionRoom : ℕ) where
           let short = ltb codeRoom (length es) || ltb positionRoom (length es) in
           let answered : cond short (refused 4 (length es ∷ [])) (accepted (storeK words ∷ storeW words ∷ length es ∷ [])) ≡ accepted answer = rw h at e in
           let p = past short 4 (length es ∷ []) answered in
-          let rooms = or-neither (ltb codeRoom (length es)) (ltb positionRoom (length es)) (p .0) in
-          ( es
-          , record {
+          let rooms = or-neither (ltb codeRoom (length es)) (ltb positionRoom (length es)) (p .0) in (
+            es,
+            record {
               judged = h;
               code-enough = ltb-false codeRoom (length es) (rooms .0);
-              position-enough = ltb-false positionRoom (length es) (rooms .1)
-            }
-          , cc
+              position-enough = ltb-false positionRoom (length es) (rooms .1);
+            },
+            cc,
           )
 
 -- the buffers after a load that is accepted

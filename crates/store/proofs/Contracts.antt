@@ -41,15 +41,15 @@ stored-loads k w cs ps room s codes₀ positions₀ c-room p-room =
     let loads : Loads (stored k w es) es (length codes₀) (length positions₀) = record {
       judged = judge-stored k w es (ks .0) (ks .1) (ws .0) (ws .1) (s .entries-good);
       code-enough = omega arith;
-      position-enough = omega arith
+      position-enough = omega arith;
     } in
     let fills = load-fills (stored k w es) codes₀ positions₀ es loads in
     record {
       reply =
-        load-accepts (stored k w es) (length codes₀) (length positions₀) es loads
-        ∙ rw (storeK-stored k w (ks .1) es, storeW-stored k w (ks .1) es, size);
+          load-accepts (stored k w es) (length codes₀) (length positions₀) es loads
+          ∙ rw (storeK-stored k w (ks .1) es, storeW-stored k w (ks .1) es, size);
       codes-back = fills .0 ∙ ap (λ (l : List ℕ). over l codes₀) (codes-entries cs ps (s .paired));
-      positions-back = fills .1 ∙ ap (λ (l : List ℕ). over l positions₀) (positions-entries cs ps (s .paired))
+      positions-back = fills .1 ∙ ap (λ (l : List ℕ). over l positions₀) (positions-entries cs ps (s .paired));
     }
 
 -- the n words that save wrote load as what was saved, into any buffers with room
@@ -65,8 +65,8 @@ saved-loads k w cs ps words₀ n e codes₀ positions₀ c-room p-room =
     let s = save-accepted k w cs ps (length words₀) e in
     let size : length text ≡ n = cc in
     let written : text ≡ take n (saveWords k w cs ps words₀) =
-        sym (ap (take n) (save-fills k w cs ps words₀ (s .0)) ∙ take-at text (drop (length text) words₀) n size)
-      in
+    sym (ap (take n) (save-fills k w cs ps words₀ (s .0)) ∙ take-at text (drop (length text) words₀) n size)
+    in
     subst (λ (l : List ℕ). LoadsAs l codes₀ positions₀ k w cs ps) written (stored-loads k w cs ps (length words₀) (s .0) codes₀ positions₀ c-room p-room)
 
 -- ---- only such stores load
@@ -86,11 +86,11 @@ store-saves words es store words₀ room =
       w-inside = inside 1 wLimit w (store .w-low) (store .w-high);
       paired = codes-positions es;
       entries-good = rw (entries-same es) (store .entries-good);
-      enough = rw text room
+      enough = rw text room;
     } in
     record {
       reply = save-accepts k w (codes es) (positions es) (length words₀) savable ∙ ap (λ (l : List ℕ). accepted (length l ∷ [])) text;
-      words-back = save-fills k w (codes es) (positions es) words₀ savable ∙ ap (λ (l : List ℕ). over l words₀) text
+      words-back = save-fills k w (codes es) (positions es) words₀ savable ∙ ap (λ (l : List ℕ). over l words₀) text;
     }
 
 -- whatever loads, save writes of what load wrote
@@ -125,14 +125,14 @@ pub sketch-saves :
 sketch-saves k w letters k-low k-high w-low w-high few room enough =
     let es = sketch k w letters in
     let size : length (stored k w (entries (codes es) (positions es))) ≡ 2 * length es + 2 =
-        ap (λ (l : List Entry). length (stored k w l)) (entries-same es) ∙ length-stored k w es
-      in
+    ap (λ (l : List Entry). length (stored k w l)) (entries-same es) ∙ length-stored k w es
+    in
     save-accepts k w (codes es) (positions es) room
     (record {
       k-inside = inside 1 kLimit k k-low k-high;
       w-inside = inside 1 wLimit w w-low w-high;
       paired = codes-positions es;
       entries-good = rw (entries-same es) (sketch-storable k w letters k-low few);
-      enough = rw size enough
+      enough = rw size enough;
     })
     ∙ ap (λ (n : ℕ). accepted (n ∷ [])) size

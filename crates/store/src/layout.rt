@@ -3,29 +3,17 @@ ghost use mathlib.Core.Path.{_≡_};
 ghost use mathlib.Core.Bool.{_&&_};
 ghost use Prim.Native.Nat.{_^_, _≤_, _<_};
 ghost use lib.Dec.{eqb, ltb};
-ghost use Rattle.sketch.specs.Limits.{kLimit, wLimit, outside};
+ghost use Rattle.sketch.specs.Limits.{kLimit, wLimit};
 ghost use Rattle.store.specs.Words.{kindUnit, kind, content, word, header, headerK, headerW, isHeader, isPosition, isPositionWord};
-
-// k is 1 to 15.
-pub(crate) const K_LIMIT: u32 = 15;
-
-// w is 1 to 64.
-pub(crate) const W_LIMIT: u32 = 64;
-
-// Positions are below the greatest number of letters.
-const LETTER_LIMIT: u32 = 1048576;
 
 // What the kind multiplies: bit 30.
 const KIND_UNIT: u32 = 1073741824;
 
-pub(crate) fn outside(low: u32, high: u32, n: u32) -> bool
-    ensures { λ r. ⌜ r ≡ outside low high n ⌝ }
-{
-    if n < low {
-        return true;
-    }
-    high < n
-}
+// What w multiplies in word 0: bit 5.
+const W_UNIT: u32 = 32;
+
+// Word 0 has no bit from 12 on.
+const HEADER_LIMIT: u32 = 4096;
 
 pub(crate) fn kind(x: u32) -> u32
     ensures { λ r. ⌜ r ≡ kind x ⌝ }
@@ -50,19 +38,19 @@ pub(crate) fn header(k: u32, w: u32) -> u32
     requires { ⌜ (k ≤ kLimit) × (w ≤ wLimit) ⌝ }
     ensures { λ r. ⌜ r ≡ header k w ⌝ }
 {
-    w * 32 + k
+    w * W_UNIT + k
 }
 
 pub(crate) fn header_k(x: u32) -> u32
     ensures { λ r. ⌜ r ≡ headerK x ⌝ }
 {
-    x % 32
+    x % W_UNIT
 }
 
 pub(crate) fn header_w(x: u32) -> u32
     ensures { λ r. ⌜ r ≡ headerW x ⌝ }
 {
-    x / 32
+    x / W_UNIT
 }
 
 pub(crate) fn is_header(x: u32) -> bool
@@ -71,13 +59,13 @@ pub(crate) fn is_header(x: u32) -> bool
     if kind(x) != 0 {
         return false;
     }
-    if 4096 <= content(x) {
+    if HEADER_LIMIT <= content(x) {
         return false;
     }
-    if outside(1, K_LIMIT, header_k(x)) {
+    if sketch::outside(1, sketch::K_LIMIT, header_k(x)) {
         return false;
     }
-    !outside(1, W_LIMIT, header_w(x))
+    !sketch::outside(1, sketch::W_LIMIT, header_w(x))
 }
 
 // 4^k, which codes are below.
@@ -103,6 +91,12 @@ pub(crate) fn is_code_word(x: u32, limit: u32) -> bool
     content(x) < limit
 }
 
+pub(crate) fn wide(x: u32) -> usize
+    ensures { λ r. ⌜ r ≡ x ⌝ }
+{
+    x as usize
+}
+
 // A position is at least `low`: one more than the position before it.
 pub(crate) fn is_position(x: u32, low: u32) -> bool
     ensures { λ r. ⌜ r ≡ isPosition low x ⌝ }
@@ -110,7 +104,7 @@ pub(crate) fn is_position(x: u32, low: u32) -> bool
     if x < low {
         return false;
     }
-    x < LETTER_LIMIT
+    wide(x) < sketch::LETTER_LIMIT
 }
 
 pub(crate) fn is_position_word(x: u32, low: u32) -> bool

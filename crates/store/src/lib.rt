@@ -3,12 +3,6 @@ mod layout;
 mod loading;
 mod saving;
 
-use layout::K_LIMIT;
-use layout::W_LIMIT;
-use layout::header_k;
-use layout::header_w;
-use layout::is_header;
-use layout::outside;
 use loading::Verdict;
 ghost use mathlib.Core.Path.{_≡_};
 ghost use lib.ListN.{length};
@@ -41,10 +35,10 @@ pub fn save(codes: &[u32], positions: &[u32], k: u32, w: u32, words: &mut [u32])
     ensures { λ r. ⌜ savedReply r ≡ saveReply k w (now (codes .entry)) (now (positions .entry)) (length (now (words .entry))) ⌝ }
     ensures { λ _. ⌜ now (words .exit) ≡ saveWords k w (now (codes .entry)) (now (positions .entry)) (now (words .entry)) ⌝ }
 {
-    if outside(1, K_LIMIT, k) {
+    if sketch::outside(1, sketch::K_LIMIT, k) {
         return Saved::BadK;
     }
-    if outside(1, W_LIMIT, w) {
+    if sketch::outside(1, sketch::W_LIMIT, w) {
         return Saved::BadW;
     }
     if codes.len() != positions.len() {
@@ -71,11 +65,11 @@ pub fn load(words: &[u32], codes: &mut [u32], positions: &mut [u32]) -> Loaded
         return Loaded::BadHeader(0);
     }
     let header = words[0];
-    if !is_header(header) {
+    if !layout::is_header(header) {
         return Loaded::BadHeader(0);
     }
-    let k = header_k(header);
-    let w = header_w(header);
+    let k = layout::header_k(header);
+    let w = layout::header_w(header);
     match loading::judge(words, k) {
         Verdict::BadWord(index) => Loaded::BadWord(index),
         Verdict::BadEnd(index) => Loaded::BadEnd(index),

@@ -1,9 +1,5 @@
 // Loading: what judging finds in the words of a store, and reading the entries of a good one.
-use crate::layout::code_limit;
-use crate::layout::content;
-use crate::layout::is_code_word;
-use crate::layout::is_position_word;
-use crate::layout::kind;
+use crate::layout;
 ghost use mathlib.Core.Path.{_≡_};
 ghost use Prim.Native.Nat.{suc, _≤_, _<_};
 ghost use lib.ListN.{length, drop, getD};
@@ -20,18 +16,12 @@ pub(crate) enum Verdict {
     BadEnd(usize),
 }
 
-fn wide(x: u32) -> usize
-    ensures { λ r. ⌜ r ≡ x ⌝ }
-{
-    x as usize
-}
-
 // The kind 3 word at `index`, where n entries stood before it.
 fn judge_last(words: &[u32], index: usize, n: usize) -> Verdict
     requires { ⌜ index < length (now words) ⌝ }
     ensures { λ r. ⌜ verdictReply r ≡ counted n (lastWord index n (getD (now (words .entry)) index 0) (drop (suc index) (now (words .entry)))) ⌝ }
 {
-    if wide(content(words[index])) != n {
+    if layout::wide(layout::content(words[index])) != n {
         return Verdict::BadEnd(index);
     }
     let next = index + 1;
@@ -46,16 +36,16 @@ pub(crate) fn judge(words: &[u32], k: u32) -> Verdict
     requires { ⌜ (1 ≤ length (now words)) × (k ≤ kLimit) ⌝ }
     ensures { λ r. ⌜ verdictReply r ≡ counted 0 (judgeFrom k 1 0 0 (drop 1 (now (words .entry)))) ⌝ }
 {
-    let limit = code_limit(k);
+    let limit = layout::code_limit(k);
     let mut index: usize = 1;
     let mut n: usize = 0;
     let mut low: u32 = 0;
     while index < words.len() {
         let first = words[index];
-        if kind(first) == 3 {
+        if layout::kind(first) == 3 {
             return judge_last(words, index, n);
         }
-        if !is_code_word(first, limit) {
+        if !layout::is_code_word(first, limit) {
             return Verdict::BadWord(index);
         }
         let next = index + 1;
@@ -63,10 +53,10 @@ pub(crate) fn judge(words: &[u32], k: u32) -> Verdict
             return Verdict::BadEnd(next);
         }
         let second = words[next];
-        if !is_position_word(second, low) {
+        if !layout::is_position_word(second, low) {
             return Verdict::BadWord(next);
         }
-        low = content(second) + 1;
+        low = layout::content(second) + 1;
         n += 1;
         index += 2;
     }
@@ -83,8 +73,8 @@ pub(crate) fn read(words: &[u32], n: usize, codes: &mut [u32], positions: &mut [
 {
     let mut i = 0;
     while i < n {
-        codes[i] = content(words[2 * i + 1]);
-        positions[i] = content(words[2 * i + 2]);
+        codes[i] = layout::content(words[2 * i + 1]);
+        positions[i] = layout::content(words[2 * i + 2]);
         i += 1;
     }
 }

@@ -1,8 +1,5 @@
 // Saving: whether entries can be stored, and the words of their store.
-use crate::layout::code_limit;
-use crate::layout::header;
-use crate::layout::is_position;
-use crate::layout::word;
+use crate::layout;
 ghost use mathlib.Core.Path.{_≡_};
 ghost use mathlib.Core.Bool.{true};
 ghost use Prim.Native.Nat.{_+_, _*_, _≤_};
@@ -17,7 +14,7 @@ pub(crate) fn are_storable(codes: &[u32], positions: &[u32], k: u32) -> bool
     requires { ⌜ (k ≤ kLimit) × (length (now codes) ≡ length (now positions)) ⌝ }
     ensures { λ r. ⌜ r ≡ storable k 0 (entries (now (codes .entry)) (now (positions .entry))) ⌝ }
 {
-    let limit = code_limit(k);
+    let limit = layout::code_limit(k);
     let mut low = 0;
     let mut i = 0;
     while i < codes.len() {
@@ -25,7 +22,7 @@ pub(crate) fn are_storable(codes: &[u32], positions: &[u32], k: u32) -> bool
             return false;
         }
         let position = positions[i];
-        if !is_position(position, low) {
+        if !layout::is_position(position, low) {
             return false;
         }
         low = position + 1;
@@ -42,12 +39,12 @@ pub(crate) fn write(codes: &[u32], positions: &[u32], k: u32, w: u32, words: &mu
     requires { ⌜ 2 * length (now codes) + 2 ≤ length (now words) ⌝ }
     ensures { λ _. ⌜ now (words .exit) ≡ over (stored k w (entries (now (codes .entry)) (now (positions .entry)))) (now (words .entry)) ⌝ }
 {
-    words[0] = header(k, w);
+    words[0] = layout::header(k, w);
     let mut i = 0;
     while i < codes.len() {
-        words[2 * i + 1] = word(1, codes[i]);
-        words[2 * i + 2] = word(2, positions[i]);
+        words[2 * i + 1] = layout::word(1, codes[i]);
+        words[2 * i + 2] = layout::word(2, positions[i]);
         i += 1;
     }
-    words[2 * i + 1] = word(3, i as u32);
+    words[2 * i + 1] = layout::word(3, i as u32);
 }

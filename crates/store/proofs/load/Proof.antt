@@ -175,13 +175,14 @@ returns-6 c =
     let loaded : Loads ws es (length cs) (length ps) = record {
       judged = found-entries .0;
       code-enough = rw (found-entries .1) (e .before .if3 .left);
-      position-enough = rw (found-entries .1) (ltb-false _ _ (e .if4 .left))
+      position-enough = rw (found-entries .1) (ltb-false _ _ (e .if4 .left));
     } in
-    let fills = load-fills ws cs ps es loaded in
-    (sym
-    (load-accepts ws (length cs) (length ps) es loaded
-    ∙ rw (found-entries .1, storeK-header ws some, storeW-header ws some, ← h .before .header-k .ensures, ← h .header-w .ensures)),
-    (r .read .ensures .0 ∙ sym (fills .0), r .read .ensures .1 ∙ sym (fills .1)))
+    let fills = load-fills ws cs ps es loaded in (
+      sym
+          (load-accepts ws (length cs) (length ps) es loaded
+          ∙ rw (found-entries .1, storeK-header ws some, storeW-header ws some, ← h .before .header-k .ensures, ← h .header-w .ensures)),
+      (r .read .ensures .0 ∙ sym (fills .0), r .read .ensures .1 ∙ sym (fills .1)),
+    )
 
 pub load-spec : {M : Type 1} → statement M
 load-spec =

@@ -1,5 +1,6 @@
 -- `store::layout::is_position` meets its contract: each return is one case of the definition.
 -- Assumes nothing.
+use borrow.Author.Needs.{needs}
 use borrow.Author.Tests.{le-leb, lt-leb}
 use Rattle.store.specs.Words.{isPosition}
 use Rattle.store.proofs.layout.is_position.Statement.{statement}
@@ -9,9 +10,12 @@ returns : tie.Need-returns
 unfolding isPosition
 returns c = simp (lt-leb _ _ (c .if1 .taken))
 
+wide-requires : tie.Need-wide-requires
+wide-requires c κs = search needs
+
 returns-2 : tie.Need-returns-2
 unfolding isPosition
-returns-2 c = simp (le-leb _ _ (c .if1 .left))
+returns-2 c = simp (c .wide .ensures, le-leb _ _ (c .before .if1 .left))
 
 pub is-position-spec : {M : Type 1} → statement M
-is-position-spec = tie.close (tie.spec returns returns-2)
+is-position-spec = tie.close (tie.spec returns wide-requires returns-2)
