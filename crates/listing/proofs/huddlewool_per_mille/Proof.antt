@@ -36,11 +36,15 @@ returns-4 c =
       le-ltb _ _ (c .before .before .before .if1 .left),
       le-ltb _ _ (c .before .before .if2 .left),
       le-ltb _ _ (c .before .if3 .left),
-      lt-ltb _ _ (c .if4 .taken),
+      lt-ltb sizeLimit (c .before .before .before .before .args .size) (omega arith),
     )
 
 add-if5 : tie.Need-add-if5
 add-if5 c = search needs
+
+-- whatever the divisor
+small : (m size divisor : ℕ) → m ≤ size → size ≤ sizeLimit → 1000 * m / divisor < 2 ^ 31
+small m size divisor in-size size-fits = let q : 1000 * m / divisor ≤ 1000 * m = div-le-self (1000 * m) divisor in omega arith
 
 module _ (m len size : ℕ) (in-len : m ≤ len) (in-size : m ≤ size) (len-fits : len ≤ lenLimit) (size-fits : size ≤ sizeLimit) where
   both-zero : len + size ≡ 0 → negsuc 15 ≡ perMilleNumber m len size
@@ -48,9 +52,6 @@ module _ (m len size : ℕ) (in-len : m ≤ len) (in-size : m ≤ size) (len-fit
   both-zero e =
       simp
       (le-ltb _ _ in-len, le-ltb _ _ in-size, le-ltb _ _ len-fits, le-ltb _ _ size-fits, eq-eqb len 0 (omega arith), eq-eqb size 0 (omega arith))
-
-  small : 1000 * m / (len + size - m) < 2 ^ 31
-  small = let q : 1000 * m / (len + size - m) ≤ 1000 * m = div-le-self (1000 * m) (len + size - m) in omega arith
 
   not-both-zero : (len + size ≡ 0 → ⊥) → (eqb len 0 && eqb size 0) ≡ false
   not-both-zero ne = go (eqb len 0) refl
@@ -62,7 +63,7 @@ module _ (m len size : ℕ) (in-len : m ≤ len) (in-size : m ≤ size) (len-fit
   quotient : (len + size ≡ 0 → ⊥) → toZ w32 (1000 * m / (len + size - m)) ≡ perMilleNumber m len size
   unfolding perMilleNumber isRefused perMille
   quotient ne =
-      toZ-pos w32 small
+      toZ-pos w32 (small m size (len + size - m) in-size size-fits)
       ∙ simp (le-ltb _ _ in-len, le-ltb _ _ in-size, le-ltb _ _ len-fits, le-ltb _ _ size-fits, not-both-zero ne)
 
 returns-5 : tie.Need-returns-5
@@ -81,7 +82,7 @@ div-result : tie.Need-div-result
 div-result c = search needs
 
 cast-result : tie.Need-cast-result
-cast-result c = record { sfits = small _ _ _ (c .before .before .before .before .if1 .left) (c .before .before .before .if2 .left) (c .before .before .if3 .left) (c .before .if4 .left) }
+cast-result c = record { sfits = small _ _ _ (c .before .before .before .if2 .left) (c .before .if4 .left) }
 
 returns-6 : tie.Need-returns-6
 returns-6 c = quotient _ _ _ (c .before .before .before .before .if1 .left) (c .before .before .before .if2 .left) (c .before .before .if3 .left) (c .before .if4 .left) (c .if5 .left)

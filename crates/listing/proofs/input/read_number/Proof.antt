@@ -1,6 +1,8 @@
 -- `listing::input::read_number` meets its contract: no byte, a first digit other than 0, a zero with more behind it, a zero alone.
 -- Assumes nothing.
 use mathlib.Core.Path.{sym, _∙_}
+use native.Mathlib.Omega.{arith}
+use denote.Ref.{now}
 use borrow.Author.Needs.{needs}
 use Rattle.listing.proofs.Numbers.{number-none, number-lead, number-long, number-zero}
 use Rattle.listing.proofs.input.read_number.Statement.{statement}
@@ -19,7 +21,7 @@ returns-2 : tie.Need-returns-2
 returns-2 c = c .read-digits .ensures ∙ sym (number-lead _ _ (c .before .before .before .if1 .left) (c .before .if2 .taken))
 
 returns-3 : tie.Need-returns-3
-returns-3 c = sym (number-long _ _ (c .before .if2 .left) (c .if3 .taken))
+returns-3 c = let args = c .before .before .before .before .before .args in sym (number-long (args .limit) (now (args .bytes)) (c .before .if2 .left) (omega arith))
 
 returns-4 : tie.Need-returns-4
 returns-4 c = sym (number-zero _ _ (c .before .if2 .left) (c .before .before .before .if1 .left) (c .if3 .left))

@@ -8,6 +8,7 @@ use mathlib.Core.List.{List, [], _∷_, _++_}
 use lib.ListN.{length, set, take, drop}
 use lib.Seq.{set-split, append-snoc}
 use borrow.Author.Needs.{needs}
+use denote.Ref.{now}
 use Rattle.listing.specs.Writing.{overFrom, Written}
 use Rattle.listing.proofs.Buffers.{kept-behind, wrote}
 use Rattle.listing.proofs.writing.put_byte.Statement.{statement}
@@ -22,7 +23,7 @@ stored b at old h =
     record { index = w .index; buffer = e ∙ w .buffer }
 
 returns : tie.Need-returns
-returns c = kept-behind _ _ _ (c .if1 .taken)
+returns c = let args = c .before .args in kept-behind (args .b ∷ []) (args .at) (now (args .out)) (omega arith)
 
 slice-write-out : tie.Need-slice-write-out
 slice-write-out c = search needs

@@ -55,8 +55,9 @@ module _ (z : ℤ) (fits : SFits w32 z) (below : leZ (pos 0) (toZ w32 (ofZ w32 z
       ∙ after-minus (toZ w32 (ofZ w32 z)) below
       ∙ ap signed (toZ-ofZ fits)
 
-sized : (d : List ℕ) (from : ℕ) → length d ≡ 10 → 11 ≤ length (set (0 ∷ (d ++ [])) from minus)
-sized d from long = let longer : length (d ++ []) ≡ 10 = ap length (append-nil d) ∙ long in simp length-set (omega arith)
+-- a store keeps the eleven bytes
+sized : (d : List ℕ) (from b : ℕ) → length d ≡ 10 → 11 ≤ length (set (0 ∷ (d ++ [])) from b)
+sized d from b long = let longer : length (d ++ []) ≡ 10 = ap length (append-nil d) ∙ long in simp length-set (omega arith)
 
 cast-put-decimal : tie.Need-cast-put-decimal
 cast-put-decimal c = let at-start = c .before .before .before in cast-fits (at-start .args .z) (at-start .fits .z) (c .before .if1 .taken)
@@ -97,7 +98,7 @@ part-put-bytes-start : tie.Need-part-put-bytes-start
 part-put-bytes-start c = search needs
 
 part-put-bytes-end : tie.Need-part-put-bytes-end
-part-put-bytes-end c = let at-digits = c .before .before .before in sized (at-digits .write-digits .last .0) (at-digits .write-digits .result) (at-digits .write-digits .kept .0)
+part-put-bytes-end c = let at-digits = c .before .before .before in sized (at-digits .write-digits .last .0) (at-digits .write-digits .result) _ (at-digits .write-digits .kept .0)
 
 put-bytes-requires : tie.Need-put-bytes-requires
 put-bytes-requires c κs = search needs
