@@ -4,15 +4,15 @@ use Prim.Native.Nat.{ℕ, _≤_, _<_, min}
 use native.Mathlib.Nat.{le-trans, min-le-left, min-le-right}
 use native.Mathlib.Omega.{arith}
 use mathlib.Core.Path.{_≡_, refl, sym, ap, _∙_}
-use mathlib.Core.Bool.{Bool, true, false, cond, _||_}
+use mathlib.Core.Bool.{Bool, true, false}
 use mathlib.Core.List.{List, [], _∷_}
 use lib.Dec.{ltb}
 use lib.ListN.{length}
 use borrow.Author.Tests.{ltb-false, lt-ltb, le-ltb}
-use Rattle.counts.specs.Replies.{Reply, accepted, refused, after, over}
+use Rattle.counts.specs.Replies.{Reply, accepted, refused, over}
 use Rattle.counts.proofs.Lists.{or-neither}
 use Rattle.sketch.specs.Limits.{kLimit, wLimit, letterLimit, outside}
-use Rattle.sketch.specs.Kmers.{Entry, codes, positions}
+use Rattle.sketch.specs.Kmers.{codes, positions}
 use Rattle.sketch.specs.Sketch.{sketch, checkedLetters, roomFor, sketchReply, sketchCodes, sketchPositions}
 use Rattle.sketch.specs.Scan.{Written, wrote, written}
 use Rattle.sketch.specs.Answers.{replyOf, Sketches}

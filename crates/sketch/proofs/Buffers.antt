@@ -1,18 +1,16 @@
 -- What stands in the buffers once all entries are put: nothing new where there is no room, and all of them where there is enough.
 -- Assumes nothing.
-use Prim.Native.Nat.{ℕ, zero, suc, _+_, _≤_, _<_, zero-le}
+use Prim.Native.Nat.{ℕ, suc, _+_, _≤_, _<_, zero-le}
 use native.Mathlib.Nat.{add-zero, zero-add}
 use native.Mathlib.Omega.{arith}
 use mathlib.Core.Path.{_≡_, refl, sym, ap, ap₂, _∙_}
-use mathlib.Core.Bool.{Bool, true, false}
 use mathlib.Core.List.{List, [], _∷_, _++_, append-nil, append-assoc}
-use lib.Dec.{ltb}
 use lib.ListN.{length, take, drop, set, length-set, length-map, take-append-drop}
 use lib.Seq.{take-suc-set, drop-set-lt}
 use borrow.Author.Tests.{lt-ltb, le-ltb}
 use Rattle.counts.specs.Replies.{over}
 use Rattle.sketch.specs.Kmers.{Entry, codes, positions}
-use Rattle.sketch.specs.Scan.{Written, wrote, placed, written}
+use Rattle.sketch.specs.Scan.{wrote, placed, written}
 
 -- the buffer with these words put one after the other, from n on
 pour : ℕ → ℕ → List ℕ → List ℕ → List ℕ

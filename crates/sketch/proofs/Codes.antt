@@ -1,7 +1,7 @@
 -- Codes by position: a code is below 4^k, and the next one comes of it by one more digit behind and the first one cut off.
 -- Assumes nothing.
 use Prim.Native.Nat.{ℕ, zero, suc, _+_, _*_, _-_, _/_, _%_, _^_, _≤_, _<_}
-use native.Mathlib.Nat.{pow-succ', lt-of-lt-of-le, mul-le-mul-right, one-mul, zero-add, zero-mul, mod-lt, mod-eq-of-lt, div-add-mod, add-mul-mod-self-left, one-le-pow, lt-of-le-of-lt, pow-le-pow-right}
+use native.Mathlib.Nat.{pow-succ', lt-of-lt-of-le, mul-le-mul-right, one-mul, mod-lt, mod-eq-of-lt, div-add-mod, add-mul-mod-self-left, one-le-pow, lt-of-le-of-lt, pow-le-pow-right}
 use native.Mathlib.Omega.{arith}
 use mathlib.Core.Path.{_≡_, refl, sym, ap, _∙_, subst}
 use mathlib.Core.Bool.{Bool, true, false, cond}

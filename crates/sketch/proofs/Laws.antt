@@ -1,21 +1,19 @@
 -- Laws of sketches for the crates above: codes and positions go together, positions rise strictly and stay within the letters, and
 -- each code is that of the k-mer at its position.
 -- Assumes nothing.
-use Prim.Native.Nat.{ℕ, zero, suc, _+_, _*_, _-_, _^_, _≤_, _<_, zero-le}
-use native.Mathlib.Nat.{le-refl, le-trans, le-suc, zero-lt-suc, pow-succ', pow-le-pow-right, lt-of-lt-of-le, mul-le-mul-right, one-mul}
+use Prim.Native.Nat.{ℕ, zero, suc, _+_, _-_, _^_, _≤_, _<_, zero-le}
+use native.Mathlib.Nat.{le-refl, le-trans, le-suc, zero-lt-suc, pow-le-pow-right, lt-of-lt-of-le}
 use native.Mathlib.Omega.{arith}
 use mathlib.Core.Path.{_≡_, refl, sym, ap, _∙_, subst}
 use mathlib.Core.Logic.{_⊎_, inl, inr}
-use mathlib.Core.Bool.{Bool, true, false, cond}
+use mathlib.Core.Bool.{Bool, true, false}
 use mathlib.Core.List.{List, [], _∷_, _++_, map, List·Memᴰ, List·Memᴰ·head, List·Memᴰ·tail, List·Memᴰ·append-cases, List·Memᴰ·cases-cons, List·Memᴰ·not-nil}
-use lib.Dec.{eqb, lit<}
-use lib.ListN.{length, getD, take, drop, length-map, length-drop}
-use lib.Seq.{length-take-le, getD-take, getD-drop}
+use lib.ListN.{length, getD, take, drop, length-map}
 use Rattle.counts.specs.Lists.{keep, addIf, range, any}
-use Rattle.counts.proofs.Lists.{keep-mem, map-append, clash}
+use Rattle.counts.proofs.Lists.{keep-mem, map-append}
 use Rattle.sketch.specs.Limits.{kLimit}
-use Rattle.sketch.specs.Letters.{value, isForeign, eitherCase}
-use Rattle.sketch.specs.Kmers.{Entry, codeOf, digits, codes, positions, entries, rank, rankModulus}
+use Rattle.sketch.specs.Letters.{value, isForeign}
+use Rattle.sketch.specs.Kmers.{Entry, codeOf, codes, positions, entries, rank, rankModulus}
 use Rattle.sketch.specs.Windows.{picks, windows}
 use Rattle.sketch.specs.Sketch.{sketch, pickedBy}
 use Rattle.sketch.specs.Places.{entryAt, codeAt, span, spanSketch, runEnd, sketchFrom}

@@ -1,19 +1,17 @@
 -- One window more: what is put, and what a run has still to pick, before and after it.
 -- Assumes nothing.
-use Prim.Native.Nat.{ℕ, zero, suc, _+_, _*_, _-_, _%_, _^_, _≤_, _<_}
+use Prim.Native.Nat.{ℕ, suc, _+_, _*_, _-_, _%_, _^_, _≤_, _<_}
 use native.Mathlib.Nat.{le-refl}
 use native.Mathlib.Numerals.{add-one}
 use native.Mathlib.Omega.{arith}
-use mathlib.Core.Path.{_≡_, refl, sym, ap, _∙_, subst, subst₂}
-use mathlib.Core.Bool.{Bool, true, false}
+use mathlib.Core.Path.{_≡_, sym, ap, _∙_, subst, subst₂}
 use mathlib.Core.List.{List, [], _∷_, _++_}
-use lib.Dec.{ltb}
 use lib.ListN.{length, getD, set}
 use Rattle.sketch.specs.Limits.{kLimit}
 use Rattle.sketch.specs.Letters.{value}
 use Rattle.sketch.specs.Kmers.{Entry, rank}
 use Rattle.sketch.specs.Places.{codeAt, rankAt, runEnd, spanSketch, sketchFrom}
-use Rattle.sketch.specs.Scan.{unrank, ringSize, ringAt, Scanned, HasRoom, IsLowest, pickedFrom, IsPut, written, placed, SameEnd}
+use Rattle.sketch.specs.Scan.{unrank, ringSize, ringAt, Scanned, HasRoom, IsLowest, pickedFrom, IsPut, written, SameEnd}
 use Rattle.sketch.proofs.Ranks.{unrank-rank}
 use Rattle.sketch.proofs.Runs.{sketchFrom-run}
 use Rattle.sketch.proofs.Steps.{pushed}

@@ -5,13 +5,13 @@ use Prim.Native.Nat.{ℕ, zero, suc, _+_, _-_, _≤_, _<_}
 use native.Mathlib.Nat.{le-refl, le-antisymm, le-trans, le-of-eq, le-of-lt, le-step, lt-of-lt-of-le, lt-of-le-of-lt, lt-trans, ne-of-lt, ne-of-gt, add-zero, add-sub-cancel-left}
 use native.Mathlib.Omega.{arith}
 use mathlib.Core.Path.{_≡_, refl, sym, ap, ap₂, _∙_, subst}
-use mathlib.Core.Bool.{Bool, true, false, cond, _||_}
+use mathlib.Core.Bool.{Bool, true, false, cond}
 use mathlib.Core.List.{List, [], _∷_, map}
 use lib.Dec.{leb, ltb, eqb}
 use lib.ListN.{length, take, length-map}
 use borrow.Author.Tests.{ltb-true, ltb-false, eqb-true, eqb-false, leb-true, leb-false, le-leb, lt-leb, lt-ltb, le-ltb, eq-eqb, ne-eqb}
 use Rattle.counts.specs.Lists.{addIf, keep, any, range}
-use Rattle.counts.proofs.Lists.{length-range, or-left, decided}
+use Rattle.counts.proofs.Lists.{length-range, or-left}
 use Rattle.sketch.specs.Kmers.{Entry, rank}
 use Rattle.sketch.specs.Windows.{neighbours, windows, lower, lowest, picks}
 use Rattle.sketch.specs.Sketch.{pickedBy}

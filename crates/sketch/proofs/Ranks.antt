@@ -1,33 +1,9 @@
 -- Unequal codes have unequal ranks: multiplying by an odd number is one to one modulo any power of two.
 -- Assumes nothing.
 use Prim.Native.Nat.{ℕ, zero, suc, _+_, _*_, _-_, _/_, _%_, _^_, _≤_, _<_, _∣_}
-use native.Mathlib.Nat.{
-  pow-succ',
-  mul-assoc,
-  mul-mod-right,
-  mul-mod-left,
-  mod-one,
-  mod-eq-of-lt,
-  mod-eq-zero-of-dvd,
-  dvd-of-mod-eq-zero,
-  dvd-of-mul-dvd-mul-left,
-  mul-dvd-mul-left,
-  dvd-trans,
-  dvd-mul-right,
-  div-add-mod,
-  mul-sub,
-  mul-comm,
-  zero-lt-suc,
-  le-antisymm,
-  add-mul-mod-self-left,
-}
+use native.Mathlib.Nat.{pow-succ', mul-assoc, mul-mod-right, mod-one, mod-eq-of-lt, mod-eq-zero-of-dvd, dvd-of-mod-eq-zero, dvd-of-mul-dvd-mul-left, mul-dvd-mul-left, dvd-trans, dvd-mul-right, div-add-mod, mul-sub, mul-comm, zero-lt-suc, le-antisymm, add-mul-mod-self-left}
 use native.Mathlib.Omega.{arith}
 use mathlib.Core.Path.{_≡_, refl, sym, ap, _∙_, subst}
-use mathlib.Core.Logic.{_⊎_, inl, inr}
-use lib.Dec.{ltb, leb}
-use borrow.Author.Tests.{leb-true, leb-false}
-use Rattle.counts.proofs.Lists.{decided}
-use mathlib.Core.Bool.{Bool, true, false}
 use Rattle.sketch.specs.Kmers.{rank, multiplier, rankModulus}
 use Rattle.sketch.specs.Scan.{inverse, unrank}
 

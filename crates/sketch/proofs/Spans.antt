@@ -2,16 +2,16 @@
 -- Assumes nothing.
 use Prim.Native.Nat.{ℕ, zero, suc, _+_, _-_, _≤_, _<_}
 use native.Mathlib.Omega.{arith}
-use mathlib.Core.Path.{_≡_, refl, sym, ap, ap₂, _∙_}
+use mathlib.Core.Path.{_≡_, refl, sym, ap, _∙_}
 use mathlib.Core.Bool.{Bool, true, false}
 use mathlib.Core.List.{List, [], _∷_, map}
 use lib.Dec.{leb}
 use lib.ListN.{length, getD, take, drop, length-take, length-drop, length-map}
 use lib.Seq.{drop-cons, take-take}
-use borrow.Author.Tests.{le-leb, lt-leb, leb-true, leb-false}
+use borrow.Author.Tests.{leb-true, leb-false}
 use Rattle.counts.specs.Lists.{range, addIf}
 use Rattle.sketch.specs.Letters.{value}
-use Rattle.sketch.specs.Kmers.{Entry, codeOf, kmers}
+use Rattle.sketch.specs.Kmers.{codeOf, kmers}
 use Rattle.sketch.specs.Places.{codeAt, entryAt, span}
 
 -- the first k-mer of a span and the others

@@ -1,16 +1,18 @@
 -- One letter more: what a scan knows of the run's end, of the code in hand and of the ring.
 -- Assumes nothing.
-use Prim.Native.Nat.{ℕ, zero, suc, _+_, _*_, _-_, _%_, _^_, _≤_, _<_}
+use Prim.Native.Nat.{ℕ, suc, _+_, _*_, _-_, _%_, _^_, _≤_, _<_}
 use native.Mathlib.Nat.{le-antisymm, lt-of-lt-of-le, pow-le-pow-right, mod-lt}
 use native.Mathlib.Numerals.{add-one}
 use native.Mathlib.Omega.{arith}
-use mathlib.Core.Path.{_≡_, refl, sym, ap, ap₂, _∙_, subst}
+use mathlib.Core.Path.{_≡_, refl, sym, ap, _∙_, subst}
 use mathlib.Core.Bool.{Bool, true, false, cond}
 use mathlib.Core.List.{List, [], _∷_}
-use lib.Dec.{eqb, ltb, lit<}
+use lib.Dec.{ltb, lit<}
 use lib.ListN.{length, getD, set, drop, length-set}
 use lib.Seq.{getD-drop, getD-set-same, getD-set-other}
 use borrow.Author.Count.{below-more}
+use mir.Syntax.{w64}
+use mir.Val.{Fits}
 use borrow.Author.Tests.{eq-eqb, ne-eqb, ltb-true, ltb-false}
 use Rattle.counts.proofs.Lists.{clash}
 use Rattle.sketch.specs.Limits.{kLimit}
@@ -136,3 +138,9 @@ module _ (letters : List ℕ) (from : ℕ) (in-letters : from ≤ length letters
         let there : code′ ≡ codeAt (suc last) letters at = ec ∙ ap (λ (x : ℕ). (4 * code + x) % 4 ^ suc last) ev ∙ code-next code (is .code-there) in
         let ranked : r ≡ rank (codeAt (suc last) letters at) = er ∙ ap rank there in
         (there, ranked, rw (ranked, there) (scanned-next ring first first′ code is a b))
+
+-- ---- offsets in the ring
+
+-- a place of the ring, in bytes
+pub ring-scaled : (q : ℕ) → Fits w64 (q % ringSize * 4)
+ring-scaled q = omega arith

@@ -1,5 +1,7 @@
+-- `huddlewool_count` meets its contract: the checks in 01's order, then the count as a signed number.
+-- Assumes nothing.
 use borrow.Author.Needs.{needs}
-use Prim.Native.Nat.{ℕ, _^_, _≤_, _<_}
+use Prim.Native.Nat.{_^_, _≤_, _<_}
 use native.Mathlib.Omega.{arith}
 use mathlib.Core.Path.{_≡_, sym, ap, _∙_}
 use mathlib.Core.Bool.{false}
@@ -15,12 +17,7 @@ use Rattle.sketch.proofs.Answering.{within-limits, checked-k, checked-w
 use Rattle.sketch.proofs.Laws.{sketch-length}
 use Rattle.sketch.proofs.huddlewool_count.Statement.{statement}
 use Rattle.sketch.proofs.huddlewool_count.Tie as tie
-use Rattle.sketch.proofs.huddlewool_count.Reads as reads
-use Rattle.sketch.proofs.huddlewool_count.Lts as lts
-use Rattle.sketch.proofs.entries.Reads as entries-reads
-use Rattle.sketch.proofs.outside.Reads as outside-reads
 
--- src/lib.rt:106:8
 outside-requires : tie.Need-outside-requires
 outside-requires c κs = search needs
 
@@ -44,7 +41,6 @@ small c =
     let limits = ranges (c .before) in
     omega (arith, c .entries .ensures, sketch-length (args .k) (args .w) (args .letters .now) (limits .0))
 
--- src/lib.rt:107:9
 returns : tie.Need-returns
 unfolding countReply
 returns c =
@@ -53,11 +49,9 @@ returns c =
     let rest = accepted (length (sketch (args .k) (args .w) letters) ∷ []) in
     sym (ap hostNumber (checked-k (args .k) (args .w) letters rest (sym (c .before .outside .ensures) ∙ c .if1 .taken)))
 
--- src/lib.rt:109:8
 outside-requires-2 : tie.Need-outside-requires-2
 outside-requires-2 c κs = search needs
 
--- src/lib.rt:110:9
 returns-2 : tie.Need-returns-2
 unfolding countReply
 returns-2 c =
@@ -66,7 +60,6 @@ returns-2 c =
     let rest = accepted (length (sketch (args .k) (args .w) letters) ∷ []) in
     sym (ap hostNumber (checked-w (args .k) (args .w) letters rest (sym (c .before .before .before .outside .ensures) ∙ c .before .before .if1 .left) (sym (c .before .outside2 .ensures) ∙ c .if2 .taken)))
 
--- src/lib.rt:113:9
 returns-3 : tie.Need-returns-3
 unfolding countReply
 returns-3 c =
@@ -75,15 +68,12 @@ returns-3 c =
     let rest = accepted (length (sketch (args .k) (args .w) letters) ∷ []) in
     sym (ap hostNumber (checked-many (args .k) (args .w) letters rest (sym (c .before .before .before .before .outside .ensures) ∙ c .before .before .before .if1 .left) (sym (c .before .before .outside2 .ensures) ∙ c .before .if2 .left) (c .if3 .taken)))
 
--- src/lib.rt:115:5
 entries-requires : tie.Need-entries-requires
 entries-requires c κs = ranges c
 
--- src/lib.rt:115:5
 cast-result : tie.Need-cast-result
 cast-result c = record { sfits = small c }
 
--- src/lib.rt:102:1
 returns-4 : tie.Need-returns-4
 unfolding countReply
 returns-4 c =

@@ -1,9 +1,11 @@
+-- `sketch` meets its contract: the checks in 01's order, then the scan with room for all, or the refusal.
+-- Assumes nothing.
 use borrow.Author.Needs.{needs}
 use Prim.Native.Nat.{ℕ, _≤_, min}
 use native.Mathlib.Nat.{le-trans}
 use native.Mathlib.Omega.{arith}
 use mathlib.Core.Path.{_≡_, refl, sym, ap, _∙_, subst}
-use mathlib.Core.Bool.{true, false}
+use mathlib.Core.Bool.{false}
 use mathlib.Core.List.{[], _∷_}
 use lib.ListN.{length}
 use Rattle.counts.specs.Replies.{refused}
@@ -14,14 +16,7 @@ use Rattle.sketch.proofs.Answering.{within-limits, checked-k, checked-w
 use Rattle.sketch.proofs.Laws.{sketch-length}
 use Rattle.sketch.proofs.sketch.Statement.{statement}
 use Rattle.sketch.proofs.sketch.Tie as tie
-use Rattle.sketch.proofs.sketch.Reads as reads
-use Rattle.sketch.proofs.sketch.Lts as lts
-use Rattle.sketch.proofs.entries.Reads as entries-reads
-use Rattle.sketch.proofs.lesser.Reads as lesser-reads
-use Rattle.sketch.proofs.outside.Reads as outside-reads
-use Rattle.sketch.proofs.scan.scan.Reads as scan-reads
 
--- src/lib.rt:81:8
 outside-requires : tie.Need-outside-requires
 outside-requires c κs = search needs
 
@@ -47,7 +42,6 @@ left c =
     let all = passed c in
     checked-all (args .k) (args .w) (args .letters .now) (roomFor (length (sketch (args .k) (args .w) (args .letters .now))) (length (args .codes .now)) (length (args .positions .now))) (all .0) (all .1) (all .2)
 
--- src/lib.rt:82:9
 returns : tie.Need-returns
 unfolding sketchReply
 returns c =
@@ -56,11 +50,9 @@ returns c =
     let rest = roomFor (length (sketch (args .k) (args .w) letters)) (length (args .codes .now)) (length (args .positions .now)) in
     sketches-refused (args .k) (args .w) letters (args .codes .now) (args .positions .now) BadK 1 [] refl (checked-k (args .k) (args .w) letters rest (sym (c .before .outside .ensures) ∙ c .if1 .taken))
 
--- src/lib.rt:84:8
 outside-requires-2 : tie.Need-outside-requires-2
 outside-requires-2 c κs = search needs
 
--- src/lib.rt:85:9
 returns-2 : tie.Need-returns-2
 unfolding sketchReply
 returns-2 c =
@@ -69,7 +61,6 @@ returns-2 c =
     let rest = roomFor (length (sketch (args .k) (args .w) letters)) (length (args .codes .now)) (length (args .positions .now)) in
     sketches-refused (args .k) (args .w) letters (args .codes .now) (args .positions .now) BadW 2 [] refl (checked-w (args .k) (args .w) letters rest (sym (c .before .before .before .outside .ensures) ∙ c .before .before .if1 .left) (sym (c .before .outside2 .ensures) ∙ c .if2 .taken))
 
--- src/lib.rt:88:9
 returns-3 : tie.Need-returns-3
 unfolding sketchReply
 returns-3 c =
@@ -78,23 +69,18 @@ returns-3 c =
     let rest = roomFor (length (sketch (args .k) (args .w) letters)) (length (args .codes .now)) (length (args .positions .now)) in
     sketches-refused (args .k) (args .w) letters (args .codes .now) (args .positions .now) TooManyLetters 3 [] refl (checked-many (args .k) (args .w) letters rest (sym (c .before .before .before .before .outside .ensures) ∙ c .before .before .before .if1 .left) (sym (c .before .before .outside2 .ensures) ∙ c .before .if2 .left) (c .if3 .taken))
 
--- src/lib.rt:90:9
 lesser-requires : tie.Need-lesser-requires
 lesser-requires c κs = search needs
 
--- src/lib.rt:92:34
 scan-requires : tie.Need-scan-requires
 scan-requires c κs = (ranges (c .before .before .before .before), record { for-codes = omega (arith, c .before .before .before .lesser .ensures); for-positions = omega (arith, c .before .before .before .lesser .ensures) })
 
--- src/lib.rt:92:9
 same-length : tie.Need-same-length
 same-length c = search needs
 
--- src/lib.rt:92:9
 same-length-2 : tie.Need-same-length-2
 same-length-2 c = search needs
 
--- src/lib.rt:92:9
 returns-4 : tie.Need-returns-4
 returns-4 c =
     let args = c .before .before .before .before .before .before .before .before .before .before .before .before .before .before .before .before .before .args in
@@ -108,11 +94,9 @@ returns-4 c =
     fits (omega arith) (omega arith) (call .ensures)
     (left (c .before .before .before .before .before .before .before .before .before) ∙ room-enough n (length (args .codes .now)) (length (args .positions .now)) (omega arith))
 
--- src/lib.rt:94:9
 entries-requires : tie.Need-entries-requires
 entries-requires c κs = ranges (c .before .before)
 
--- src/lib.rt:96:9
 returns-5 : tie.Need-returns-5
 returns-5 c =
     let args = c .before .before .before .before .before .before .before .before .before .before .before .before .args in
@@ -123,19 +107,15 @@ returns-5 c =
     sketches-refused (args .k) (args .w) letters (args .codes .now) (args .positions .now) (TooShort needed) 4 (needed ∷ []) refl
     (left (c .before .before .before .before) ∙ room-short n (length (args .codes .now)) (length (args .positions .now)) (omega (arith, c .if5 .taken, c .before .before .before .lesser .ensures)) ∙ ap (λ (x : ℕ). refused 4 (x ∷ [])) (sym same))
 
--- src/lib.rt:98:23
 scan-requires-2 : tie.Need-scan-requires-2
 scan-requires-2 c κs = (ranges (c .before .before .before .before .before .before), record { for-codes = omega (arith, c .before .before .before .before .before .lesser .ensures); for-positions = omega (arith, c .before .before .before .before .before .lesser .ensures) })
 
--- src/lib.rt:78:1
 same-length-3 : tie.Need-same-length-3
 same-length-3 c = search needs
 
--- src/lib.rt:78:1
 same-length-4 : tie.Need-same-length-4
 same-length-4 c = search needs
 
--- src/lib.rt:78:1
 returns-6 : tie.Need-returns-6
 returns-6 c =
     let args = c .before .before .before .before .before .before .before .before .before .before .before .before .before .before .before .before .before .before .before .args in

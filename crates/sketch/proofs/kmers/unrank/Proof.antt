@@ -1,19 +1,16 @@
+-- `kmers::unrank` meets its contract, by computing.
+-- Assumes nothing.
 use borrow.Author.Needs.{needs}
 use Rattle.sketch.specs.Scan.{unrank}
 use Rattle.sketch.proofs.kmers.unrank.Statement.{statement}
 use Rattle.sketch.proofs.kmers.unrank.Tie as tie
-use Rattle.sketch.proofs.kmers.unrank.Reads as reads
-use Rattle.sketch.proofs.kmers.unrank.Lts as lts
 
--- src/kmers.rt:24:6
 mul-result : tie.Need-mul-result
 mul-result c = search needs
 
--- src/kmers.rt:24:5
 cast-result : tie.Need-cast-result
 cast-result c = search needs
 
--- src/kmers.rt:21:1
 returns : tie.Need-returns
 unfolding unrank
 returns c = search needs

@@ -1,3 +1,5 @@
+-- `letters::table` meets its contract. The loop's invariant: each byte passed has its value in the table.
+-- Assumes nothing.
 use borrow.Author.Needs.{needs}
 use Prim.Native.Nat.{ℕ, _-_, _≤_, _<_}
 use native.Mathlib.Nat.{ne-of-lt, not-suc-le-zero}
@@ -9,9 +11,6 @@ use borrow.Author.Count.{below-more}
 use Rattle.sketch.specs.Letters.{value}
 use Rattle.sketch.proofs.letters.table.Statement.{statement}
 use Rattle.sketch.proofs.letters.table.Tie as tie
-use Rattle.sketch.proofs.letters.table.Reads as reads
-use Rattle.sketch.proofs.letters.table.Lts as lts
-use Rattle.sketch.proofs.letters.value.Reads as value-reads
 
 abbrev Inv-loop : tie.InvT-loop
 Inv-loop values₀ b₀ values b = (b ≤ 256) × (length values ≡ 256) × ((i : ℕ) → i < b → getD values i 0 ≡ value i)
@@ -19,31 +18,24 @@ Inv-loop values₀ b₀ values b = (b ≤ 256) × (length values ≡ 256) × ((i
 abbrev μ-loop : tie.MeasureT-loop
 μ-loop values₀ b₀ values b = 256 - b
 
--- src/letters.rt:30:5
 loop-holds : tie.Need-loop-holds Inv-loop μ-loop
 loop-holds c = (search needs, refl, λ i h. absurd (not-suc-le-zero h))
 
--- src/letters.rt:31:27
 cast-value : tie.Need-cast-value Inv-loop μ-loop
 cast-value c = search needs
 
--- src/letters.rt:31:21
 value-requires : tie.Need-value-requires Inv-loop μ-loop
 value-requires c κs = search needs
 
--- src/letters.rt:31:9
 array-write-values : tie.Need-array-write-values Inv-loop μ-loop
 array-write-values c = search needs
 
--- src/letters.rt:32:9
 add-b : tie.Need-add-b Inv-loop μ-loop
 add-b c = search needs
 
--- src/letters.rt:30:5
 loop-less : tie.Need-loop-less Inv-loop μ-loop
 loop-less c = search needs
 
--- src/letters.rt:30:5
 loop-again : tie.Need-loop-again Inv-loop μ-loop
 loop-again c =
     let b = c .before .before .loop .b in
@@ -58,7 +50,6 @@ loop-again c =
           (getD-set-same old b v 0 room ∙ c .value .ensures),
     )
 
--- src/letters.rt:25:1
 returns : tie.Need-returns Inv-loop μ-loop
 returns c =
     let is = c .before .loop .inv in

@@ -1,33 +1,27 @@
-use borrow.Author.Needs.{needs}
+-- `letters::value` meets its contract: each arm names the byte, and the last one that it is none of the eight.
+-- Assumes nothing.
 use mathlib.Core.Logic.{⊎-elim, inl, inr}
 use borrow.Author.Tests.{ne-eqb}
 use Rattle.sketch.specs.Letters.{value}
 use Rattle.sketch.proofs.letters.value.Statement.{statement}
 use Rattle.sketch.proofs.letters.value.Tie as tie
-use Rattle.sketch.proofs.letters.value.Reads as reads
-use Rattle.sketch.proofs.letters.value.Lts as lts
 
--- src/letters.rt:12:1
 returns : tie.Need-returns
 unfolding value
 returns c = ⊎-elim (λ h. rw h) (λ h. rw h) (c .match .keys1)
 
--- src/letters.rt:12:1
 returns-2 : tie.Need-returns-2
 unfolding value
 returns-2 c = ⊎-elim (λ h. rw h) (λ h. rw h) (c .match .keys2)
 
--- src/letters.rt:12:1
 returns-3 : tie.Need-returns-3
 unfolding value
 returns-3 c = ⊎-elim (λ h. rw h) (λ h. rw h) (c .match .keys3)
 
--- src/letters.rt:12:1
 returns-4 : tie.Need-returns-4
 unfolding value
 returns-4 c = ⊎-elim (λ h. rw h) (λ h. rw h) (c .match .keys4)
 
--- src/letters.rt:12:1
 returns-5 : tie.Need-returns-5
 unfolding value
 returns-5 c =

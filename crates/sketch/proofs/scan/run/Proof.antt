@@ -1,34 +1,21 @@
-use borrow.Author.Needs.{needs}
-use Prim.Native.Nat.{ℕ, suc, _+_, _-_, _≤_, _<_}
+-- `scan::run` meets its contract: a run has no k-mer, fewer than a window, or windows to pass.
+-- Assumes nothing.
+use Prim.Native.Nat.{_-_}
 use native.Mathlib.Omega.{arith}
-use mathlib.Core.Path.{_≡_, refl, sym, ap, _∙_, subst}
-use mathlib.Core.List.{List}
-use lib.ListN.{length}
-use Rattle.sketch.specs.Limits.{letterLimit}
+use mathlib.Core.Path.{_≡_, _∙_}
 use Rattle.sketch.specs.Places.{runEnd}
 use Rattle.sketch.proofs.Runs.{runEnd-within}
-use Rattle.sketch.proofs.Steps.{runEnd-same}
+use Rattle.sketch.proofs.Steps.{runEnd-same, ring-scaled}
 use Rattle.sketch.proofs.Passing.{ring-lowest, ring-code, run-none, run-short, run-long}
 use Rattle.sketch.proofs.scan.run.Statement.{statement}
 use Rattle.sketch.proofs.scan.run.Tie as tie
-use Rattle.sketch.proofs.scan.run.Reads as reads
-use Rattle.sketch.proofs.scan.run.Lts as lts
-use Rattle.sketch.proofs.kmers.unrank.Reads as unrank-reads
-use Rattle.sketch.proofs.windows.first_letters.Reads as first-letters-reads
-use Rattle.sketch.proofs.windows.first_window.Reads as first-window-reads
-use Rattle.sketch.proofs.windows.lowest.Reads as lowest-reads
-use Rattle.sketch.proofs.windows.pass_windows.Reads as pass-windows-reads
-use Rattle.sketch.proofs.windows.put.Reads as put-reads
 
--- src/scan.rt:29:9
 first-letters-requires : tie.Need-first-letters-requires
-first-letters-requires c κs = search needs
+first-letters-requires c κs = c .before .before .before .before .before .pre .0
 
--- src/scan.rt:31:13
 add-if1 : tie.Need-add-if1
-add-if1 c = search needs
+add-if1 c = omega (arith, c .before .before .before .before .before .before .pre .0 .in-letters, c .before .before .before .before .before .before .pre .0 .few, c .before .before .before .before .before .before .pre .0 .short)
 
--- src/scan.rt:32:9
 returns : tie.Need-returns
 returns c =
     let start = c .before .before .before .before .before .before .before in
@@ -44,7 +31,6 @@ returns c =
       put = run-none last (args .w) (args .room) letters (start .pre .1 .0 .0) from (runEnd letters from - last) (args .before) (args .codes .now) (args .positions .now) (omega (arith, c .if1 .taken));
     }
 
--- src/scan.rt:34:9
 first-window-requires : tie.Need-first-window-requires
 first-window-requires c κs =
     let start = c .before .before .before .before .before .before .before .before in
@@ -61,11 +47,9 @@ first-window-requires c κs =
       ),
     )
 
--- src/scan.rt:36:8
 add-if2 : tie.Need-add-if2
-add-if2 c = search needs
+add-if2 c = omega (arith, c .before .before .before .before .before .before .before .before .before .before .before .pre .0 .in-letters, c .before .before .before .before .before .before .before .before .before .before .before .pre .0 .few, c .before .before .before .before .before .before .before .before .before .before .before .pre .1 .0)
 
--- src/scan.rt:37:9
 pass-windows-requires : tie.Need-pass-windows-requires
 pass-windows-requires c κs =
     let start = c .before .before .before .before .before .before .before .before .before .before .before .before .before .before .before in
@@ -85,19 +69,15 @@ pass-windows-requires c κs =
       ),
     )
 
--- src/scan.rt:37:9
 same-length : tie.Need-same-length
-same-length c = search needs
+same-length c = c .before .before .before .before .before .before .pass-windows .kept .1 .1 .0 ∙ c .before .before .before .before .before .before .before .before .before .before .before .before .before .first-window .kept .1 .1 .0
 
--- src/scan.rt:37:9
 same-length-2 : tie.Need-same-length-2
-same-length-2 c = search needs
+same-length-2 c = c .before .before .before .before .before .before .pass-windows .kept .1 .1 .1 .1 .1 .1 .0
 
--- src/scan.rt:37:9
 same-length-3 : tie.Need-same-length-3
-same-length-3 c = search needs
+same-length-3 c = c .before .before .before .before .before .before .pass-windows .kept .1 .1 .1 .1 .1 .1 .1 .0
 
--- src/scan.rt:37:9
 returns-2 : tie.Need-returns-2
 returns-2 c =
     let start = c .before .before .before .before .before .before .before .before .before .before .before .before .before .before .before .before .before .before .before .before .before .before in
@@ -118,15 +98,14 @@ returns-2 c =
           (rw (same, full) at (passed .ensures .put));
     }
 
--- src/scan.rt:40:29
 add-t27 : tie.Need-add-t27
-add-t27 c = search needs
+add-t27 c =
+    let start = c .before .before .before .before .before .before .before .before .before .before .before .before .before in
+    omega (arith, c .before .before .before .before .first-window .ensures .within, runEnd-within (start .args .letters .now) (start .args .from) (start .pre .0 .in-letters), start .pre .0 .few)
 
--- src/scan.rt:40:9
 same-length-4 : tie.Need-same-length-4
-same-length-4 c = search needs
+same-length-4 c = c .before .before .before .before .first-window .kept .1 .1 .0
 
--- src/scan.rt:40:9
 returns-3 : tie.Need-returns-3
 returns-3 c =
     let start = c .before .before .before .before .before .before .before .before .before .before .before .before .before in
@@ -142,23 +121,18 @@ returns-3 c =
       put = run-none last (args .w) (args .room) letters (start .pre .1 .0 .0) from (runEnd letters from - last) (args .before) (args .codes .now) (args .positions .now) (omega (arith, c .if3 .taken));
     }
 
--- src/scan.rt:42:9
 lowest-requires : tie.Need-lowest-requires
-lowest-requires c κs = search needs
+lowest-requires c κs = (c .before .before .before .before .before .first-window .ensures .scanned .sized, c .before .if3 .left)
 
--- src/scan.rt:43:56
 mul-unrank : tie.Need-mul-unrank
-mul-unrank c = search needs
+mul-unrank c = ring-scaled (c .before .before .lowest .result)
 
--- src/scan.rt:43:56
 slice-read-unrank : tie.Need-slice-read-unrank
-slice-read-unrank c = search needs
+slice-read-unrank c = omega (arith, c .before .before .before .before .before .before .before .before .before .first-window .ensures .scanned .sized)
 
--- src/scan.rt:43:49
 unrank-requires : tie.Need-unrank-requires
-unrank-requires c κs = search needs
+unrank-requires c κs = tt
 
--- src/scan.rt:43:9
 put-requires : tie.Need-put-requires
 put-requires c κs =
     let start = c .before .before .before .before .before .before .before .before .before .before .before .before .before .before .before .before .before .before .before in
@@ -173,7 +147,6 @@ put-requires c κs =
       omega (arith, filled .within, c .before .before .before .before .lowest .ensures .last, start .pre .0 .few),
     )
 
--- src/scan.rt:44:18
 add-t17 : tie.Need-add-t17
 add-t17 c =
     let start = c .before .before .before .before .before .before .before .before .before .before .before .before .before .before .before .before .before .before .before .before .before .before .before .before in
@@ -183,19 +156,15 @@ add-t17 c =
     let last = args .last in
     omega (arith, c .before .before .before .before .before .before .before .before .before .before .before .before .before .before .before .first-window .ensures .within, runEnd-within letters from (start .pre .0 .in-letters), start .pre .0 .few)
 
--- src/scan.rt:19:1
 same-length-5 : tie.Need-same-length-5
-same-length-5 c = search needs
+same-length-5 c = c .before .before .before .before .before .before .before .before .before .before .before .before .before .before .before .first-window .kept .1 .1 .0
 
--- src/scan.rt:19:1
 same-length-6 : tie.Need-same-length-6
-same-length-6 c = search needs
+same-length-6 c = c .before .before .before .before .put .kept .0
 
--- src/scan.rt:19:1
 same-length-7 : tie.Need-same-length-7
-same-length-7 c = search needs
+same-length-7 c = c .before .before .before .before .put .kept .1 .0
 
--- src/scan.rt:19:1
 returns-4 : tie.Need-returns-4
 returns-4 c =
     let start = c .before .before .before .before .before .before .before .before .before .before .before .before .before .before .before .before .before .before .before .before .before .before .before .before in

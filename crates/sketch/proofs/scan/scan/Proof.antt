@@ -1,3 +1,5 @@
+-- `scan::scan` meets its contract. The loop's invariant: what is put and the sketch of the letters from `at` on end as the whole sketch does.
+-- Assumes nothing.
 use borrow.Author.Needs.{needs}
 use Prim.Native.Nat.{suc, _-_, _≤_, zero-le}
 use native.Mathlib.Omega.{arith}
@@ -10,10 +12,6 @@ use Rattle.sketch.proofs.Runs.{runEnd-within, sketchFrom-end}
 use Rattle.sketch.proofs.Passing.{run-passed}
 use Rattle.sketch.proofs.scan.scan.Statement.{statement}
 use Rattle.sketch.proofs.scan.scan.Tie as tie
-use Rattle.sketch.proofs.scan.scan.Reads as reads
-use Rattle.sketch.proofs.scan.scan.Lts as lts
-use Rattle.sketch.proofs.letters.table.Reads as table-reads
-use Rattle.sketch.proofs.scan.run.Reads as run-reads
 
 abbrev Inv-loop : tie.InvT-loop
 Inv-loop letters k w codes₀ positions₀ room values ring₀ last at₀ n₀ codes positions ring at n =
@@ -27,27 +25,21 @@ Inv-loop letters k w codes₀ positions₀ room values ring₀ last at₀ n₀ c
 abbrev μ-loop : tie.MeasureT-loop
 μ-loop letters k w codes₀ positions₀ room values ring₀ last at₀ n₀ codes positions ring at n = suc (length letters) - at
 
--- src/scan.rt:93:18
 table-requires : tie.Need-table-requires Inv-loop μ-loop
 table-requires c κs = search needs
 
--- src/scan.rt:95:16
 sub-last : tie.Need-sub-last Inv-loop μ-loop
 sub-last c = search needs
 
--- src/scan.rt:98:5
 loop-holds : tie.Need-loop-holds Inv-loop μ-loop
 loop-holds c = (refl, (zero-le, zero-le), c .before .before .before .before .pre .1, refl, refl, refl)
 
--- src/scan.rt:99:32
 slice-aggregate-run : tie.Need-slice-aggregate-run Inv-loop μ-loop
 slice-aggregate-run c = search needs
 
--- src/scan.rt:99:41
 slice-aggregate-run-2 : tie.Need-slice-aggregate-run-2 Inv-loop μ-loop
 slice-aggregate-run-2 c = search needs
 
--- src/scan.rt:99:13
 run-requires : tie.Need-run-requires Inv-loop μ-loop
 run-requires c κs =
     let start = c .before .before .before .before .before .before .before .before .before .before in
@@ -56,21 +48,18 @@ run-requires c κs =
       ((start .pre .0 .2, start .pre .0 .3, at .inv .1 .0, at .inv .0), at .inv .2),
     )
 
--- src/scan.rt:101:14
 add-at : tie.Need-add-at Inv-loop μ-loop
 add-at c =
     let start = c .before .before .before .before .before .before .before .before .before .before .before .before .before .before .before .before .before in
     let at = c .before .before .before .before .before .before .before .before .before .before .before .before .loop .at in
     omega (arith, c .before .before .before .before .before .before .run .ensures .ended, runEnd-within (start .args .letters .now) at (omega (arith, c .before .before .before .before .before .before .before .before .before .before .before .loop-test .taken)), start .pre .0)
 
--- src/scan.rt:98:5
 loop-less : tie.Need-loop-less Inv-loop μ-loop
 loop-less c =
     let start = c .before .before .before .before .before .before .before .before .before .before .before .before .before .before .before .before .before in
     let at = c .before .before .before .before .before .before .before .before .before .before .before .before .loop .at in
     omega (arith, c .before .before .before .before .before .before .run .ensures .ended, runEnd-within (start .args .letters .now) at (omega (arith, c .before .before .before .before .before .before .before .before .before .before .before .loop-test .taken)), c .before .before .before .before .before .before .before .before .before .before .before .loop-test .taken)
 
--- src/scan.rt:98:5
 loop-again : tie.Need-loop-again Inv-loop μ-loop
 loop-again c =
     let start = c .before .before .before .before .before .before .before .before .before .before .before .before .before .before .before .before .before in
@@ -90,15 +79,12 @@ loop-again c =
       run-passed (args .k) (args .w) (args .room) (at .at) (run .result .at) (at .n) (run .result .entries) letters (at .codes) (at .positions) cs ps (start .pre .0 .0) h (run .ensures .ended) (run .ensures .put) ∙ at .inv .5,
     )
 
--- src/scan.rt:85:1
 same-length : tie.Need-same-length Inv-loop μ-loop
 same-length c = c .before .loop .inv .3
 
--- src/scan.rt:85:1
 same-length-2 : tie.Need-same-length-2 Inv-loop μ-loop
 same-length-2 c = c .before .loop .inv .4
 
--- src/scan.rt:85:1
 returns : tie.Need-returns Inv-loop μ-loop
 unfolding sketch sketchFrom
 returns c =

@@ -1,3 +1,5 @@
+-- `windows::first_letters` meets its contract. The loop's invariant: the code of the letters read, all of the run.
+-- Assumes nothing.
 use borrow.Author.Needs.{needs}
 use Prim.Native.Nat.{ℕ, _+_, _-_, _^_, _≤_, _<_}
 use native.Mathlib.Nat.{le-refl}
@@ -12,9 +14,6 @@ use Rattle.sketch.proofs.Runs.{runEnd-within}
 use Rattle.sketch.proofs.Steps.{end-here, end-later, digit-below, code-small, code-longer}
 use Rattle.sketch.proofs.windows.first_letters.Statement.{statement}
 use Rattle.sketch.proofs.windows.first_letters.Tie as tie
-use Rattle.sketch.proofs.windows.first_letters.Reads as reads
-use Rattle.sketch.proofs.windows.first_letters.Lts as lts
-use Rattle.sketch.proofs.letters.value_at.Reads as value-at-reads
 
 abbrev Inv-loop : tie.InvT-loop
 Inv-loop letters values from last to at₀ code₀ at code = (from ≤ at) × (at ≤ from + last) × (at ≤ runEnd letters from) × (code ≡ codeAt (at - from) letters from)
@@ -22,11 +21,9 @@ Inv-loop letters values from last to at₀ code₀ at code = (from ≤ at) × (a
 abbrev μ-loop : tie.MeasureT-loop
 μ-loop letters values from last to at₀ code₀ at code = from + last - at
 
--- src/windows.rt:66:14
 add-to : tie.Need-add-to Inv-loop μ-loop
 add-to c = search needs
 
--- src/windows.rt:69:5
 loop-holds : tie.Need-loop-holds Inv-loop μ-loop
 unfolding codeAt codeOf
 loop-holds c =
@@ -35,11 +32,9 @@ loop-holds c =
     let none : args .from - args .from ≡ 0 = omega arith in
     (omega arith, omega arith, runEnd-within letters (args .from) (c .before .before .pre .in-letters) .0, sym (ap (λ (n : ℕ). codeAt n letters (args .from)) none))
 
--- src/windows.rt:70:13
 value-at-requires : tie.Need-value-at-requires Inv-loop μ-loop
 value-at-requires c κs = c .before .before .before .before .pre .table
 
--- src/windows.rt:72:13
 returns : tie.Need-returns Inv-loop μ-loop
 returns c =
     let start = c .before .before .before .before .before .before in
@@ -68,27 +63,21 @@ goes-on c =
       subst (λ (x : ℕ). x < 4 ^ kLimit) (sym (at .inv .3)) (code-small letters from (start .pre .in-letters) from (at .at - from) (le-refl from) (omega arith) (omega arith)),
     )
 
--- src/windows.rt:74:16
 mul-code : tie.Need-mul-code Inv-loop μ-loop
 mul-code c = omega (arith, goes-on c)
 
--- src/windows.rt:74:27
 cast-code : tie.Need-cast-code Inv-loop μ-loop
 cast-code c = omega (arith, goes-on c)
 
--- src/windows.rt:74:16
 add-code : tie.Need-add-code Inv-loop μ-loop
 add-code c = omega (arith, goes-on c)
 
--- src/windows.rt:75:9
 add-at : tie.Need-add-at Inv-loop μ-loop
 add-at c = search needs
 
--- src/windows.rt:69:5
 loop-less : tie.Need-loop-less Inv-loop μ-loop
 loop-less c = search needs
 
--- src/windows.rt:69:5
 loop-again : tie.Need-loop-again Inv-loop μ-loop
 loop-again c =
     let start = c .before .before .before .before .before .before in
@@ -102,7 +91,6 @@ loop-again c =
       rw (c .before .value-at .ensures) (code-longer letters from (start .pre .in-letters) (at .at) (at .code) (at .inv .0) (on .0) (at .inv .3)),
     )
 
--- src/windows.rt:62:1
 returns-2 : tie.Need-returns-2 Inv-loop μ-loop
 returns-2 c =
     let at = c .before .loop in

@@ -1,24 +1,20 @@
+-- `windows::first_window` meets its contract. The loop's invariant: the ring has the ranks of the k-mers read, and the code in hand.
+-- Assumes nothing.
 use borrow.Author.Needs.{needs}
 use Prim.Native.Nat.{ℕ, _+_, _-_, _^_, _≤_, _<_}
 use native.Mathlib.Nat.{le-refl, le-of-lt, lt-of-lt-of-le, mod-eq-of-lt, pow-le-pow-right}
 use native.Mathlib.Omega.{arith}
-use mathlib.Core.Path.{_≡_, sym, ap, _∙_, subst}
+use mathlib.Core.Path.{_≡_, sym, _∙_, subst}
 use lib.Dec.{lit<}
 use lib.ListN.{getD}
-use Rattle.sketch.specs.Limits.{kLimit}
 use Rattle.sketch.specs.Letters.{value, foreign}
-use Rattle.sketch.specs.Places.{codeAt, runEnd}
+use Rattle.sketch.specs.Places.{runEnd}
 use Rattle.sketch.specs.Scan.{Scanned}
 use Rattle.sketch.proofs.Codes.{codeAt-below}
 use Rattle.sketch.proofs.Runs.{runEnd-within, run-letters}
 use Rattle.sketch.proofs.Steps.{end-here, end-later, digit-below, pushed}
 use Rattle.sketch.proofs.windows.first_window.Statement.{statement}
 use Rattle.sketch.proofs.windows.first_window.Tie as tie
-use Rattle.sketch.proofs.windows.first_window.Reads as reads
-use Rattle.sketch.proofs.windows.first_window.Lts as lts
-use Rattle.sketch.proofs.kmers.next_code.Reads as next-code-reads
-use Rattle.sketch.proofs.kmers.rank.Reads as rank-reads
-use Rattle.sketch.proofs.letters.value_at.Reads as value-at-reads
 
 abbrev Inv-loop : tie.InvT-loop
 Inv-loop letters values ring₀ from last w begun to at₀ code₀ ring at code =
@@ -27,11 +23,9 @@ Inv-loop letters values ring₀ from last w begun to at₀ code₀ ring at code 
 abbrev μ-loop : tie.MeasureT-loop
 μ-loop letters values ring₀ from last w begun to at₀ code₀ ring at code = from + w - at
 
--- src/windows.rt:87:14
 add-to : tie.Need-add-to Inv-loop μ-loop
 add-to c = search needs
 
--- src/windows.rt:90:5
 loop-holds : tie.Need-loop-holds Inv-loop μ-loop
 loop-holds c =
     let start = c .before .before .before in
@@ -50,19 +44,15 @@ loop-holds c =
       },
     )
 
--- src/windows.rt:91:43
 add-value-at : tie.Need-add-value-at Inv-loop μ-loop
 add-value-at c = search needs
 
--- src/windows.rt:91:13
 value-at-requires : tie.Need-value-at-requires Inv-loop μ-loop
 value-at-requires c κs = c .before .before .before .before .before .pre .0 .table
 
--- src/windows.rt:93:13
 same-length : tie.Need-same-length Inv-loop μ-loop
 same-length c = search needs
 
--- src/windows.rt:93:13
 returns : tie.Need-returns Inv-loop μ-loop
 returns c =
     let start = c .before .before .before .before .before .before .before in
@@ -89,31 +79,24 @@ goes-on c =
       subst (λ (x : ℕ). x < 4) (sym (c .before .value-at .ensures)) (digit-below letters from (at .at + start .args .last) (omega arith) (at .inv .2) digit),
     )
 
--- src/windows.rt:95:9
 next-code-requires : tie.Need-next-code-requires Inv-loop μ-loop
 next-code-requires c κs = (c .before .before .before .before .before .before .before .pre .0 .short, c .before .before .before .loop .inv .3 .code-below, goes-on c .1)
 
--- src/windows.rt:96:27
 rank-requires : tie.Need-rank-requires Inv-loop μ-loop
 rank-requires c κs = search needs
 
--- src/windows.rt:96:9
 mul-ring : tie.Need-mul-ring Inv-loop μ-loop
 mul-ring c = search needs
 
--- src/windows.rt:96:9
 slice-write-ring : tie.Need-slice-write-ring Inv-loop μ-loop
 slice-write-ring c = omega (arith, c .before .before .before .before .before .loop .inv .3 .sized)
 
--- src/windows.rt:97:9
 add-at : tie.Need-add-at Inv-loop μ-loop
 add-at c = search needs
 
--- src/windows.rt:90:5
 loop-less : tie.Need-loop-less Inv-loop μ-loop
 loop-less c = search needs
 
--- src/windows.rt:90:5
 loop-again : tie.Need-loop-again Inv-loop μ-loop
 loop-again c =
     let start = c .before .before .before .before .before .before .before .before .before in
@@ -126,11 +109,9 @@ loop-again c =
     (at .inv .3) (le-refl from) (omega arith) (c .before .before .before .value-at .ensures) (c .before .next-code .ensures) (c .rank .ensures) in
     (omega arith, omega arith, omega arith, step .2)
 
--- src/windows.rt:81:1
 same-length-2 : tie.Need-same-length-2 Inv-loop μ-loop
 same-length-2 c = search needs
 
--- src/windows.rt:81:1
 returns-2 : tie.Need-returns-2 Inv-loop μ-loop
 returns-2 c =
     let at = c .before .loop in

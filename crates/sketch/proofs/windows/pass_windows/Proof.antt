@@ -1,6 +1,8 @@
-use borrow.Author.Needs.{needs}
+-- `windows::pass_windows` meets its contract. Both loops keep that what is put and what is still to pick make up what there was to pick
+-- at first; the turn over letters also keeps the lowest of the window in the ring.
+-- Assumes nothing.
 use native.Mathlib.Nat.{le-refl}
-use Prim.Native.Nat.{ℕ, suc, _+_, _-_, _^_, _≤_, _<_}
+use Prim.Native.Nat.{ℕ, suc, _+_, _-_, _≤_, _<_}
 use native.Mathlib.Omega.{arith}
 use mathlib.Core.Path.{_≡_, refl, sym, ap, _∙_, subst}
 use mathlib.Core.List.{List, _++_}
@@ -12,17 +14,9 @@ use Rattle.sketch.specs.Places.{codeAt, rankAt, runEnd}
 use Rattle.sketch.specs.Scan.{IsLowest, written, SameEnd}
 use Rattle.sketch.proofs.Passing.{Standing, Picking, toPick, ring-lowest, ring-code, window-new, picking-end, picking-left, picking-new, picking-kept}
 use Rattle.sketch.proofs.Runs.{runEnd-within}
-use Rattle.sketch.proofs.Steps.{runEnd-same, end-here, end-later, digit-below}
+use Rattle.sketch.proofs.Steps.{runEnd-same, end-here, end-later, digit-below, ring-scaled}
 use Rattle.sketch.proofs.windows.pass_windows.Statement.{statement}
 use Rattle.sketch.proofs.windows.pass_windows.Tie as tie
-use Rattle.sketch.proofs.windows.pass_windows.Reads as reads
-use Rattle.sketch.proofs.windows.pass_windows.Lts as lts
-use Rattle.sketch.proofs.kmers.next_code.Reads as next-code-reads
-use Rattle.sketch.proofs.kmers.rank.Reads as rank-reads
-use Rattle.sketch.proofs.kmers.unrank.Reads as unrank-reads
-use Rattle.sketch.proofs.letters.value_at.Reads as value-at-reads
-use Rattle.sketch.proofs.windows.lowest.Reads as lowest-reads
-use Rattle.sketch.proofs.windows.put.Reads as put-reads
 
 abbrev Inv-loop : tie.InvT-loop
 Inv-loop letters values ring₀ last w codes₀ positions₀ room before p₀ code₀ n₀ low-at₀ low₀ ring codes positions p code n low-at low =
@@ -78,33 +72,26 @@ same-end c =
     let start = entry c in
     runEnd-same (start .args .letters .now) (start .args .reached .at) (c .windows .p) (c .windows .inv .0 .start) (omega (arith, within c .0))
 
--- src/windows.rt:130:5
 windows-holds : tie.Need-windows-holds Inv-loop μ-loop Inv-windows μ-windows
 windows-holds c =
     let start = c .before .before .before .before .before in
     (record { start = le-refl (start .args .reached .at); within = start .pre .1 .1 .0; scanned = start .pre .1 .1 .1 .0; counted = start .pre .1 .0 .3; has-room = start .pre .1 .1 .1 .1 }, refl, refl, λ es. refl)
 
--- src/windows.rt:131:39
 sub-lowest : tie.Need-sub-lowest Inv-loop μ-loop Inv-windows μ-windows
 sub-lowest c = within (c .before) .2
 
--- src/windows.rt:131:13
 lowest-requires : tie.Need-lowest-requires Inv-loop μ-loop Inv-windows μ-windows
 lowest-requires c κs = (c .before .windows .inv .0 .scanned .sized, omega (arith, within (c .before) .2, entry (c .before) .pre .1 .0))
 
--- src/windows.rt:132:23
 mul-low : tie.Need-mul-low Inv-loop μ-loop Inv-windows μ-windows
-mul-low c = search needs
+mul-low c = ring-scaled (c .lowest .result)
 
--- src/windows.rt:132:23
 slice-read-low : tie.Need-slice-read-low Inv-loop μ-loop Inv-windows μ-windows
 slice-read-low c = omega (arith, c .before .before .before .windows .inv .0 .scanned .sized)
 
--- src/windows.rt:133:44
 unrank-requires : tie.Need-unrank-requires Inv-loop μ-loop Inv-windows μ-windows
-unrank-requires c κs = search needs
+unrank-requires c κs = tt
 
--- src/windows.rt:133:9
 put-requires : tie.Need-put-requires Inv-loop μ-loop Inv-windows μ-windows
 put-requires c κs =
     let turn = c .before .before .before .before .before .before in
@@ -130,7 +117,6 @@ code-there c =
     ring-code (entry turn .args .last) (entry turn .args .letters .now) (turn .windows .ring) (turn .windows .p - entry turn .args .w) (turn .windows .p) (turn .windows .code)
     (turn .windows .inv .0 .scanned) (lowest .result) (c .unrank .result) (lowest .ensures .first) (lowest .ensures .last) (c .unrank .ensures)
 
--- src/windows.rt:134:9
 loop-holds : tie.Need-loop-holds Inv-loop μ-loop Inv-windows μ-windows
 loop-holds c =
     let turn = c .before .before .before .before .before .before .before .before .before .before .before in
@@ -186,11 +172,9 @@ so-far c es =
     (put .ensures) es
     ∙ turn .windows .inv .3 es
 
--- src/windows.rt:135:47
 add-value-at : tie.Need-add-value-at Inv-loop μ-loop Inv-windows μ-windows
 add-value-at c = omega (arith, inside c)
 
--- src/windows.rt:135:17
 value-at-requires : tie.Need-value-at-requires Inv-loop μ-loop Inv-windows μ-windows
 value-at-requires c κs = entry (turn c) .pre .0 .table
 
@@ -210,39 +194,31 @@ goes-on c =
       subst (λ (x : ℕ). x < 4) (sym (c .before .value-at .ensures)) (digit-below letters from here on (at .loop .inv .0 .within) digit),
     )
 
--- src/windows.rt:139:13
 next-code-requires : tie.Need-next-code-requires Inv-loop μ-loop Inv-windows μ-windows
 next-code-requires c κs = (entry (turn (c .before .before)) .pre .0 .short, c .before .before .loop .inv .0 .scanned .code-below, goes-on c .1)
 
--- src/windows.rt:140:17
 rank-requires : tie.Need-rank-requires Inv-loop μ-loop Inv-windows μ-windows
-rank-requires c κs = search needs
+rank-requires c κs = tt
 
--- src/windows.rt:141:13
 mul-ring : tie.Need-mul-ring Inv-loop μ-loop Inv-windows μ-windows
-mul-ring c = search needs
+mul-ring c = ring-scaled (c .before .before .before .before .loop .p)
 
--- src/windows.rt:141:13
 slice-write-ring : tie.Need-slice-write-ring Inv-loop μ-loop Inv-windows μ-windows
 slice-write-ring c = omega (arith, c .before .before .before .before .loop .inv .0 .scanned .sized)
 
--- src/windows.rt:143:13
 add-p : tie.Need-add-p Inv-loop μ-loop Inv-windows μ-windows
 add-p c = omega (arith, inside (c .before .before .before .before))
 
--- src/windows.rt:144:16
 add-if2 : tie.Need-add-if2 Inv-loop μ-loop Inv-windows μ-windows
 add-if2 c =
     let at = c .before .before .before .before in
     omega (arith, inside at, at .loop .inv .0 .is-lowest .last, entry (turn at) .pre .1 .0)
 
--- src/windows.rt:130:5
 windows-less : tie.Need-windows-less Inv-loop μ-loop Inv-windows μ-windows
 windows-less c =
     let at = c .before .before .before .before .before in
     omega (arith, goes-on (c .before .before .before) .0, same-end (turn at), at .loop .inv .0 .start)
 
--- src/windows.rt:130:5
 windows-again : tie.Need-windows-again Inv-loop μ-loop Inv-windows μ-windows
 windows-again c =
     let at = c .before .before .before .before .before in
@@ -264,7 +240,6 @@ windows-again c =
       λ es. ap (λ (l : List Entry). written (args .room) (at .loop .n) (at .loop .codes) (at .loop .positions) (l ++ es)) (sym (rw (same-end (turn at)) at (next .1))) ∙ so-far at es,
     )
 
--- src/windows.rt:150:17
 put-requires-2 : tie.Need-put-requires-2 Inv-loop μ-loop Inv-windows μ-windows
 put-requires-2 c κs =
     let at = c .before .before .before .before .before .before .before .before in
@@ -272,11 +247,9 @@ put-requires-2 c κs =
     let on = goes-on (c .before .before .before .before .before .before) .0 in
     (at .loop .inv .0 .has-room, omega (arith, at .loop .inv .0 .counted), omega arith)
 
--- src/windows.rt:134:9
 loop-less : tie.Need-loop-less Inv-loop μ-loop Inv-windows μ-windows
 loop-less c = omega (arith, goes-on (c .before .before .before .before .before .before .before .before .before .before .before) .0)
 
--- src/windows.rt:134:9
 loop-again : tie.Need-loop-again Inv-loop μ-loop Inv-windows μ-windows
 loop-again c =
     let at = c .before .before .before .before .before .before .before .before .before .before .before .before .before in
@@ -290,11 +263,9 @@ loop-again c =
     (record { for-codes = rw (put .kept .0) (at .loop .inv .0 .has-room .for-codes); for-positions = rw (put .kept .1 .0) (at .loop .inv .0 .has-room .for-positions) }) in
     (next .0, put .kept .0 ∙ at .loop .inv .1, put .kept .1 .0 ∙ at .loop .inv .2, λ es. next .1 es ∙ at .loop .inv .3 es)
 
--- src/windows.rt:134:9
 loop-less-2 : tie.Need-loop-less-2 Inv-loop μ-loop Inv-windows μ-windows
 loop-less-2 c = omega (arith, goes-on (c .before .before .before .before) .0)
 
--- src/windows.rt:134:9
 loop-again-2 : tie.Need-loop-again-2 Inv-loop μ-loop Inv-windows μ-windows
 loop-again-2 c =
     let at = c .before .before .before .before .before .before in
@@ -309,23 +280,18 @@ loop-again-2 c =
       λ es. ap (λ (l : List Entry). written (args .room) (at .loop .n) (at .loop .codes) (at .loop .positions) (l ++ es)) (sym (next .1)) ∙ at .loop .inv .3 es,
     )
 
--- src/windows.rt:154:18
 add-t37 : tie.Need-add-t37 Inv-loop μ-loop Inv-windows μ-windows
 add-t37 c = omega (arith, inside (c .before .before))
 
--- src/windows.rt:119:1
 same-length : tie.Need-same-length Inv-loop μ-loop Inv-windows μ-windows
 same-length c = c .before .before .loop .inv .0 .scanned .sized ∙ sym (entry (turn (c .before .before)) .pre .1 .1 .1 .0 .sized)
 
--- src/windows.rt:119:1
 same-length-2 : tie.Need-same-length-2 Inv-loop μ-loop Inv-windows μ-windows
 same-length-2 c = c .before .before .loop .inv .1 ∙ c .before .before .before .before .before .before .before .put .kept .0 ∙ turn (c .before .before) .windows .inv .1
 
--- src/windows.rt:119:1
 same-length-3 : tie.Need-same-length-3 Inv-loop μ-loop Inv-windows μ-windows
 same-length-3 c = c .before .before .loop .inv .2 ∙ c .before .before .before .before .before .before .before .put .kept .1 .0 ∙ turn (c .before .before) .windows .inv .2
 
--- src/windows.rt:119:1
 returns : tie.Need-returns Inv-loop μ-loop Inv-windows μ-windows
 returns c =
     let at = c .before .before in

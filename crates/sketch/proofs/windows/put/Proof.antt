@@ -1,3 +1,5 @@
+-- `windows::put` meets its contract, with room and without.
+-- Assumes nothing.
 use borrow.Author.Needs.{needs}
 use native.Mathlib.Numerals.{add-one}
 use mathlib.Core.Path.{_≡_}
@@ -7,53 +9,40 @@ use borrow.Author.Tests.{lt-ltb, le-ltb}
 use Rattle.sketch.specs.Scan.{placed}
 use Rattle.sketch.proofs.windows.put.Statement.{statement}
 use Rattle.sketch.proofs.windows.put.Tie as tie
-use Rattle.sketch.proofs.windows.put.Reads as reads
-use Rattle.sketch.proofs.windows.put.Lts as lts
 
--- src/windows.rt:30:16
 add-result : tie.Need-add-result
 add-result c = search needs
 
--- src/windows.rt:30:9
 returns : tie.Need-returns
 unfolding placed
 returns c =
     let full : ltb (c .before .args .n) (c .before .args .room) ≡ false = le-ltb (c .before .args .n) (c .before .args .room) (c .if1 .taken) in
     record { counted = add-one (c .before .args .n); codes-after = rw full; positions-after = rw full }
 
--- src/windows.rt:32:5
 mul-codes : tie.Need-mul-codes
 mul-codes c = search needs
 
--- src/windows.rt:32:5
 slice-write-codes : tie.Need-slice-write-codes
 slice-write-codes c = search needs
 
--- src/windows.rt:33:20
 cast-positions : tie.Need-cast-positions
 cast-positions c = search needs
 
--- src/windows.rt:33:5
 mul-positions : tie.Need-mul-positions
 mul-positions c = search needs
 
--- src/windows.rt:33:5
 slice-write-positions : tie.Need-slice-write-positions
 slice-write-positions c = search needs
 
--- src/windows.rt:34:5
 add-result-2 : tie.Need-add-result-2
 add-result-2 c = search needs
 
--- src/windows.rt:25:1
 same-length : tie.Need-same-length
 same-length c = search needs
 
--- src/windows.rt:25:1
 same-length-2 : tie.Need-same-length-2
 same-length-2 c = search needs
 
--- src/windows.rt:25:1
 returns-2 : tie.Need-returns-2
 unfolding placed
 returns-2 c =
