@@ -2,3 +2,8 @@
 pub mod Bias
 pub mod Passing
 pub mod Walking
+pub mod Places
+pub mod Best
+pub mod CellTests
+pub mod Chunk
+pub mod SessionWords

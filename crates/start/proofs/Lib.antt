@@ -1,3 +1,4 @@
 -- Laws about the work words, and what start's functions ask and give.
 pub mod Bias
 pub mod Tables
+pub mod WorkWords

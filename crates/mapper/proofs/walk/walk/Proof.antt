@@ -70,6 +70,7 @@ unfolding lineOf
 within terms work j = omega arith
 
 pass-requires : tie.Need-pass-requires Inv-loop μ-loop
+unfolding lineOf
 pass-requires c κs =
     let l = c .before .before .line-of .ensures in
     ((mid-len 4096 10240 (c .before .before .before .before .before .before .loop .work) (search needs), search needs, omega (arith, c .before .smaller .ensures)), (rw l (search needs), rw l (search needs), rw l (within (c .before .before .before .before .before .before .before .before .args .terms) (c .before .before .before .before .before .before .loop .work) (c .before .before .before .before .before .before .loop .columns - 1))))
@@ -101,10 +102,12 @@ found-requires c κs =
     let moved = col .moved (c .before .if2 .taken) in
     let inv = d .before .before .before .before .before .before .before .before .before .loop .inv in
     let n = same-number d in
-    (omega arith, search needs, search needs, omega arith, omega (arith, col .within), search needs)
+    (omega arith, search needs, search needs, omega arith, omega (arith, col .within), omega (arith, d .before .before .before .before .before .before .before .before .before .before .before .pre .0 .1))
 
 same-length-2 : tie.Need-same-length-2 Inv-loop μ-loop
-same-length-2 c = ?
+same-length-2 c =
+    let d = c .before .before .before .before .before in
+    c .before .before .found .kept .0 ∙ same-number d ∙ d .before .before .before .before .before .before .before .before .before .loop .inv .1
 
 returns-2 : tie.Need-returns-2 Inv-loop μ-loop
 unfolding withPart
@@ -122,10 +125,12 @@ spent-requires-2 c κs =
     let col = at-column d in
     let inv = d .before .before .before .before .before .before .before .before .before .loop .inv in
     let n = same-number d in
-    (omega arith, search needs, omega (arith, col .within), search needs)
+    (omega arith, search needs, omega (arith, col .within), omega (arith, d .before .before .before .before .before .before .before .before .before .before .before .pre .0 .1))
 
 same-length-3 : tie.Need-same-length-3 Inv-loop μ-loop
-same-length-3 c = ?
+same-length-3 c =
+    let d = c .before .before .before .before .before .before in
+    c .before .before .spent2 .kept .0 ∙ same-number d ∙ d .before .before .before .before .before .before .before .before .before .loop .inv .1
 
 returns-3 : tie.Need-returns-3 Inv-loop μ-loop
 unfolding withPart
@@ -149,7 +154,7 @@ loop-again c =
     let d = c .before .before .before .before in
     let inv = d .before .before .before .before .before .before .before .before .before .loop .inv in
     let n = same-number d in
-    (omega arith, omega arith, search needs, search needs, search needs, rw (c .top-shared .ensures) (sym (walk-next (d .before .before .before .before .before .before .before .before .before .before .before .args .terms) (d .before .before .before .before .before .before .before .before .before .before .before .args .budget) (d .before .before .before .before .before .before .before .before .before .loop .columns) (d .before .before .before .before .before .before .before .before .before .loop .row) (d .before .before .before .before .before .before .before .before .before .loop .m) (d .before .before .before .before .before .before .before .before .before .loop .left) (d .before .before .before .before .before .before .before .before .before .loop .work) (d .before .before .before .before .before .before .before .before .loop-test .taken) (d .before .before .before .before .before .before .before .if1 .left) (record { answer = d .before .before .pass .result; part = d .before .before .pass .last .0 }) (at-column d .update) (c .before .before .before .if2 .left) (c .before .before .if3 .left)) ∙ d .before .before .before .before .before .before .before .before .before .loop .inv .5))
+    (omega arith, omega arith, omega arith, omega arith, omega arith, rw (c .top-shared .ensures) (sym (walk-next (d .before .before .before .before .before .before .before .before .before .before .before .args .terms) (d .before .before .before .before .before .before .before .before .before .before .before .args .budget) (d .before .before .before .before .before .before .before .before .before .loop .columns) (d .before .before .before .before .before .before .before .before .before .loop .row) (d .before .before .before .before .before .before .before .before .before .loop .m) (d .before .before .before .before .before .before .before .before .before .loop .left) (d .before .before .before .before .before .before .before .before .before .loop .work) (d .before .before .before .before .before .before .before .before .loop-test .taken) (d .before .before .before .before .before .before .before .if1 .left) (record { answer = d .before .before .pass .result; part = d .before .before .pass .last .0 }) (at-column d .update) (c .before .before .before .if2 .left) (c .before .before .if3 .left)) ∙ d .before .before .before .before .before .before .before .before .before .loop .inv .5))
 
 sub-finished : tie.Need-sub-finished Inv-loop μ-loop
 sub-finished c = search needs
@@ -161,7 +166,10 @@ same-length-4 : tie.Need-same-length-4 Inv-loop μ-loop
 same-length-4 c = search needs
 
 returns-4 : tie.Need-returns-4 Inv-loop μ-loop
-returns-4 c = ?
+returns-4 c =
+    let n : c .before .before .before .before .before .loop .columns ≡ 0 = omega arith in
+    let e = rw n at (c .before .before .before .before .before .loop .inv .5) in
+    (c .before .before .finished .ensures .0 ∙ ap (λ (w : Walk). w .answer) e, c .before .before .finished .ensures .1 ∙ ap (λ (w : Walk). w .words) e)
 
 pub walk-spec : {M : Type 1} → statement M
 walk-spec =
