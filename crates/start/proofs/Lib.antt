@@ -1,4 +1,7 @@
 -- Laws about the work words, and what start's functions ask and give.
 pub mod Bias
 pub mod Tables
+mod Ring
+mod Reaching
+mod Noting
 pub mod WorkWords

@@ -22,6 +22,7 @@ use Rattle.mappings.proofs.Shared.{interval-left, shared-left-end, shared-right
 use Rattle.mappings.proofs.Hits.{hit-in-pattern}
 use Rattle.mappings.proofs.HitCodes.{length-hitCodes, getD-hitCodes}
 use Rattle.start.specs.Tables.{firstFrom, reach, back, whole}
+use Rattle.start.specs.Noting.{AllIn}
 
 -- ---- the first number that passes a test
 
@@ -89,7 +90,7 @@ module _ (g : List ℕ) where
   abbrev pub before : ℕ → ℕ → ℕ
   before x k = occ x (take k g)
 
-  before-suc : (x k : ℕ) → k < length g → before x (suc k) ≡ before x k + bit (eqb x (getD g k 0))
+  pub before-suc : (x k : ℕ) → k < length g → before x (suc k) ≡ before x k + bit (eqb x (getD g k 0))
   before-suc x k h = occ-take-suc x k g h
 
   before-split : (x i k : ℕ) → i ≤ k → before x i + occ x (drop i (take k g)) ≡ before x k
@@ -113,10 +114,6 @@ module _ (g : List ℕ) where
 -- ---- reach and back
 
 module _ (p g : List ℕ) where
-  -- each code of the hits occurs in p
-  abbrev pub AllIn : Type 0
-  AllIn = (i : ℕ) → i < length g → 1 ≤ occ (getD g i 0) p
-
   -- the tests that reach and back go by, in counts before
   over : (x i j : ℕ) → i ≤ j → before g x i + occ x p < before g x (suc j) → ltb (occ x p) (occ x (interval g i j)) ≡ true
   over x i j h l = lt-ltb (occ x p) (occ x (interval g i j)) (let e : before g x i + occ x (interval g i j) ≡ before g x (suc j) = occ-interval g x i j h in omega arith)
@@ -209,7 +206,7 @@ module _ (p g : List ℕ) where
 
   -- ---- what holds where each code of the hits occurs in p
 
-  module _ (all : AllIn) where
+  module _ (all : AllIn p g) where
     pub reach-after : (i : ℕ) → i < length g → i < reach p g i
     reach-after i h = go (eq-or-ne i (reach p g i))
       where

@@ -1,16 +1,26 @@
 // Starting a mapping session: `start` copies what a session needs into lent work words.
 mod blocks;
 mod hits;
-mod tables;
+mod per_hit;
 pub mod score;
 pub mod words;
 
-use crate::blocks::{copy, fill};
+use crate::blocks::{copy, fill, put_heading, zeros_2048, zeros_4096};
 use crate::hits::collect;
 use crate::score::biased;
-use crate::tables::{put_back, put_reach, put_whole};
-use crate::words::{BACK, BEST, COLUMNS, HITS, HIT_LIMIT, INDEX, KIND, HEADING, PASSED, REACH, ROW, SHARED, SIZE, THRESHOLD, U, V, WEIGHT_LIMIT, WHOLE, WORK_WORDS, PATTERN_LIMIT, TEXT_LIMIT};
+use crate::per_hit::{put_back, put_reach, put_whole};
+use crate::words::{BACK, BEST, HEADING, HIT_LIMIT, INDEX, PATTERN_LIMIT, REACH, TEXT_LIMIT, WEIGHT_LIMIT, WHOLE, WORK_WORDS};
 use counts::sort_words;
+ghost use mathlib.Core.Path.{_≡_};
+ghost use Prim.Native.Nat.{ℕ, _≤_, _<_};
+ghost use lib.ListN.{length, getD};
+ghost use Rattle.sketch.specs.Limits.{outside};
+ghost use Rattle.mappings.specs.Score.{Task};
+ghost use Rattle.mappings.specs.Limits.{weightLimit};
+ghost use Rattle.start.specs.WorkWords.{sessionWords};
+ghost use Rattle.start.specs.Start.{startReply, startWords, afterStart};
+ghost use Rattle.start.specs.Answers.{startedReply, taskOf, hitReply};
+ghost use Rattle.start.specs.Noting.{Prepared};
 
 // h, or why the call is refused: 7, 8, 9, 10, or 11 with h.
 pub enum Started {
@@ -23,36 +33,16 @@ pub enum Started {
 }
 
 fn bad_weight(w: u32) -> bool
+    ensures { λ r. ⌜ r ≡ outside 1 weightLimit w ⌝ }
 {
     w < 1 || WEIGHT_LIMIT < w
 }
 
-fn zeros_2048() -> [u32; 2048]
-{
-    [0u32; 2048]
-}
-
-fn zeros_4096() -> [u32; 4096]
-{
-    [0u32; 4096]
-}
-
-fn put_heading(h: u32, u: u32, v: u32, size: u32, threshold: u32, shared: u32, heading: &mut [u32])
-{
-    heading[HITS] = h;
-    heading[U] = u;
-    heading[V] = v;
-    heading[PASSED] = 0;
-    heading[KIND] = 0;
-    heading[SIZE] = size;
-    heading[THRESHOLD] = threshold;
-    heading[COLUMNS] = h;
-    heading[ROW] = 0;
-    heading[SHARED] = shared;
-}
-
 // Writes the work words from the hits' indices and back of each.
 fn put_words(index: &[u32], backs: &[u32], u: u32, v: u32, size: u32, threshold: u32, work: &mut [u32])
+    requires { ⌜ (length (now index) ≤ 2048) × (length (now backs) ≡ length (now index)) × (16384 ≤ length (now work)) ⌝ }
+    requires { ⌜ ((k : ℕ) → k < length (now backs) → getD (now backs) k 0 ≤ k) ⌝ }
+    ensures { λ _. ⌜ ((task : Task) → Prepared task u v size threshold (now (index .entry)) (now (backs .entry)) → now (work .exit) ≡ sessionWords task (now (work .entry)) 0) ⌝ }
 {
     let h = index.len();
     copy(backs, &mut work[BACK..BACK + h]);
@@ -63,25 +53,31 @@ fn put_words(index: &[u32], backs: &[u32], u: u32, v: u32, size: u32, threshold:
     put_heading(h as u32, u, v, size, threshold, shared, &mut work[..HEADING]);
 }
 
-fn begin(text: &[u32], pattern: &[u32], u: u32, v: u32, threshold: u32, work: &mut [u32]) -> Started
+// What is left of start once all but the number of hits is judged: no work word is written before that number is known.
+fn begin(text: &[u32], pattern: &[u32], u: u32, v: u32, threshold: i32, work: &mut [u32]) -> Started
+    requires { ⌜ (length (now text) ≤ 65535) × (length (now pattern) ≤ 4096) × (16384 ≤ length (now work)) ⌝ }
+    ensures { λ r. ⌜ startedReply r ≡ hitReply (taskOf (now (text .entry)) (now (pattern .entry)) u v threshold) ⌝ }
+    ensures { λ r. ⌜ now (work .exit) ≡ afterStart (startedReply r) (taskOf (now (text .entry)) (now (pattern .entry)) u v threshold) (now (work .entry)) ⌝ }
 {
     let n = pattern.len();
     let mut sorted = zeros_4096();
     sort_words(pattern, &mut sorted[..n]);
     let mut index = zeros_2048();
     let mut slots = zeros_2048();
-    let h = collect(text, &sorted[..n], &mut index[..], &mut slots[..]);
+    let h = collect(text, &sorted[..n], &mut index, &mut slots);
     if HIT_LIMIT < h {
         return Started::TooManyHits(h);
     }
     let mut backs = zeros_2048();
     put_back(&sorted[..n], &slots[..h], &mut backs[..h]);
-    put_words(&index[..h], &backs[..h], u, v, n as u32, threshold, work);
+    put_words(&index[..h], &backs[..h], u, v, n as u32, biased(threshold), work);
     Started::Hits(h)
 }
 
 // Starts a session: judges the arguments, and writes what `step` needs into the work words.
 pub fn start(text: &[u32], pattern: &[u32], u: u32, v: u32, threshold: i32, work: &mut [u32]) -> Started
+    ensures { λ r. ⌜ startedReply r ≡ startReply (taskOf (now (text .entry)) (now (pattern .entry)) u v threshold) (length (now (work .entry))) ⌝ }
+    ensures { λ _. ⌜ now (work .exit) ≡ startWords (taskOf (now (text .entry)) (now (pattern .entry)) u v threshold) (now (work .entry)) ⌝ }
 {
     if bad_weight(u) {
         return Started::BadWeights;
@@ -101,5 +97,5 @@ pub fn start(text: &[u32], pattern: &[u32], u: u32, v: u32, threshold: i32, work
     if work.len() < WORK_WORDS {
         return Started::TooFewWords;
     }
-    begin(text, pattern, u, v, biased(threshold), work)
+    begin(text, pattern, u, v, threshold, work)
 }
