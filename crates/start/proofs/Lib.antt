@@ -4,4 +4,5 @@ pub mod Tables
 mod Ring
 mod Reaching
 mod Noting
+mod Linking
 pub mod WorkWords

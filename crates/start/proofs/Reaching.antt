@@ -8,8 +8,8 @@ use mathlib.Core.Logic.{_⊎_, inl, inr, _≢_}
 use mathlib.Core.Bool.{Bool, true, false, cond}
 use mathlib.Core.List.{List, [], _∷_}
 use lib.Dec.{ltb, eqb, eqb·zero-suc, eqb·suc-zero}
-use lib.ListN.{length, getD, take, set, length-set}
-use lib.Seq.{ext-getD, getD-set-same, getD-set-other, take-length}
+use lib.ListN.{length, getD, take, set, replicate, length-set, getD-replicate}
+use lib.Seq.{ext-getD, getD-set-same, getD-set-other}
 use borrow.Author.Tests.{lt-ltb, le-ltb, ltb-true, ltb-false}
 use Rattle.counts.specs.Lists.{bit}
 use Rattle.counts.specs.Counts.{occ}
@@ -62,13 +62,13 @@ known-same h j r n = go (ltb r j) refl
     go false e = rw (le-ltb r (suc j) (omega (arith, ltb-false r j e)))
 
 module _ (p g : List ℕ) where
-  pub told-none : (words : List ℕ) → ((i : ℕ) → i < length g → getD words i 0 ≡ length g) → Told p g 0 words
+  told-none : (words : List ℕ) → ((i : ℕ) → i < length g → getD words i 0 ≡ length g) → Told p g 0 words
   unfolding Told
   told-none words e i h = e i h ∙ sym (known-none (length g) (reach p g i))
 
   module _ (all : AllIn p g) where
     -- one hit more
-    pub told-more : (j : ℕ) (words : List ℕ) → j < length g → length words ≡ length g → Told p g j words → Told p g (suc j) (withPair (back p g j) j words)
+    told-more : (j : ℕ) (words : List ℕ) → j < length g → length words ≡ length g → Told p g j words → Told p g (suc j) (withPair (back p g j) j words)
     unfolding Told
     told-more j words h n t i l = go (back p g j) refl
       where
@@ -90,7 +90,7 @@ module _ (p g : List ℕ) where
                 ∙ t i l
                 ∙ known-same (length g) j (reach p g i) (other i l (λ f. d (omega (arith, e, f))))
 
-  pub told-all : (words : List ℕ) → length words ≡ length g → Told p g (length g) words → words ≡ reaches p g
+  told-all : (words : List ℕ) → length words ≡ length g → Told p g (length g) words → words ≡ reaches p g
   unfolding Told reaches
   told-all words n t =
       ext-getD 0 words (reaches p g) (n ∙ sym (length-table (reach p g) (length g)))
@@ -102,6 +102,27 @@ module _ (p g : List ℕ) where
           go : (b : Bool) → ltb (reach p g i) (length g) ≡ b → cond b (reach p g i) (length g) ≡ reach p g i
           go true e = refl
           go false e = omega (arith, ltb-false (reach p g i) (length g) e, reach-within p g i l)
+
+-- the same as the loop over the backs has it
+module _ (p g noted : List ℕ) (e : noted ≡ backs p g) where
+  length-noted : length noted ≡ length g
+  length-noted = ap length e ∙ length-backs p g
+
+  pub told-filled : (words : List ℕ) (n : ℕ) → n ≡ length noted → words ≡ replicate n (length noted) → Told p g 0 words
+  told-filled words n s f =
+      told-none p g words
+      (λ i l. ap (λ (w : List ℕ). getD w i 0) f ∙ getD-replicate n i (length noted) 0 (omega (arith, length-noted)) ∙ length-noted)
+
+  pub told-next : AllIn p g → (words next : List ℕ) (j b : ℕ) → j < length noted → length words ≡ length noted → b ≡ getD noted j 0 → next ≡ withPair b j words → Told p g j words → Told p g (j + 1) next
+  told-next all words next j b h n f w t =
+      let l : j < length g = omega (arith, length-noted) in
+      let same : b ≡ back p g j = f ∙ ap (λ (l : List ℕ). getD l j 0) e ∙ getD-backs p g j l in
+      rw (add-one j, w, same) (told-more p g all j words l (omega (arith, length-noted)) t)
+
+  pub told-end : (words : List ℕ) (j : ℕ) → j ≤ length noted → length noted ≤ j → length words ≡ length noted → Told p g j words → words ≡ reaches p g
+  told-end words j h l n t =
+      let end : j ≡ length g = omega (arith, length-noted) in
+      told-all p g words (omega (arith, length-noted)) (rw end at t)
 
 -- ---- whole
 
