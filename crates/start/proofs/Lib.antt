@@ -6,3 +6,4 @@ mod Reaching
 mod Noting
 mod Linking
 pub mod WorkWords
+mod Putting
