@@ -7,3 +7,5 @@ mod Noting
 mod Linking
 pub mod WorkWords
 mod Putting
+mod Starting
+mod Replies

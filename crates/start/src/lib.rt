@@ -12,8 +12,10 @@ use crate::per_hit::{put_back, put_reach, put_whole};
 use crate::words::{BACK, BEST, HEADING, HIT_LIMIT, INDEX, PATTERN_LIMIT, REACH, TEXT_LIMIT, WEIGHT_LIMIT, WHOLE, WORK_WORDS};
 use counts::sort_words;
 ghost use mathlib.Core.Path.{_≡_};
+ghost use mathlib.Core.List.{List};
 ghost use Prim.Native.Nat.{ℕ, _≤_, _<_};
 ghost use lib.ListN.{length, getD};
+ghost use Rattle.counts.specs.Sorting.{Sorted, SortedCopyOf};
 ghost use Rattle.sketch.specs.Limits.{outside};
 ghost use Rattle.mappings.specs.Score.{Task};
 ghost use Rattle.mappings.specs.Limits.{weightLimit};
@@ -53,7 +55,25 @@ fn put_words(index: &[u32], backs: &[u32], u: u32, v: u32, size: u32, threshold:
     put_heading(h as u32, u, v, size, threshold, shared, &mut work[..HEADING]);
 }
 
-// What is left of start once all but the number of hits is judged: no work word is written before that number is known.
+// What is left of start once the pattern's words are in order: no work word is written before the number of hits is known.
+fn begin_sorted(text: &[u32], sorted: &[u32], u: u32, v: u32, threshold: i32, work: &mut [u32]) -> Started
+    requires { ⌜ (length (now text) ≤ 65535) × (length (now sorted) ≤ 4096) × (16384 ≤ length (now work)) × Sorted (now sorted) ⌝ }
+    ensures { λ r. ⌜ ((pattern : List ℕ) → SortedCopyOf pattern (now (sorted .entry)) → startedReply r ≡ hitReply (taskOf (now (text .entry)) pattern u v threshold)) ⌝ }
+    ensures { λ r. ⌜ ((pattern : List ℕ) → SortedCopyOf pattern (now (sorted .entry)) → now (work .exit) ≡ afterStart (startedReply r) (taskOf (now (text .entry)) pattern u v threshold) (now (work .entry))) ⌝ }
+{
+    let mut index = zeros_2048();
+    let mut slots = zeros_2048();
+    let h = collect(text, sorted, &mut index, &mut slots);
+    if HIT_LIMIT < h {
+        return Started::TooManyHits(h);
+    }
+    let mut backs = zeros_2048();
+    put_back(sorted, &slots[..h], &mut backs[..h]);
+    put_words(&index[..h], &backs[..h], u, v, sorted.len() as u32, biased(threshold), work);
+    Started::Hits(h)
+}
+
+// What is left of start once all but the number of hits is judged.
 fn begin(text: &[u32], pattern: &[u32], u: u32, v: u32, threshold: i32, work: &mut [u32]) -> Started
     requires { ⌜ (length (now text) ≤ 65535) × (length (now pattern) ≤ 4096) × (16384 ≤ length (now work)) ⌝ }
     ensures { λ r. ⌜ startedReply r ≡ hitReply (taskOf (now (text .entry)) (now (pattern .entry)) u v threshold) ⌝ }
@@ -62,16 +82,7 @@ fn begin(text: &[u32], pattern: &[u32], u: u32, v: u32, threshold: i32, work: &m
     let n = pattern.len();
     let mut sorted = zeros_4096();
     sort_words(pattern, &mut sorted[..n]);
-    let mut index = zeros_2048();
-    let mut slots = zeros_2048();
-    let h = collect(text, &sorted[..n], &mut index, &mut slots);
-    if HIT_LIMIT < h {
-        return Started::TooManyHits(h);
-    }
-    let mut backs = zeros_2048();
-    put_back(&sorted[..n], &slots[..h], &mut backs[..h]);
-    put_words(&index[..h], &backs[..h], u, v, n as u32, biased(threshold), work);
-    Started::Hits(h)
+    begin_sorted(text, &sorted[..n], u, v, threshold, work)
 }
 
 // Starts a session: judges the arguments, and writes what `step` needs into the work words.
