@@ -1,7 +1,7 @@
 // Marking rare words by sorting their keys: equal words then stand side by side.
 use crate::radix;
 ghost use mathlib.Core.Path.{_≡_};
-ghost use mathlib.Core.Bool.{Bool, true, false};
+ghost use mathlib.Core.Bool.{true, false};
 ghost use mathlib.Core.List.{map};
 ghost use Prim.Native.Nat.{ℕ, _≤_, _<_};
 ghost use lib.Dec.{leb};
@@ -10,7 +10,7 @@ ghost use lib.Seq.{slice};
 ghost use Rattle.counts.specs.Lists.{bit};
 ghost use Rattle.counts.specs.Sorting.{Sorted};
 ghost use Rattle.counts.specs.Keys.{wordOf, indexOf, keysFrom, passed, sortedKeys, zeros};
-ghost use Rattle.counts.specs.Marks.{marksOf, RunEnd, markedBy, runMarks};
+ghost use Rattle.counts.specs.Marks.{markLimit, marksOf, RunEnd, markedBy, runMarks};
 
 fn zeros_65535() -> [u64; 65535]
     ensures { λ r. ⌜ (65535 ≡ length r) × (r ≡ zeros 65535) ⌝ }
@@ -81,7 +81,7 @@ fn mark_runs(keys: &[u64], limit: u32, marks: &mut [u8])
 }
 
 fn mark_in_order(words: &[u32], limit: u32, keys: &mut [u64], marks: &mut [u8])
-    requires { ⌜ (length (now keys) ≡ length (now words)) × (length (now words) ≤ 65535) ⌝ }
+    requires { ⌜ (length (now keys) ≡ length (now words)) × (length (now words) ≤ markLimit) ⌝ }
     requires { ⌜ (length (now marks) ≡ length (now words)) × Sorted (now words) ⌝ }
     ensures { λ _. ⌜ now (keys .exit) ≡ keysFrom 0 (now (words .entry)) ⌝ }
     ensures { λ _. ⌜ now (marks .exit) ≡ marksOf (now (words .entry)) limit ⌝ }
@@ -97,7 +97,7 @@ fn mark_by_sorting(
     by_word: &mut [u64],
     marks: &mut [u8],
 )
-    requires { ⌜ (length (now keys) ≡ length (now words)) × (length (now words) ≤ 65535) ⌝ }
+    requires { ⌜ (length (now keys) ≡ length (now words)) × (length (now words) ≤ markLimit) ⌝ }
     requires { ⌜ (length (now «by_word») ≡ length (now words)) × (length (now marks) ≡ length (now words)) ⌝ }
     ensures { λ _. ⌜ now (keys .exit) ≡ passed 1 (passed 0 (keysFrom 0 (now (words .entry)))) ⌝ }
     ensures { λ _. ⌜ now («by_word» .exit) ≡ sortedKeys (now (words .entry)) ⌝ }
@@ -109,7 +109,7 @@ fn mark_by_sorting(
 
 // Words that come in order, as equal ones do, need no sort.
 pub(crate) fn mark_words(words: &[u32], limit: u32, marks: &mut [u8])
-    requires { ⌜ (length (now marks) ≡ length (now words)) × (length (now words) ≤ 65535) ⌝ }
+    requires { ⌜ (length (now marks) ≡ length (now words)) × (length (now words) ≤ markLimit) ⌝ }
     ensures { λ _. ⌜ now (marks .exit) ≡ marksOf (now (words .entry)) limit ⌝ }
 {
     let n = words.len();

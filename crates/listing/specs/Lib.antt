@@ -2,4 +2,6 @@
 pub mod Limits
 pub mod PerMille
 pub mod Line
+pub mod Writing
 pub mod Input
+pub mod Answers

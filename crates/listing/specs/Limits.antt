@@ -1,6 +1,6 @@
 -- The limits of document 01 that the list and its input name, each once.
 -- Assumes nothing.
-use Prim.Native.Nat.{ℕ, _^_}
+use Prim.Native.Nat.{ℕ, _+_, _*_, _^_}
 
 -- an interval's len is at most 65,535
 abbrev pub lenLimit : ℕ
@@ -21,3 +21,8 @@ wordLimit = 2 ^ 32
 -- signed numbers of 32 bits are below this, and at least its negative
 abbrev pub signedLimit : ℕ
 signedLimit = 2 ^ 31
+
+-- so many bytes of the input decide: a first line has at most 66 (five numbers of ten digits, one of eleven with its minus, five spaces), two
+-- lines have 4,096 letters each, and three line feeds end them
+abbrev pub inputLimit : ℕ
+inputLimit = 66 + 2 * lineLimit + 3

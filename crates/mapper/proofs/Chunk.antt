@@ -5,14 +5,15 @@ use native.Mathlib.Nat.{le-refl, le-trans}
 use native.Mathlib.Omega.{arith}
 use mathlib.Core.Path.{_≡_, refl, sym, ap, _∙_, subst}
 use mathlib.Core.Logic.{_⊎_, inl, inr}
-use mathlib.Core.Bool.{Bool, true, false, cond}
+use mathlib.Core.Bool.{Bool, true, false, cond, _&&_}
 use mathlib.Core.List.{List, [], _∷_}
-use lib.Dec.{ltb}
+use lib.Dec.{ltb, leb, eqb}
+use borrow.Author.Tests.{eqb-true}
 use lib.ListN.{length, getD, set, drop, length-set}
 use lib.Seq.{getD-set-same, getD-set-other}
 use lib.Signed.{mag}
 use Rattle.counts.specs.Lists.{bit}
-use Rattle.counts.proofs.Lists.{eq-or-ne}
+use Rattle.counts.proofs.Lists.{eq-or-ne, and-left, and-right}
 use Rattle.mappings.specs.Score.{Task}
 use Rattle.mappings.specs.Bias.{bias, biasedZ}
 use Rattle.mappings.specs.Cells.{Cell, hits, hitCodes, hitCount, cellsOf, isFinalCell, mappingOf, leftEnd, rightEnd, place}
@@ -28,7 +29,7 @@ use Rattle.mapper.specs.Passing.{lowered, lineScore, bestWith, inReach, 
 use Rattle.mapper.proofs.Best.{scoreAt, BestAt, before-top, best-at, best-suc}
 use Rattle.mapper.proofs.CellTests.{sharedAt, score-word, shared-next, final-test}
 
-more-none : (answer : Answer) → moreCells 0 answer ≡ answer
+pub more-none : (answer : Answer) → moreCells 0 answer ≡ answer
 more-none (found mapping cells) = let e : 0 + cells ≡ cells = omega arith in ap (found mapping) e
 more-none (finished cells) = let e : 0 + cells ≡ cells = omega arith in ap finished e
 more-none (spent cells) = let e : 0 + cells ≡ cells = omega arith in ap spent e
@@ -60,7 +61,7 @@ module _ (task : Task) (limited : Limited task) (threshold-fits : mag (task .thr
   -- what passing n cells from (i, j) on comes to, where q cells have been passed
   pub data Chunk (j i n q : ℕ) (part : List ℕ) (update : Update) : Type 0 where
     all-passed : update .answer .found ≡ false → update .answer .row ≡ i + n → update .answer .m ≡ sharedAt task (i + n) j → PartHolds (q + n) (update .part) → SameOutside part (update .part) → ((B : ℕ) → ruleAnswer task q (n + B) ≡ moreCells n (ruleAnswer task (q + n) B)) → Chunk j i n q part update
-    one-found : (k : ℕ) → suc k ≤ n → update .answer .found ≡ true → update .answer .row ≡ suc (i + k) → update .answer .m ≡ sharedAt task (i + k) j → update .answer .score ≡ scoreAt task (i + k) j → PartHolds (q + suc k) (update .part) → SameOutside part (update .part) → ((B : ℕ) → ruleAnswer task q (suc k + B) ≡ found (mappingOf task (cellAt (i + k) j)) (suc k)) → Chunk j i n q part update
+    one-found : (k : ℕ) → suc k ≤ n → update .answer .found ≡ true → update .answer .row ≡ suc (i + k) → update .answer .m ≡ sharedAt task (i + k) j → update .answer .score ≡ scoreAt task (i + k) j → lowered (sharedAt task (i + k) j) 1 ≡ sharedAt task (suc (i + k)) j → PartHolds (q + suc k) (update .part) → SameOutside part (update .part) → ((B : ℕ) → ruleAnswer task q (suc k + B) ≡ found (mappingOf task (cellAt (i + k) j)) (suc k)) → Chunk j i n q part update
 
   -- ---- one cell
 
@@ -100,6 +101,18 @@ module _ (task : Task) (limited : Limited task) (threshold-fits : mag (task .thr
         let b : BestAt task (bestAfter task q) i j = best-at task q i j a l at in
         rw (best-is, score-is, one-is)
         (final-test task limited threshold-fits i j (bestBefore (bestAfter task q) i) (getD (bestAfter task q) i 0) a l (before-top task (bestAfter task q) i j a b) (b .other-rows i (le-refl i) a))
+
+    -- the left end of a final cell is reasonable, so that m falls by one behind it
+    lower-by-one : isFinalCell task (cellAt i j) ≡ true → lowered (sharedAt task i j) 1 ≡ sharedAt task (suc i) j
+    unfolding finalTest
+    lower-by-one f =
+        let s = lineScore (sessionLine j) m (getD part i 0) in
+        let best = bestWith part i before s in
+        let one = inReach (sessionLine j) part i in
+        let all : (leb (biasedZ (task .threshold)) s && eqb s best && eqb one 1 && leb (back (task .pattern) (hitCodes task) j) i) ≡ true = test-is ∙ f in
+        let three = and-left (leb (biasedZ (task .threshold)) s && eqb s best && eqb one 1) (leb (back (task .pattern) (hitCodes task) j) i) all in
+        let e : one ≡ 1 = eqb-true one 1 (and-right (leb (biasedZ (task .threshold)) s && eqb s best) (eqb one 1) three) in
+        ap (λ (n : ℕ). lowered (sharedAt task i j) n) (sym e) ∙ ap (λ (n : ℕ). lowered n one) (sym em) ∙ m-next
 
     next : drop q (cellsOf task) ≡ cellAt i j ∷ drop (suc q) (cellsOf task)
     unfolding cellsOf
@@ -149,10 +162,10 @@ module _ (task : Task) (limited : Limited task) (threshold-fits : mag (task .thr
         (λ B. (let s : suc n + B ≡ suc (n + B) = omega arith in
         let t : 1 + n ≡ suc n = omega arith in
         ap (ruleAnswer task q) s ∙ pass (n + B) ∙ ap (moreCells 1) (rule B) ∙ more-cells 1 n (ruleAnswer task (suc q + n) B) ∙ ap (λ (k : ℕ). moreCells k (ruleAnswer task (suc q + n) B)) t ∙ ap (λ (k : ℕ). moreCells (suc n) (ruleAnswer task k B)) g))
-    more-cell i n q part part′ update same pass (one-found k within f r em es holds out rule) =
+    more-cell i n q part part′ update same pass (one-found k within f r em es lower holds out rule) =
         let e : suc i + k ≡ i + suc k = omega arith in
         let g : suc q + suc k ≡ q + suc (suc k) = omega arith in
-        one-found (suc k) (suc-le-suc within) f (r ∙ ap suc e) (em ∙ ap (λ (n : ℕ). sharedAt task n j) e) (es ∙ ap (λ (n : ℕ). scoreAt task n j) e) (rw g at holds) (λ k o. out k o ∙ same k o)
+        one-found (suc k) (suc-le-suc within) f (r ∙ ap suc e) (em ∙ ap (λ (n : ℕ). sharedAt task n j) e) (es ∙ ap (λ (n : ℕ). scoreAt task n j) e) (rw e at lower) (rw g at holds) (λ k o. out k o ∙ same k o)
         (λ B. (let s : suc (suc k) + B ≡ suc (suc k + B) = omega arith in
         let t : 1 + suc k ≡ suc (suc k) = omega arith in
         ap (ruleAnswer task q) s ∙ pass (suc k + B) ∙ ap (moreCells 1) (rule B) ∙ ap (found (mappingOf task (cellAt (suc i + k) j))) t ∙ ap (λ (n : ℕ). found (mappingOf task (cellAt n j)) (suc (suc k))) e))
@@ -176,7 +189,7 @@ module _ (task : Task) (limited : Limited task) (threshold-fits : mag (task .thr
             let h : i + 0 ≡ i = omega arith in
             let g : q + 1 ≡ suc q = omega arith in
             rw (test-is j i q m before part a l small at em eb holds ∙ e)
-            (one-found 0 (suc-le-suc zero-le) refl (ap suc (sym h)) (rw h em) (rw h (score-is j i q m before part a l small at em eb holds)) (rw g (next-holds j i q m before part a l small at em eb holds best (best-is j i q m before part a l small at em eb holds))) (next-same j i q m before part a l small at em eb holds best)
+            (one-found 0 (suc-le-suc zero-le) refl (ap suc (sym h)) (rw h em) (rw h (score-is j i q m before part a l small at em eb holds)) (rw h (lower-by-one j i q m before part a l small at em eb holds e)) (rw g (next-holds j i q m before part a l small at em eb holds best (best-is j i q m before part a l small at em eb holds))) (next-same j i q m before part a l small at em eb holds best)
             (λ B. (let s : 1 + B ≡ suc B = omega arith in rw (s, h) (rule-found task q (cellAt i j) (next j i q m before part a l small at em eb holds) B e))))
         go false e a rest =
             rw (test-is j i q m before part a l small at em eb holds ∙ e)

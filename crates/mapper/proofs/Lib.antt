@@ -7,3 +7,10 @@ pub mod Best
 pub mod CellTests
 pub mod Chunk
 pub mod SessionWords
+pub mod WalkRule
+pub mod StepTests
+pub mod Accepted
+pub mod Within
+pub mod StepPromise
+pub mod Demand3
+pub mod Consequences

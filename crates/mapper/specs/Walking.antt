@@ -6,7 +6,6 @@ use mathlib.Core.List.{List, [], _∷_, _++_}
 use lib.Dec.{ltb, eqb}
 use lib.ListN.{length, getD, take, drop, set}
 use lib.Seq.{slice}
-
 use Rattle.mappings.specs.Bias.{unbiased}
 use Rattle.mapper.specs.Passing.{lowered, seenBefore, Update, passRows}
 use Rattle.mapper.specs.declared.column.Line.{Line}

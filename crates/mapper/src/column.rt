@@ -1,6 +1,10 @@
 // Passing the cells of one column.
-use crate::score::{below, greater, lowered, score_word};
-use start::words::{BEST, REACH};
+use crate::score::below;
+use crate::score::greater;
+use crate::score::lowered;
+use crate::score::score_word;
+use start::words::BEST;
+use start::words::REACH;
 ghost use mathlib.Core.Path.{_≡_};
 ghost use Prim.Native.Nat.{ℕ, _-_, _≤_};
 ghost use lib.ListN.{length};
@@ -68,10 +72,20 @@ pub fn pass(part: &mut [u32], line: Line, from: usize, to: usize, m0: u32) -> Pa
         best = greater(best, greater(part[BEST + i], s));
         part[BEST + i] = best;
         if is_final(line.threshold, s, best, one, line.back, i) {
-            return Passed { found: true, row: i + 1, m, score: s };
+            return Passed {
+                found: true,
+                row: i + 1,
+                m,
+                score: s,
+            };
         }
         m = lowered(m, one);
         i += 1;
     }
-    Passed { found: false, row: i, m, score: 0 }
+    Passed {
+        found: false,
+        row: i,
+        m,
+        score: 0,
+    }
 }

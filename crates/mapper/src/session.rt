@@ -1,4 +1,96 @@
 // A step of a session: what is refused, and the walk from the place in the work words.
 use crate::place::Place;
-use crate::walk::{Stepped, Terms, walk};
-use start::words::{COLUMNS, HIT_LIMIT, HITS, PASSED, ROW, SHARED, SIZE, THRESHOLD, U, V, WEIGHT_LIMIT, WORK_WORDS};
+use crate::walk::Stepped;
+use crate::walk::Terms;
+use crate::walk::walk;
+use start::words::COLUMNS;
+use start::words::HIT_LIMIT;
+use start::words::HITS;
+use start::words::PASSED;
+use start::words::ROW;
+use start::words::SHARED;
+use start::words::SIZE;
+use start::words::THRESHOLD;
+use start::words::U;
+use start::words::V;
+use start::words::WEIGHT_LIMIT;
+use start::words::WORK_WORDS;
+use start::words::wide;
+use start::words::wider;
+ghost use mathlib.Core.Path.{_≡_};
+ghost use Prim.Native.Nat.{ℕ, _+_, _*_, _≤_};
+ghost use lib.ListN.{length, getD};
+ghost use Rattle.mapper.specs.Step.{badWords};
+ghost use Rattle.mapper.specs.Promise.{StepPromise};
+
+// Words 0 to 3 hold h over 2,048, u or v outside 1 to 1,000, or more cells passed than h(h + 1)/2.
+fn bad_words(work: &[u32]) -> bool
+    requires { ⌜ 16384 ≤ length (now work) ⌝ }
+    ensures { λ r. ⌜ r ≡ badWords (now (work .entry)) ⌝ }
+{
+    let h = wide(work[HITS]);
+    if HIT_LIMIT < h {
+        return true;
+    }
+    let u = work[U];
+    if u < 1 {
+        return true;
+    }
+    if WEIGHT_LIMIT < u {
+        return true;
+    }
+    let v = work[V];
+    if v < 1 {
+        return true;
+    }
+    if WEIGHT_LIMIT < v {
+        return true;
+    }
+    let cells = h * (h + 1) / 2;
+    let passed = wide(work[PASSED]);
+    cells < passed
+}
+
+// What the score words of the session share.
+fn terms_of(work: &[u32]) -> Terms
+    requires { ⌜ 16384 ≤ length (now work) ⌝ }
+    ensures gain { λ r. ⌜ r .gain ≡ getD (now (work .entry)) 1 0 + 2 * getD (now (work .entry)) 2 0 ⌝ }
+    ensures v { λ r. ⌜ r .v ≡ getD (now (work .entry)) 2 0 ⌝ }
+    ensures size { λ r. ⌜ (r .size ≡ getD (now (work .entry)) 5 0) × (r .size ≤ 4294967295) ⌝ }
+    ensures threshold { λ r. ⌜ r .threshold ≡ getD (now (work .entry)) 6 0 ⌝ }
+{
+    let u = wider(work[U]);
+    let v = wider(work[V]);
+    let size = wider(work[SIZE]);
+    let threshold = work[THRESHOLD];
+    Terms {
+        gain: u + 2 * v,
+        v,
+        size,
+        threshold,
+    }
+}
+
+// Passes cells until one is final, none remains or the budget's are passed. Words that no start and no step made, and whose place
+// lies in no column, get spent with no cell.
+pub fn step(work: &mut [u32], budget: u32) -> Stepped
+    ensures { λ r. ⌜ StepPromise (now (work .entry)) budget r (now (work .exit)) ⌝ }
+{
+    if work.len() < WORK_WORDS {
+        return Stepped::TooFewWords;
+    }
+    if bad_words(work) {
+        return Stepped::BadWords;
+    }
+    let columns = wide(work[COLUMNS]);
+    let row = wide(work[ROW]);
+    if wide(work[HITS]) < columns {
+        return Stepped::Spent(0);
+    }
+    if columns < row {
+        return Stepped::Spent(0);
+    }
+    let terms = terms_of(work);
+    let m = work[SHARED];
+    walk(work, terms, Place { columns, row, m }, wide(budget))
+}

@@ -1,8 +1,18 @@
 // Walking along the columns from a place, until a final cell, the budget's end or the last cell.
-use crate::column::{Line, Passed, pass};
-use crate::place::{Place, save, settled, top_shared};
-use crate::score::{lowered, unbiased};
-use start::words::{BACK, INDEX, PART_END, wide, wider};
+use crate::column::Line;
+use crate::column::Passed;
+use crate::column::pass;
+use crate::place::Place;
+use crate::place::save;
+use crate::place::settled;
+use crate::place::top_shared;
+use crate::score::lowered;
+use crate::score::unbiased;
+use start::words::BACK;
+use start::words::INDEX;
+use start::words::PART_END;
+use start::words::wide;
+use start::words::wider;
 ghost use mathlib.Core.Path.{_≡_};
 ghost use Prim.Native.Nat.{ℕ, _≤_, _<_, min};
 ghost use lib.ListN.{length};
@@ -121,7 +131,15 @@ pub fn walk(work: &mut [u32], terms: Terms, start: Place, budget: usize) -> Step
             return found(work, columns, p, budget - left);
         }
         if next < columns {
-            return spent(work, Place { columns, row: next, m: p.m }, budget - left);
+            return spent(
+                work,
+                Place {
+                    columns,
+                    row: next,
+                    m: p.m,
+                },
+                budget - left,
+            );
         }
         columns -= 1;
         row = 0;

@@ -4,3 +4,6 @@ pub mod Letters
 pub mod Kmers
 pub mod Windows
 pub mod Sketch
+pub mod Places
+pub mod Scan
+pub mod Answers

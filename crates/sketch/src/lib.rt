@@ -1,1 +1,120 @@
-// Sketches of letters, and striking of frequent k-mers.
+// Sketches of letters: the sketch in two buffers, and for a host program the count of its entries.
+mod kmers;
+mod letters;
+mod scan;
+mod windows;
+
+ghost use Prim.Native.Nat.{_≤_, min};
+ghost use mathlib.Core.Path.{_≡_};
+ghost use lib.ListN.{length};
+ghost use Rattle.sketch.specs.Limits.{kLimit, wLimit, letterLimit, textLimit, outside};
+ghost use Rattle.sketch.specs.Sketch.{sketch, hostNumber, countReply};
+ghost use Rattle.sketch.specs.Answers.{Sketches};
+
+// The limits of document 01 on k, the window, the letters and the entries of a text.
+pub const K_LIMIT: u32 = 15;
+
+pub const W_LIMIT: u32 = 64;
+
+pub const LETTER_LIMIT: usize = 1048576;
+
+pub const TEXT_LIMIT: usize = 65535;
+
+// What a sketch answers: the number of entries, or why it is refused.
+pub enum Sketched {
+    Entries(usize),
+    BadK,
+    BadW,
+    TooManyLetters,
+    TooShort(usize),
+}
+
+// Each limit is the one that the definitions name.
+pub fn k_limit() -> u32
+    ensures { λ r. ⌜ r ≡ kLimit ⌝ }
+{
+    K_LIMIT
+}
+
+pub fn w_limit() -> u32
+    ensures { λ r. ⌜ r ≡ wLimit ⌝ }
+{
+    W_LIMIT
+}
+
+pub fn letter_limit() -> usize
+    ensures { λ r. ⌜ r ≡ letterLimit ⌝ }
+{
+    LETTER_LIMIT
+}
+
+pub fn text_limit() -> usize
+    ensures { λ r. ⌜ r ≡ textLimit ⌝ }
+{
+    TEXT_LIMIT
+}
+
+// Whether n is outside low to high.
+pub fn outside(low: u32, high: u32, n: u32) -> bool
+    ensures { λ r. ⌜ r ≡ outside low high n ⌝ }
+{
+    n < low || high < n
+}
+
+fn lesser(a: usize, b: usize) -> usize
+    ensures { λ r. ⌜ r ≡ min a b ⌝ }
+{
+    if a < b { a } else { b }
+}
+
+// How many entries the sketch has: the scan with no room to write.
+fn entries(letters: &[u8], k: u32, w: u32) -> usize
+    requires { ⌜ (1 ≤ k) × (k ≤ kLimit) × (1 ≤ w) × (w ≤ wLimit) × (length (now letters) ≤ letterLimit) ⌝ }
+    ensures { λ r. ⌜ r ≡ length (sketch k w (now (letters .entry))) ⌝ }
+{
+    let mut codes = [0u32; 0];
+    let mut positions = [0u32; 0];
+    scan::scan(letters, k, w, &mut codes, &mut positions, 0)
+}
+
+// Writes the sketch of the letters into the two buffers. It has no more entries than there are letters, so they are counted first
+// only where a buffer is shorter than the letters.
+pub fn sketch(letters: &[u8], k: u32, w: u32, codes: &mut [u32], positions: &mut [u32]) -> Sketched
+    ensures { λ r. ⌜ Sketches k w (now (letters .entry)) (now (codes .entry)) (now (positions .entry)) r (now (codes .exit)) (now (positions .exit)) ⌝ }
+{
+    if outside(1, K_LIMIT, k) {
+        return Sketched::BadK;
+    }
+    if outside(1, W_LIMIT, w) {
+        return Sketched::BadW;
+    }
+    if LETTER_LIMIT < letters.len() {
+        return Sketched::TooManyLetters;
+    }
+    let room = lesser(codes.len(), positions.len());
+    if letters.len() <= room {
+        return Sketched::Entries(scan::scan(letters, k, w, codes, positions, room));
+    }
+    let needed = entries(letters, k, w);
+    if room < needed {
+        return Sketched::TooShort(needed);
+    }
+    Sketched::Entries(scan::scan(letters, k, w, codes, positions, room))
+}
+
+// The count of entries that a sketch would have, or the refusal number negated.
+#[no_mangle]
+pub extern "C" fn huddlewool_count(letters: &[u8], k: u32, w: u32) -> i32
+    ensures { λ r. ⌜ r ≡ hostNumber (countReply k w (now (letters .entry))) ⌝ }
+{
+    if outside(1, K_LIMIT, k) {
+        return -1;
+    }
+    if outside(1, W_LIMIT, w) {
+        return -2;
+    }
+    if LETTER_LIMIT < letters.len() {
+        return -3;
+    }
+    entries(letters, k, w) as i32
+}

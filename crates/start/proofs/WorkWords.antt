@@ -9,8 +9,8 @@ use mathlib.Core.Logic.{_⊎_, inl, inr}
 use mathlib.Core.Bool.{Bool, true, false, cond, _&&_}
 use mathlib.Core.List.{List, [], _∷_, map}
 use lib.Dec.{leb, ltb}
-use lib.ListN.{length, getD, take, replicate, length-map, length-set, length-replicate, List·getD-eq-default}
-use lib.Seq.{ext-getD}
+use lib.ListN.{length, getD, take, drop, replicate, length-drop, length-map, length-set, length-replicate, List·getD-eq-default}
+use lib.Seq.{ext-getD, length-take-le, getD-take, getD-drop}
 use borrow.Author.Tests.{le-leb, lt-leb, lt-ltb, le-ltb, leb-true, leb-false, ltb-true, ltb-false}
 use Rattle.counts.specs.Lists.{range}
 use Rattle.counts.proofs.Lists.{length-range, getD-range}
@@ -298,3 +298,47 @@ module _ (task : Task) (before : List ℕ) (q : ℕ) (small : hitCount task ≤ 
 
     pub hold-words : work ≡ sessionWords task before q
     hold-words = ext-getD 0 work (sessionWords task before q) (held .held .number ∙ sym session-number) (λ n l. same-word n)
+
+-- ---- a first part of the words
+
+module _ (task : Task) (small : hitCount task ≤ 2048) (before : List ℕ) (lent : ℕ) (enough : 16384 ≤ lent) (many : lent ≤ length before) where
+  first-number : length (take lent before) ≡ lent
+  first-number = length-take-le lent before many
+
+  -- a first part of a session's words is those of a session in the first part
+  pub take-session : (q : ℕ) → take lent (sessionWords task before q) ≡ sessionWords task (take lent before) q
+  take-session q =
+      let n : length (sessionWords task before q) ≡ length before = session-number task before q small (omega arith) in
+      let n′ : length (sessionWords task (take lent before) q) ≡ length (take lent before) = session-number task (take lent before) q small (rw first-number enough) in
+      let l : length (take lent (sessionWords task before q)) ≡ lent = length-take-le lent (sessionWords task before q) (rw n many) in
+      ext-getD 0 (take lent (sessionWords task before q)) (sessionWords task (take lent before) q) (l ∙ sym (n′ ∙ first-number))
+      (λ i k.
+      (let inside : i < lent = subst (λ (m : ℕ). i < m) l k in
+      getD-take lent (sessionWords task before q) i 0 inside
+      ∙ word-at task before q small (omega arith) i (omega arith)
+      ∙ ap (λ (x : ℕ). wordIn (blocks task q) x i) (sym (getD-take lent before i 0 inside))
+      ∙ sym (word-at task (take lent before) q small (rw first-number enough) i (rw first-number inside))))
+
+  -- the words behind it are not the session's
+  beyond-free : (i : ℕ) → lent ≤ i → Free (hitCount task) i
+  beyond-free i l = record {
+    heading-before = omega arith;
+    no-back = inr (omega arith);
+    no-index = inr (omega arith);
+    no-reach = inr (omega arith);
+    no-best = inr (omega arith);
+    no-whole = inr (omega arith);
+  }
+
+  pub drop-session : (q q′ : ℕ) → drop lent (sessionWords task before q) ≡ drop lent (sessionWords task before q′)
+  drop-session q q′ =
+      let n : length (sessionWords task before q) ≡ length before = session-number task before q small (omega arith) in
+      let n′ : length (sessionWords task before q′) ≡ length before = session-number task before q′ small (omega arith) in
+      ext-getD 0 (drop lent (sessionWords task before q)) (drop lent (sessionWords task before q′))
+      (length-drop lent (sessionWords task before q) ∙ ap (λ (m : ℕ). m - lent) (n ∙ sym n′) ∙ sym (length-drop lent (sessionWords task before q′)))
+      (λ i k.
+      (let f = beyond-free (lent + i) (omega arith) in
+      getD-drop lent (sessionWords task before q) i 0
+      ∙ free task before q small (omega arith) (lent + i) f
+      ∙ sym (free task before q′ small (omega arith) (lent + i) f)
+      ∙ sym (getD-drop lent (sessionWords task before q′) i 0)))

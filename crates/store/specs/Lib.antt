@@ -2,3 +2,4 @@
 pub mod Words
 pub mod Save
 pub mod Load
+pub mod Answers

@@ -44,3 +44,11 @@ isCode k x = ltb x (4 ^ k)
 -- a position is at most 1,048,575, and at least `low`: one more than the position before it, where there is one
 unfoldable pub isPosition : ℕ → ℕ → Bool
 isPosition low x = leb low x && ltb x letterLimit
+
+-- a word that holds a code of this k
+abbrev pub isCodeWord : ℕ → ℕ → Bool
+isCodeWord k x = eqb (kind x) 1 && isCode k (content x)
+
+-- a word that holds a position of at least `low`
+abbrev pub isPositionWord : ℕ → ℕ → Bool
+isPositionWord low x = eqb (kind x) 2 && isPosition low (content x)

@@ -1,2 +1,6 @@
 -- Laws about striking, and examples that compute.
 pub mod Compute
+pub mod Marked
+pub mod Laws
+pub mod Cases
+pub mod Replies

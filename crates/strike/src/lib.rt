@@ -1,12 +1,23 @@
-// Striking of frequent k-mers from a sketch.
+// Striking of frequent k-mers from a sketch. It needs no heap: the marks of the entries and what counts them lie on the stack.
 ghost use mathlib.Core.Path.{_≡_};
-ghost use Prim.Native.Nat.{_≤_};
-ghost use lib.ListN.{length};
+ghost use Prim.Native.Nat.{ℕ, _≤_, _<_, _^_};
+ghost use lib.ListN.{length, getD};
 ghost use Rattle.counts.specs.Lists.{sum};
+ghost use Rattle.counts.specs.Replies.{over, after};
 ghost use Rattle.counts.specs.Keys.{zeros};
-ghost use Rattle.strike.specs.Strike.{strikeReply, strikeCodes, strikePositions};
-ghost use Rattle.strike.specs.Answers.{replyOf, marksOk, keepMarked};
+ghost use Rattle.counts.specs.Marks.{marksOf};
+ghost use Rattle.sketch.specs.Limits.{textLimit};
+ghost use Rattle.sketch.specs.Kmers.{codes as codesOf, positions as positionsOf, entries};
+ghost use Rattle.sketch.specs.Sketch.{roomFor};
+ghost use Rattle.strike.specs.Strike.{struck, strikeReply, strikeCodes, strikePositions};
+ghost use Rattle.strike.specs.Answers.{replyOf};
+ghost use Rattle.strike.specs.Marked.{markedWords};
 
+pub const TEXT_LIMIT: usize = 65535;
+
+pub const STRIKE_LIMIT: u32 = 65535;
+
+// The entries kept, or why the call is refused: 5, 8, 6, or 4 with the entries needed.
 pub enum Struck {
     Entries(usize),
     NotPaired,
@@ -14,9 +25,6 @@ pub enum Struck {
     BadLimit,
     TooShort(usize),
 }
-
-pub const TEXT_LIMIT: usize = 65535;
-pub const STRIKE_LIMIT: u32 = 65535;
 
 fn zeros_65535() -> [u8; 65535]
     ensures { λ r. ⌜ (65535 ≡ length r) × (r ≡ zeros 65535) ⌝ }
@@ -30,12 +38,11 @@ fn wide(x: u8) -> usize
     x as usize
 }
 
-// The number of marks that are 1, all being 0 or 1.
 fn count_marked(marks: &[u8]) -> usize
-    requires { ⌜ length (now marks) ≤ 65535 ⌝ }
+    requires { ⌜ sum (now marks) < 2 ^ 64 ⌝ }
     ensures { λ r. ⌜ r ≡ sum (now (marks .entry)) ⌝ }
 {
-    let mut n = 0;
+    let mut n: usize = 0;
     let mut i = 0;
     while i < marks.len() {
         n += wide(marks[i]);
@@ -44,9 +51,14 @@ fn count_marked(marks: &[u8]) -> usize
     n
 }
 
-// Copies the marked words to the start of `out`. A word that is not marked is written too, where the next marked one then goes:
-// that costs less than a branch that the processor cannot foresee.
-fn copy_marked(words: &[u32], marks: &[u8], n: usize, out: &mut [u32]) {
+// Copies the n marked words to the start of `out`. A word that is not marked is written too, where the next marked one then
+// goes: that costs less than a branch that cannot be foreseen.
+fn copy_marked(words: &[u32], marks: &[u8], n: usize, out: &mut [u32])
+    requires { ⌜ length (now words) ≡ length (now marks) ⌝ }
+    requires { ⌜ ((k : ℕ) → getD (now marks) k 0 ≤ 1) ⌝ }
+    requires { ⌜ (n ≡ sum (now marks)) × (n ≤ length (now out)) ⌝ }
+    ensures { λ _. ⌜ now (out .exit) ≡ over (markedWords (now (marks .entry)) (now (words .entry))) (now (out .entry)) ⌝ }
+{
     let mut i = 0;
     let mut at = 0;
     while at < n {
@@ -56,8 +68,46 @@ fn copy_marked(words: &[u32], marks: &[u8], n: usize, out: &mut [u32]) {
     }
 }
 
-// Drops each entry whose code occurs more than c times.
-pub fn strike(codes: &[u32], positions: &[u32], c: u32, codes_out: &mut [u32], positions_out: &mut [u32]) -> Struck {
+// What is left of strike once its arguments are judged, with room for a mark an entry.
+fn strike_marked(
+    codes: &[u32],
+    positions: &[u32],
+    c: u32,
+    marks: &mut [u8],
+    codes_out: &mut [u32],
+    positions_out: &mut [u32],
+) -> Struck
+    requires { ⌜ (length (now codes) ≡ length (now positions)) × (length (now codes) ≤ textLimit) × (length (now marks) ≡ length (now codes)) ⌝ }
+    ensures { λ r. ⌜ replyOf r ≡ roomFor (length (struck c (entries (now (codes .entry)) (now (positions .entry))))) (length (now («codes_out» .entry))) (length (now («positions_out» .entry))) ⌝ }
+    ensures { λ _. ⌜ now (marks .exit) ≡ marksOf (now (codes .entry)) c ⌝ }
+    ensures { λ r. ⌜ now («codes_out» .exit) ≡ after (replyOf r) (codesOf (struck c (entries (now (codes .entry)) (now (positions .entry))))) (now («codes_out» .entry)) ⌝ }
+    ensures { λ r. ⌜ now («positions_out» .exit) ≡ after (replyOf r) (positionsOf (struck c (entries (now (codes .entry)) (now (positions .entry))))) (now («positions_out» .entry)) ⌝ }
+{
+    counts::mark_rare(codes, c, marks);
+    let kept = count_marked(marks);
+    if codes_out.len() < kept {
+        return Struck::TooShort(kept);
+    }
+    if positions_out.len() < kept {
+        return Struck::TooShort(kept);
+    }
+    copy_marked(codes, marks, kept, codes_out);
+    copy_marked(positions, marks, kept, positions_out);
+    Struck::Entries(kept)
+}
+
+// Writes the entries whose code occurs at most c times, in their order, and answers how many they are.
+pub fn strike(
+    codes: &[u32],
+    positions: &[u32],
+    c: u32,
+    codes_out: &mut [u32],
+    positions_out: &mut [u32],
+) -> Struck
+    ensures { λ r. ⌜ replyOf r ≡ strikeReply (now (codes .entry)) (now (positions .entry)) c (length (now («codes_out» .entry))) (length (now («positions_out» .entry))) ⌝ }
+    ensures { λ _. ⌜ now («codes_out» .exit) ≡ strikeCodes (now (codes .entry)) (now (positions .entry)) c (now («codes_out» .entry)) (now («positions_out» .entry)) ⌝ }
+    ensures { λ _. ⌜ now («positions_out» .exit) ≡ strikePositions (now (codes .entry)) (now (positions .entry)) c (now («codes_out» .entry)) (now («positions_out» .entry)) ⌝ }
+{
     let n = codes.len();
     if n != positions.len() {
         return Struck::NotPaired;
@@ -72,15 +122,12 @@ pub fn strike(codes: &[u32], positions: &[u32], c: u32, codes_out: &mut [u32], p
         return Struck::BadLimit;
     }
     let mut marks = zeros_65535();
-    counts::mark_rare(codes, c, &mut marks[..n]);
-    let kept = count_marked(&marks[..n]);
-    if codes_out.len() < kept {
-        return Struck::TooShort(kept);
-    }
-    if positions_out.len() < kept {
-        return Struck::TooShort(kept);
-    }
-    copy_marked(codes, &marks[..n], kept, codes_out);
-    copy_marked(positions, &marks[..n], kept, positions_out);
-    Struck::Entries(kept)
+    strike_marked(
+        codes,
+        positions,
+        c,
+        &mut marks[..n],
+        codes_out,
+        positions_out,
+    )
 }

@@ -1,6 +1,5 @@
 -- `in_order` meets its contract. The loop keeps: the words passed do not fall.
 -- Assumes nothing.
-use native.Mathlib.Omega.{arith}
 use Prim.Native.Nat.{_-_}
 use mathlib.Core.Bool.{true≢false, false≢true}
 use lib.ListN.{length}

@@ -1,9 +1,8 @@
 -- `mark_by_sorting` meets its contract: the sorted keys are those of the words, in the order of the words.
 -- Assumes nothing.
-use native.Mathlib.Omega.{arith}
 use mathlib.Core.Bool.{Bool}
 use Prim.Native.Nat.{ℕ}
-use mathlib.Core.Path.{_≡_, _∙_}
+use mathlib.Core.Path.{_∙_}
 use Rattle.counts.specs.Keys.{keysFrom, sortedKeys}
 use Rattle.counts.proofs.Buckets.{SameKeys, same-of}
 use Rattle.counts.proofs.Keys.{sorted-by-word, sorted-same}

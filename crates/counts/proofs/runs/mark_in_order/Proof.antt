@@ -1,7 +1,6 @@
 -- `mark_in_order` meets its contract: the keys are those of the words, and in order as the words are.
 -- Assumes nothing.
-use native.Mathlib.Omega.{arith}
-use mathlib.Core.Path.{_≡_, _∙_}
+use mathlib.Core.Path.{_∙_}
 use Rattle.counts.specs.Keys.{keysFrom}
 use Rattle.counts.proofs.Buckets.{same-of}
 use Rattle.counts.proofs.Keys.{Fit32, ordered-words}

@@ -1,0 +1,19 @@
+//! The shapes that plain and proved functions share, so that one job runs both.
+//! Assumes nothing.
+
+use crate::plain::work::Answer;
+
+/// Letters, k and w; the number of entries, or the refusal number negated.
+pub type Count = fn(&[u8], u32, u32) -> i32;
+
+/// Letters, k, w, codes and positions; the number of entries, or the refusal number negated.
+pub type Sketch = fn(&[u8], u32, u32, &mut [u32], &mut [u32]) -> i32;
+
+/// Codes, positions, c, and codes and positions that stay; their number, or the refusal number negated.
+pub type Strike = fn(&[u32], &[u32], u32, &mut [u32], &mut [u32]) -> i32;
+
+/// Codes of the text and of the pattern, u, v, threshold and work words; h, or the refusal number negated.
+pub type Start = fn(&[u32], &[u32], u32, u32, i32, &mut [u32]) -> i32;
+
+/// Work words and budget.
+pub type Step = fn(&mut [u32], u32) -> Answer;

@@ -1,0 +1,30 @@
+-- `listing::writing::line` meets its contract: the part is as long as `put_line` answers. Assumes nothing.
+use mathlib.Core.Path.{ap, _∙_}
+use lib.ListN.{length}
+use lib.IntN.{ℤ}
+use denote.Ref.{now}
+use mir.Facts.{toZ-ofZ}
+use Rattle.listing.specs.Line.{line as printedLine}
+use Rattle.listing.specs.Writing.{fitting}
+use Rattle.listing.proofs.Buffers.{line-part, line-count}
+use borrow.Author.Needs.{needs}
+use Rattle.listing.proofs.writing.line.Statement.{statement}
+use Rattle.listing.proofs.writing.line.Tie as tie
+
+put-line-requires : tie.Need-put-line-requires
+put-line-requires c κs = search needs
+
+slice-aggregate-result : tie.Need-slice-aggregate-result
+slice-aggregate-result c = line-count (c .before .before .before .put-line .ensures)
+
+returns : tie.Need-returns
+returns c =
+    let at-start = c .before .before .before .before .before .before in
+    line-part (c .before .before .before .put-line .ensures)
+    ∙ ap
+    (λ (z : ℤ).
+    fitting (length (now (at-start .args .out))) (printedLine (at-start .args .first) (at-start .args .last) z (at-start .args .m) (at-start .args .per-mille)))
+    (toZ-ofZ (at-start .fits .score))
+
+pub line-spec : {M : Type 1} → statement M
+line-spec = tie.close (tie.spec put-line-requires slice-aggregate-result returns)

@@ -1,0 +1,60 @@
+-- What start's acceptance says of the task and of the work words.
+-- Assumes nothing.
+use Prim.Native.Nat.{ℕ, _≤_}
+use native.Mathlib.Omega.{arith}
+use mathlib.Core.Path.{_≡_, refl, sym, ap, _∙_}
+use mathlib.Core.Bool.{Bool, true, false, cond, _||_}
+use mathlib.Core.List.{List, [], _∷_}
+use lib.Dec.{ltb, eqb}
+use lib.ListN.{length}
+use borrow.Author.Tests.{ltb-false}
+use Rattle.counts.specs.Replies.{Reply, accepted, refused}
+use Rattle.counts.proofs.Lists.{or-neither}
+use Rattle.sketch.specs.Limits.{textLimit}
+use Rattle.mappings.specs.Limits.{weightLimit, patternLimit, hitLimit, workWords}
+use Rattle.mappings.specs.Score.{Task}
+use Rattle.mappings.specs.Cells.{hitCount}
+use Rattle.mappings.proofs.Range.{Limited}
+use Rattle.start.specs.Start.{badWeights, startReply}
+
+-- an accepted call passed the check
+pub not-refused : (b : Bool) (number : ℕ) (values : List ℕ) (rest : Reply) (answered : List ℕ) → cond b (refused number values) rest ≡ accepted answered → (b ≡ false) × (rest ≡ accepted answered)
+not-refused true number values rest answered e = absurd (let z : _≡_ {A = ℕ} 0 1 = cc in omega arith)
+not-refused false number values rest answered e = (refl, e)
+
+-- u and v, text and pattern, the work words and h are within their limits, and h is answered
+pub record Admitted (task : Task) (lent : ℕ) (values : List ℕ) : Type 0 where
+  pub limited : Limited task
+  pub lowest-u : 1 ≤ task .u
+  pub lowest-v : 1 ≤ task .v
+  pub few-hits : hitCount task ≤ 2048
+  pub many-words : 16384 ≤ lent
+  pub answered : values ≡ hitCount task ∷ []
+
+pub admitted : (task : Task) (lent : ℕ) (values : List ℕ) → startReply task lent ≡ accepted values → Admitted task lent values
+unfolding startReply badWeights
+admitted task lent values e =
+    let u = task .u in
+    let v = task .v in
+    let size = length (task .pattern) in
+    let a = not-refused ((ltb u 1 || ltb 1000 u) || (ltb v 1 || ltb 1000 v)) 7 [] _ values e in
+    let b = not-refused (ltb 65535 (length (task .text))) 8 [] _ values (a .1) in
+    let c = not-refused (eqb size 0 || ltb 4096 size) 9 [] _ values (b .1) in
+    let d = not-refused (ltb lent 16384) 10 [] _ values (c .1) in
+    let f = not-refused (ltb 2048 (hitCount task)) 11 (hitCount task ∷ []) _ values (d .1) in
+    let uv = or-neither (ltb u 1 || ltb 1000 u) (ltb v 1 || ltb 1000 v) (a .0) in
+    let us = or-neither (ltb u 1) (ltb 1000 u) (uv .0) in
+    let vs = or-neither (ltb v 1) (ltb 1000 v) (uv .1) in
+    record {
+      limited = record {
+        small-u = ltb-false 1000 u (us .1);
+        small-v = ltb-false 1000 v (vs .1);
+        short-text = ltb-false 65535 (length (task .text)) (b .0);
+        short-pattern = ltb-false 4096 size (or-neither (eqb size 0) (ltb 4096 size) (c .0) .1);
+      };
+      lowest-u = ltb-false u 1 (us .0);
+      lowest-v = ltb-false v 1 (vs .0);
+      few-hits = ltb-false 2048 (hitCount task) (f .0);
+      many-words = ltb-false lent 16384 (d .0);
+      answered = let g : accepted (hitCount task ∷ []) ≡ accepted values = f .1 in (cc);
+    }

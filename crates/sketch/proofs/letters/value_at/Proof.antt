@@ -1,0 +1,38 @@
+use borrow.Author.Needs.{needs}
+use native.Mathlib.Omega.{arith}
+use mathlib.Core.Path.{sym, ap}
+use lib.ListN.{getD, List·getD-eq-default}
+use Rattle.sketch.specs.Letters.{value}
+use Rattle.sketch.proofs.letters.value_at.Statement.{statement}
+use Rattle.sketch.proofs.letters.value_at.Tie as tie
+use Rattle.sketch.proofs.letters.value_at.Reads as reads
+use Rattle.sketch.proofs.letters.value_at.Lts as lts
+
+-- src/letters.rt:42:17
+shared-slice-read-b : tie.Need-shared-slice-read-b
+shared-slice-read-b c = search needs
+
+-- src/letters.rt:43:23
+cast-result : tie.Need-cast-result
+cast-result c = omega (arith, c .shared-slice-known .given (c .before .before .args .at))
+
+-- src/letters.rt:43:16
+shared-slice-read-result : tie.Need-shared-slice-read-result
+shared-slice-read-result c =
+    let start = c .before .before .before in
+    omega (arith, c .before .shared-slice-known .given (start .args .at), start .pre .sized)
+
+-- src/letters.rt:43:9
+returns : tie.Need-returns
+returns c =
+    let start = c .before .before .before in
+    start .pre .known (getD (start .args .letters .now) (start .args .at) 0) (c .before .shared-slice-known .given (start .args .at) .fits)
+
+-- src/letters.rt:37:1
+returns-2 : tie.Need-returns-2
+unfolding value
+returns-2 c = sym (ap value (List·getD-eq-default (c .before .args .letters .now) 0 (c .if1 .left)))
+
+pub value-at-spec : {M : Type 1} → statement M
+value-at-spec =
+    tie.close (tie.spec shared-slice-read-b cast-result shared-slice-read-result returns returns-2)

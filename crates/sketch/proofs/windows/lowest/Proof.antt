@@ -1,0 +1,94 @@
+use borrow.Author.Needs.{needs}
+use Prim.Native.Nat.{ℕ, _-_, _≤_}
+use native.Mathlib.Nat.{le-antisymm}
+use native.Mathlib.Numerals.{add-one}
+use native.Mathlib.Omega.{arith}
+use mathlib.Core.Path.{_≡_, refl, subst}
+use Rattle.sketch.specs.Scan.{IsLowest, ringAt}
+use Rattle.sketch.proofs.Picks.{lowest-one, lowest-new, lowest-kept}
+use Rattle.sketch.proofs.windows.lowest.Statement.{statement}
+use Rattle.sketch.proofs.windows.lowest.Tie as tie
+use Rattle.sketch.proofs.windows.lowest.Reads as reads
+use Rattle.sketch.proofs.windows.lowest.Lts as lts
+
+abbrev Inv-loop : tie.InvT-loop
+Inv-loop ring from to low-at₀ low₀ q₀ low-at low q = (q ≤ to) × IsLowest (ringAt ring) from q low-at × (low ≡ ringAt ring low-at)
+
+abbrev μ-loop : tie.MeasureT-loop
+μ-loop ring from to low-at₀ low₀ q₀ low-at low q = to - q
+
+-- src/windows.rt:43:19
+mul-low : tie.Need-mul-low Inv-loop μ-loop
+mul-low c = search needs
+
+-- src/windows.rt:43:19
+shared-slice-read-low : tie.Need-shared-slice-read-low Inv-loop μ-loop
+shared-slice-read-low c = search needs
+
+-- src/windows.rt:44:17
+add-q : tie.Need-add-q Inv-loop μ-loop
+add-q c = search needs
+
+-- src/windows.rt:45:5
+loop-holds : tie.Need-loop-holds Inv-loop μ-loop
+loop-holds c = (omega arith, rw add-one (lowest-one (ringAt (c .before .args .ring .now)) (c .before .args .from)), refl)
+
+-- src/windows.rt:46:17
+mul-r : tie.Need-mul-r Inv-loop μ-loop
+mul-r c = search needs
+
+-- src/windows.rt:46:17
+shared-slice-read-r : tie.Need-shared-slice-read-r Inv-loop μ-loop
+shared-slice-read-r c = search needs
+
+-- src/windows.rt:48:9
+add-q-2 : tie.Need-add-q-2 Inv-loop μ-loop
+add-q-2 c = search needs
+
+-- src/windows.rt:45:5
+loop-less : tie.Need-loop-less Inv-loop μ-loop
+loop-less c = search needs
+
+-- src/windows.rt:45:5
+loop-again : tie.Need-loop-again Inv-loop μ-loop
+loop-again c =
+    let args = c .before .before .before .before .before .args in
+    let at = c .before .before .before .loop in
+    (omega arith, rw add-one (lowest-new (ringAt (args .ring .now)) (args .from) (at .q) (at .low-at) (at .inv .1) (rw (at .inv .2) at (c .if1 .taken))), refl)
+
+-- src/windows.rt:45:5
+loop-less-2 : tie.Need-loop-less-2 Inv-loop μ-loop
+loop-less-2 c = search needs
+
+-- src/windows.rt:45:5
+loop-again-2 : tie.Need-loop-again-2 Inv-loop μ-loop
+loop-again-2 c =
+    let args = c .before .before .before .before .before .args in
+    let at = c .before .before .before .loop in
+    (omega arith, rw add-one (lowest-kept (ringAt (args .ring .now)) (args .from) (at .q) (at .low-at) (at .inv .1) (rw (at .inv .2) at (c .if1 .left))), at .inv .2)
+
+-- src/windows.rt:38:1
+returns : tie.Need-returns Inv-loop μ-loop
+returns c =
+    let args = c .before .before .before .args in
+    let at = c .before .loop in
+    subst (λ (x : ℕ). IsLowest (ringAt (args .ring .now)) (args .from) x (at .low-at)) (le-antisymm (at .inv .0) (c .loop-test .left)) (at .inv .1)
+
+pub lowest-spec : {M : Type 1} → statement M
+lowest-spec =
+    tie.close
+    (tie.spec
+    Inv-loop
+    μ-loop
+    mul-low
+    shared-slice-read-low
+    add-q
+    loop-holds
+    mul-r
+    shared-slice-read-r
+    add-q-2
+    loop-less
+    loop-again
+    loop-less-2
+    loop-again-2
+    returns)

@@ -1,0 +1,77 @@
+-- `store::loading::judge_last` meets its contract: each return is one case of `lastWord`. Assumes nothing.
+use Prim.Native.Nat.{ℕ, suc, _≤_, _<_}
+use native.Mathlib.Nat.{add-zero}
+use native.Mathlib.Numerals.{add-one}
+use native.Mathlib.Omega.{arith}
+use mathlib.Core.Path.{_≡_, refl, sym, ap, _∙_}
+use mathlib.Core.List.{List, [], _∷_}
+use lib.ListN.{length, drop, getD, drop-of-length-le}
+use lib.Seq.{drop-cons}
+use borrow.Author.Needs.{needs}
+use borrow.Author.Tests.{eq-eqb, ne-eqb}
+use denote.Ref.{now}
+use Rattle.counts.specs.Replies.{Reply, refused}
+use Rattle.store.specs.Load.{lastWord}
+use Rattle.store.specs.Answers.{counted}
+use Rattle.store.proofs.loading.judge_last.Statement.{statement}
+use Rattle.store.proofs.loading.judge_last.Tie as tie
+
+mul-content : tie.Need-mul-content
+mul-content c = search needs
+
+shared-slice-read-content : tie.Need-shared-slice-read-content
+shared-slice-read-content c = search needs
+
+content-requires : tie.Need-content-requires
+content-requires c κs = search needs
+
+wide-requires : tie.Need-wide-requires
+wide-requires c κs = search needs
+
+returns : tie.Need-returns
+unfolding lastWord
+returns c = simp (← c .before .before .content .ensures, ← c .before .wide .ensures, ne-eqb _ _ (c .if1 .taken))
+
+add-next : tie.Need-add-next
+add-next c = search needs
+
+returns-2 : tie.Need-returns-2
+unfolding lastWord
+returns-2 c =
+    let d = c .before in
+    let a = d .before .before .before .before .before .args in
+    let h : suc (a .index) < length (now (a .words)) = omega arith in
+    simp (
+      ← d .before .before .content .ensures,
+      ← d .before .wide .ensures,
+      eq-eqb _ _ (d .if1 .left),
+      drop-cons (now (a .words)) (suc (a .index)) 0 h,
+      add-one,
+    )
+
+returns-3 : tie.Need-returns-3
+unfolding lastWord
+returns-3 c =
+    let d = c .before in
+    let a = d .before .before .before .before .before .args in
+    let h : length (now (a .words)) ≤ suc (a .index) = omega arith in
+    simp (
+      ← d .before .before .content .ensures,
+      ← d .before .wide .ensures,
+      eq-eqb _ _ (d .if1 .left),
+      drop-of-length-le (now (a .words)) h,
+      add-zero,
+    )
+
+pub judge-last-spec : {M : Type 1} → statement M
+judge-last-spec =
+    tie.close
+    (tie.spec
+    mul-content
+    shared-slice-read-content
+    content-requires
+    wide-requires
+    returns
+    add-next
+    returns-2
+    returns-3)

@@ -1,0 +1,60 @@
+-- `strike` meets its contract: each way out has the checks that it passed.
+-- Assumes nothing.
+use native.Mathlib.Omega.{arith}
+use mathlib.Core.Path.{sym, _∙_}
+use lib.Seq.{length-take-le}
+use Rattle.strike.proofs.Replies.{reply-unpaired, reply-many, reply-low, reply-high, reply-room, refused-leaves, answered}
+use borrow.Author.Needs.{needs}
+use Rattle.strike.proofs.strike.Statement.{statement}
+use Rattle.strike.proofs.strike.Tie as tie
+
+returns : tie.Need-returns
+returns c = refused-leaves _ _ _ _ _ _ _ (reply-unpaired _ _ _ _ _ (c .if1 .taken))
+
+returns-2 : tie.Need-returns-2
+returns-2 c = refused-leaves _ _ _ _ _ _ _ (reply-many _ _ _ _ _ (c .before .if1 .left) (c .if2 .taken))
+
+returns-3 : tie.Need-returns-3
+returns-3 c = refused-leaves _ _ _ _ _ _ _ (reply-low _ _ _ _ _ (c .before .before .if1 .left) (c .before .if2 .left) (c .if3 .taken))
+
+returns-4 : tie.Need-returns-4
+returns-4 c = refused-leaves _ _ _ _ _ _ _ (reply-high _ _ _ _ _ (c .before .before .before .if1 .left) (c .before .before .if2 .left) (c .before .if3 .left) (c .if4 .taken))
+
+zeros-65535-requires : tie.Need-zeros-65535-requires
+zeros-65535-requires c κs = search needs
+
+array-borrow-prefix-marks : tie.Need-array-borrow-prefix-marks
+array-borrow-prefix-marks c = search needs
+
+slice-aggregate-strike-marked : tie.Need-slice-aggregate-strike-marked
+slice-aggregate-strike-marked c = sym (length-take-le _ _ (omega arith))
+
+strike-marked-requires : tie.Need-strike-marked-requires
+strike-marked-requires c κs = (c .before .before .before .before .before .before .before .if1 .left, c .before .before .before .before .before .before .if2 .left, length-take-le _ _ (omega arith))
+
+same-length : tie.Need-same-length
+same-length c = search needs
+
+same-length-2 : tie.Need-same-length-2
+same-length-2 c = search needs
+
+returns-5 : tie.Need-returns-5
+returns-5 c =
+    let called = c .before .before .before .before .before .strike-marked in
+    answered _ _ _ _ _ _ _ _ (called .ensures .0 ∙ sym (reply-room _ _ _ _ _ (c .before .before .before .before .before .before .before .before .before .before .before .before .before .if1 .left) (c .before .before .before .before .before .before .before .before .before .before .before .before .if2 .left) (c .before .before .before .before .before .before .before .before .before .before .before .if3 .left) (c .before .before .before .before .before .before .before .before .before .before .if4 .left))) (called .ensures .1 .1 .0) (called .ensures .1 .1 .1)
+
+pub strike-spec : {M : Type 1} → statement M
+strike-spec =
+    tie.close
+    (tie.spec
+    returns
+    returns-2
+    returns-3
+    returns-4
+    zeros-65535-requires
+    array-borrow-prefix-marks
+    slice-aggregate-strike-marked
+    strike-marked-requires
+    same-length
+    same-length-2
+    returns-5)

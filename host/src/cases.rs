@@ -1,0 +1,93 @@
+//! Made-up inputs: clusters of near copies of a gene with inner repeats, and settings to map a read with.
+//! Assumes nothing.
+
+use crate::random::Random;
+use crate::reference::input::Settings;
+
+/// The letters that a case draws from: all four, few of them (which makes ties), lower case, and some outside the eight.
+const ALPHABETS: [&[u8]; 6] =
+    [b"ACGT", b"ACGT", b"AC", b"ACGTacgt", b"ACGTACGTACGTACGTN", b"acgtACGTACGTACGTACGTACGTACGTACGTnR-*"];
+
+/// Random letters of an alphabet.
+pub fn letters(random: &mut Random, length: usize, alphabet: &[u8]) -> Vec<u8> {
+    (0..length).map(|_| random.one_of(alphabet)).collect()
+}
+
+/// A copy with a change at one letter in `rate`: another letter, a letter too many or a letter too few.
+pub fn near_copy(random: &mut Random, gene: &[u8], rate: usize, alphabet: &[u8]) -> Vec<u8> {
+    let mut copy = Vec::new();
+    for &letter in gene {
+        if !random.once_in(rate) {
+            copy.push(letter);
+            continue;
+        }
+        match random.below(4) {
+            0 => {}
+            1 => copy.extend([letter, random.one_of(alphabet)]),
+            _ => copy.push(random.one_of(alphabet)),
+        }
+    }
+    copy
+}
+
+/// A gene of at least this length, some of whose pieces are repeated within it.
+pub fn gene(random: &mut Random, length: usize, alphabet: &[u8]) -> Vec<u8> {
+    let mut gene = Vec::new();
+    while gene.len() < length {
+        let size = random.between(1, 1 + length / 3);
+        let piece = letters(random, size, alphabet);
+        let times = if random.once_in(3) { random.between(2, 4) } else { 1 };
+        for _ in 0..times {
+            gene.extend(near_copy(random, &piece, 12, alphabet));
+        }
+    }
+    gene.truncate(length);
+    gene
+}
+
+/// A text with a cluster of near copies of one gene, and a read of one of them.
+pub fn cluster(random: &mut Random, longest: usize) -> (Vec<u8>, Vec<u8>) {
+    let alphabet = random.one_of(&ALPHABETS);
+    let size = random.between(1 + longest / 20, 1 + longest / 4);
+    let gene = gene(random, size, alphabet);
+    let rate = random.one_of(&[4, 10, 30, 1000]);
+    let mut text = Vec::new();
+    for _ in 0..random.one_of(&[0, 1, 2, 2, 3, 3, 4]) {
+        let gap = random.below(1 + longest / 8);
+        text.extend(letters(random, gap, alphabet));
+        text.extend(near_copy(random, &gene, rate, alphabet));
+    }
+    text.truncate(longest);
+    let read = near_copy(random, &gene, rate, alphabet);
+    (text, read)
+}
+
+/// Settings that are mostly accepted, with a k and w that mostly suit a text of this length. The threshold is one of a few that
+/// stand out.
+pub fn settings(random: &mut Random, longest: usize) -> Settings {
+    let (u, v) = match random.below(10) {
+        0 => (random.between(1, 1000) as u32, random.between(1, 1000) as u32),
+        1 => (random.between(0, 1) as u32 * 1000, random.between(1000, 1001) as u32),
+        _ => random.one_of(&[(1, 1), (1, 1), (2, 1), (1, 2), (3, 1), (1, 5), (7, 1), (1000, 1000), (1, 1000), (1000, 1)]),
+    };
+    let k = if random.once_in(9) { random.between(1, 15) } else { random.between(1, (longest / 20).clamp(1, 7)) };
+    let w = if random.once_in(9) { random.between(1, 64) } else { random.between(1, (longest / 12).clamp(1, 6)) };
+    Settings {
+        k: k as u32,
+        w: w as u32,
+        c: random.one_of(&[1, 2, 3, 5, 100, 100, 1000, 65_535, 65_535]),
+        u,
+        v,
+        threshold: random.one_of(&[i32::MIN, -1000, -30, -10, -3, -1, 0, 1, 2, 3, 6, 10, 30, 1000, i32::MAX]),
+    }
+}
+
+/// The first line of these settings, with its line feed.
+pub fn first_line(s: &Settings) -> Vec<u8> {
+    format!("{} {} {} {} {} {}\n", s.k, s.w, s.c, s.u, s.v, s.threshold).into_bytes()
+}
+
+/// The three lines.
+pub fn three_lines(settings: &Settings, text: &[u8], read: &[u8]) -> Vec<u8> {
+    [&first_line(settings), text, b"\n", read, b"\n"].concat()
+}

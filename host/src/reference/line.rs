@@ -1,0 +1,30 @@
+//! The line of a mapping, and the numbers in it.
+//! Assumes nothing.
+
+/// A number in decimal without leading zeros.
+pub fn decimal(number: u64) -> Vec<u8> {
+    let mut digits = Vec::new();
+    let mut rest = number;
+    while rest > 0 || digits.is_empty() {
+        digits.push(b'0' + (rest % 10) as u8);
+        rest /= 10;
+    }
+    digits.reverse();
+    digits
+}
+
+/// A score "with a minus sign (byte 45) when negative".
+pub fn signed(number: i64) -> Vec<u8> {
+    let mut bytes = if number < 0 { vec![45] } else { Vec::new() };
+    bytes.extend(decimal(number.unsigned_abs()));
+    bytes
+}
+
+/// "first letter, last letter, score, m, per mille", one space between them and a line feed after.
+pub fn line(first: u32, last: u32, score: i32, m: u32, per_mille: u32) -> Vec<u8> {
+    let unsigned = |number: u32| decimal(u64::from(number));
+    let fields = [unsigned(first), unsigned(last), signed(i64::from(score)), unsigned(m), unsigned(per_mille)];
+    let mut line = fields.join(&32);
+    line.push(10);
+    line
+}

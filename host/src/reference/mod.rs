@@ -1,0 +1,17 @@
+//! Document 01 word for word, as a brute force, one subject a file. It shares nothing with the proved crates.
+//! Assumes nothing.
+
+pub mod cells;
+pub mod definition1;
+pub mod input;
+pub mod letters;
+pub mod line;
+pub mod output;
+pub mod permille;
+pub mod refusal;
+pub mod score;
+pub mod sketch;
+pub mod start;
+pub mod steps;
+pub mod store;
+pub mod strike;

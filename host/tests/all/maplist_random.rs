@@ -1,0 +1,94 @@
+//! The program on thousands of made-up clusters of near copies, beside the reference.
+//! Assumes that the program has been built.
+
+use host::cases::{cluster, settings, three_lines};
+use host::program::{expect, run_on};
+use host::random::Random;
+use host::reference::definition1::finals;
+use host::reference::input::{Settings, input};
+use host::reference::output::{output, prepared};
+
+/// What a sweep of random cases met, so that it can't pass on empty lists alone.
+#[derive(Default)]
+struct Met {
+    mapped: usize,
+    several: usize,
+    ties: usize,
+    negative: usize,
+    refused: usize,
+}
+
+/// A case whose threshold is, mostly, at a score that some interval has, or one beside it.
+fn case(random: &mut Random, longest: usize) -> Vec<u8> {
+    let (text, read) = cluster(random, longest);
+    let mut settings = settings(random, longest);
+    let open = Settings { threshold: i32::MIN, ..settings };
+    let all = input(&three_lines(&open, &text, &read)).expect("three lines");
+    if let Ok((task, _, _)) = prepared(&all)
+        && random.below(4) > 0
+        && let found @ [_, ..] = finals(&task).as_slice()
+    {
+        let lowest = found.iter().map(|mapping| mapping.score).min().expect("a mapping");
+        let score = if random.once_in(3) { lowest } else { found[random.below(found.len())].score } as i32;
+        settings.threshold = score + random.below(3) as i32 - 1;
+    }
+    three_lines(&settings, &text, &read)
+}
+
+fn meet(met: &mut Met, bytes: &[u8]) {
+    let Ok((task, _, _)) = prepared(&input(bytes).expect("three lines")) else {
+        met.refused += 1;
+        return;
+    };
+    let mut scores: Vec<i64> = finals(&task).iter().map(|mapping| mapping.score).collect();
+    met.mapped += usize::from(!scores.is_empty());
+    met.several += usize::from(scores.len() > 1);
+    met.negative += usize::from(scores.iter().any(|&score| score < 0));
+    scores.sort_unstable();
+    met.ties += usize::from(scores.windows(2).any(|pair| pair[0] == pair[1]));
+}
+
+fn sweep(seeds: std::ops::Range<u64>, longest: usize) -> Met {
+    let mut met = Met::default();
+    for seed in seeds {
+        let bytes = case(&mut Random::new(seed), longest);
+        expect(&format!("seed {seed}, longest {longest}"), &bytes, &run_on(&bytes), &output(&bytes));
+        meet(&mut met, &bytes);
+    }
+    met
+}
+
+/// Sweeps 1,000 cases, and asks that enough of each kind were met.
+fn sweep_thousand(first: u64, longest: usize) {
+    let met = sweep(first..first + 1000, longest);
+    assert!(met.mapped > 400, "cases with a mapping: {}", met.mapped);
+    assert!(met.several > 200, "cases with several mappings: {}", met.several);
+    assert!(met.ties > 100, "cases with equal scores: {}", met.ties);
+    assert!(met.negative > 50, "cases with a negative score: {}", met.negative);
+    assert!(met.refused > 20, "refused cases: {}", met.refused);
+}
+
+#[test]
+fn tiny_clusters() {
+    sweep_thousand(10_000, 20);
+}
+
+#[test]
+fn small_clusters() {
+    sweep_thousand(20_000, 60);
+}
+
+#[test]
+fn clusters() {
+    sweep_thousand(30_000, 150);
+}
+
+#[test]
+fn longer_clusters() {
+    sweep_thousand(40_000, 300);
+}
+
+#[test]
+fn long_clusters() {
+    sweep(50_000..50_040, 4096);
+}

@@ -1,0 +1,69 @@
+//! The exported per mille beside the reference.
+//! Assumes nothing.
+
+use host::per_mille;
+use host::random::Random;
+use host::reference::permille;
+
+fn hold(m: u32, len: u32, size: u32) {
+    assert_eq!(per_mille(m, len, size), permille::per_mille(m, len, size), "m {m}, len {len}, size {size}");
+}
+
+#[test]
+fn small_numbers() {
+    for m in 0..=60 {
+        for len in 0..=60 {
+            for size in 0..=60 {
+                hold(m, len, size);
+            }
+        }
+    }
+}
+
+#[test]
+fn stated_values() {
+    assert_eq!(per_mille(3, 3, 3), 1000);
+    assert_eq!(per_mille(0, 0, 1), 0);
+    assert_eq!(per_mille(0, 1, 0), 0);
+    assert_eq!(per_mille(1, 2, 2), 333);
+    assert_eq!(per_mille(4096, 65_535, 4096), 62);
+    assert_eq!(per_mille(0, 0, 0), -16);
+    assert_eq!(per_mille(2, 1, 2), -16);
+    assert_eq!(per_mille(2, 2, 1), -16);
+    assert_eq!(per_mille(1, 65_536, 1), -16);
+    assert_eq!(per_mille(1, 1, 4097), -16);
+}
+
+#[test]
+fn edges() {
+    let about = |edge: u32| [edge.wrapping_sub(1), edge, edge.wrapping_add(1)];
+    let edges = [1, 1000, 4096, 65_535, 65_536, 4_294_968, 1 << 30, 1 << 31, 0, 1 << 16 | 4096];
+    let numbers: Vec<u32> = edges.into_iter().flat_map(about).collect();
+    for &m in &numbers {
+        for &len in &numbers {
+            for &size in &numbers {
+                hold(m, len, size);
+            }
+        }
+    }
+}
+
+#[test]
+fn every_m_of_long_patterns() {
+    for m in 0..=4097 {
+        for len in [m, m + 1, 4096, 10_000, 65_535] {
+            for size in [m, m + 1, 4096] {
+                hold(m, len, size);
+            }
+        }
+    }
+}
+
+#[test]
+fn random_numbers() {
+    let mut random = Random::new(900);
+    for _ in 0..1_000_000 {
+        hold(random.word() as u32, random.word() as u32, random.word() as u32);
+        hold(random.below(4200) as u32, random.below(66_000) as u32, random.below(4200) as u32);
+    }
+}
