@@ -1,4 +1,11 @@
 -- Laws about the work words, and what start's functions ask and give.
 pub mod Bias
 pub mod Tables
+mod Ring
+mod Reaching
+mod Noting
+mod Linking
 pub mod WorkWords
+mod Putting
+mod Starting
+mod Replies

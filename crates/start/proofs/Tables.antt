@@ -15,13 +15,14 @@ use borrow.Author.Tests.{lt-ltb, le-ltb, le-leb, lt-leb, leb-true, leb-false, lt
 use Rattle.counts.specs.Lists.{bit}
 use Rattle.counts.specs.Counts.{occ}
 use Rattle.counts.proofs.Lists.{eq-or-ne, clash}
-use Rattle.counts.proofs.Counts.{occ-split, occ-take-suc, bit-same}
+use Rattle.counts.proofs.Counts.{occ-split, occ-take-suc, bit-same, bit-other}
 use Rattle.mappings.specs.Score.{Task, interval, shared}
 use Rattle.mappings.specs.Cells.{hitCodes, hitCount}
 use Rattle.mappings.proofs.Shared.{interval-left, shared-left-end, shared-right-end, shared-nil}
 use Rattle.mappings.proofs.Hits.{hit-in-pattern}
 use Rattle.mappings.proofs.HitCodes.{length-hitCodes, getD-hitCodes}
 use Rattle.start.specs.Tables.{firstFrom, reach, back, whole}
+use Rattle.start.specs.Noting.{AllIn}
 
 -- ---- the first number that passes a test
 
@@ -89,7 +90,7 @@ module _ (g : List ℕ) where
   abbrev pub before : ℕ → ℕ → ℕ
   before x k = occ x (take k g)
 
-  before-suc : (x k : ℕ) → k < length g → before x (suc k) ≡ before x k + bit (eqb x (getD g k 0))
+  pub before-suc : (x k : ℕ) → k < length g → before x (suc k) ≡ before x k + bit (eqb x (getD g k 0))
   before-suc x k h = occ-take-suc x k g h
 
   before-split : (x i k : ℕ) → i ≤ k → before x i + occ x (drop i (take k g)) ≡ before x k
@@ -113,10 +114,6 @@ module _ (g : List ℕ) where
 -- ---- reach and back
 
 module _ (p g : List ℕ) where
-  -- each code of the hits occurs in p
-  abbrev pub AllIn : Type 0
-  AllIn = (i : ℕ) → i < length g → 1 ≤ occ (getD g i 0) p
-
   -- the tests that reach and back go by, in counts before
   over : (x i j : ℕ) → i ≤ j → before g x i + occ x p < before g x (suc j) → ltb (occ x p) (occ x (interval g i j)) ≡ true
   over x i j h l = lt-ltb (occ x p) (occ x (interval g i j)) (let e : before g x i + occ x (interval g i j) ≡ before g x (suc j) = occ-interval g x i j h in omega arith)
@@ -209,7 +206,7 @@ module _ (p g : List ℕ) where
 
   -- ---- what holds where each code of the hits occurs in p
 
-  module _ (all : AllIn) where
+  module _ (all : AllIn p g) where
     pub reach-after : (i : ℕ) → i < length g → i < reach p g i
     reach-after i h = go (eq-or-ne i (reach p g i))
       where
@@ -268,6 +265,70 @@ module _ (p g : List ℕ) where
         let e : shared p (interval g 0 (suc j)) ≡ bit (leb (occ (getD g (suc j) 0) (interval g 0 (suc j))) (occ (getD g (suc j) 0) p)) + shared p (interval g 0 j) = shared-right-end p g 0 j zero-le h in
         let b : bit (leb (occ (getD g (suc j) 0) (interval g 0 (suc j))) (occ (getD g (suc j) 0) p)) ≡ bit (eqb (back p g (suc j)) 0) = ap bit (back-whole (suc j) h) in
         omega arith
+
+    -- ---- reach and back come in pairs
+
+    -- hit i's code comes again at hit j, as many occurrences later as p has of it
+    pub record Pair (i j : ℕ) : Type 0 where
+      pub ordered : i < j
+      pub within : j < length g
+      pub same-code : getD g i 0 ≡ getD g j 0
+      pub later : before g (getD g j 0) j ≡ before g (getD g j 0) i + occ (getD g j 0) p
+
+    pub pair-reach : (i j : ℕ) → Pair i j → reach p g i ≡ j
+    unfolding reach
+    pair-reach i j r =
+        rw (r .same-code)
+        (first-is (λ (k : ℕ). ltb (occ (getD g j 0) p) (occ (getD g j 0) (interval g i k))) i (length g - i) j (omega (arith, r .ordered)) (omega (arith, r .within))
+        (λ k h l. not-over (getD g j 0) i k h (let m : before g (getD g j 0) (suc k) ≤ before g (getD g j 0) j = before-mono g (getD g j 0) (suc k) j l in omega (arith, r .later)))
+        (λ l. over (getD g j 0) i j (omega (arith, r .ordered)) (omega (arith, r .later, before-own g j (r .within)))))
+
+    pub pair-back : (i j : ℕ) → Pair i j → back p g j ≡ suc i
+    pair-back i j r =
+        let own : before g (getD g j 0) (suc i) ≡ suc (before g (getD g j 0) i) = ap (λ (x : ℕ). before g x (suc i)) (sym (r .same-code)) ∙ before-own g i (omega (arith, r .ordered, r .within)) ∙ ap (λ (x : ℕ). suc (before g x i)) (r .same-code) in
+        back-is j (suc i) (r .ordered)
+        (λ k l. let m : before g (getD g j 0) k ≤ before g (getD g j 0) i = before-mono g (getD g j 0) k i (omega arith) in omega (arith, r .later, before-own g j (r .within)))
+        (omega (arith, r .later, before-own g j (r .within)))
+
+    -- a code that has occurred before less often than in p
+    pub back-none : (j : ℕ) → j < length g → before g (getD g j 0) j < occ (getD g j 0) p → back p g j ≡ 0
+    back-none j h l = back-is j 0 zero-le (λ i m. absurd (omega arith)) (omega (arith, before-own g j h))
+
+    -- a count that grows at an index grows by that index's code
+    grows : (x k : ℕ) → k < length g → before g x k < before g x (suc k) → (getD g k 0 ≡ x) × (before g x (suc k) ≡ suc (before g x k))
+    grows x k h l = go (eq-or-ne x (getD g k 0))
+      where
+        e : before g x (suc k) ≡ before g x k + bit (eqb x (getD g k 0))
+        e = before-suc g x k h
+
+        go : (x ≡ getD g k 0) ⊎ (x ≡ getD g k 0 → ⊥) → (getD g k 0 ≡ x) × (before g x (suc k) ≡ suc (before g x k))
+        go (inl s) = (sym s, let b : bit (eqb x (getD g k 0)) ≡ 1 = ap bit (eq-eqb x (getD g k 0) s) in omega (arith, e))
+        go (inr n) = let b : bit (eqb x (getD g k 0)) ≡ 0 = bit-other x (getD g k 0) n in absurd (omega (arith, e))
+
+    pub reach-pair : (i j : ℕ) → i < length g → reach p g i ≡ j → j < length g → Pair i j
+    reach-pair i j h e l =
+        let low : before g (getD g i 0) j ≤ before g (getD g i 0) i + occ (getD g i 0) p = reach-low i j (omega (arith, reach-after i h)) (omega arith) h in
+        let high : before g (getD g i 0) i + occ (getD g i 0) p < before g (getD g i 0) (suc j) = rw e at (reach-high i h (omega arith)) in
+        let s = grows (getD g i 0) j l (omega arith) in
+        record {
+          ordered = omega (arith, reach-after i h);
+          within = l;
+          same-code = sym (s .0);
+          later = rw (s .0) (omega (arith, s .1));
+        }
+
+    pub back-pair : (i j : ℕ) → j < length g → back p g j ≡ suc i → Pair i j
+    back-pair i j h e =
+        let w : back p g j ≤ j = back-within j h in
+        let low : before g (getD g j 0) i + occ (getD g j 0) p < before g (getD g j 0) (suc j) = back-low i j (omega arith) (omega arith) in
+        let high : before g (getD g j 0) (suc j) ≤ before g (getD g j 0) (suc i) + occ (getD g j 0) p = rw e at (back-high j w) in
+        let s = grows (getD g j 0) i (omega arith) (omega arith) in
+        record {
+          ordered = omega arith;
+          within = h;
+          same-code = s .0;
+          later = omega (arith, s .1, before-own g j h);
+        }
 
 -- the codes of a task's hits occur in its pattern
 pub hit-codes-in : (task : Task) → AllIn (task .pattern) (hitCodes task)

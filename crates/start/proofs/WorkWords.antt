@@ -79,10 +79,10 @@ pub length-bestAfter : (task : Task) (q : ℕ) → length (bestAfter task q) ≡
 unfolding bestAfter
 length-bestAfter task q = length-withCells task (replicate (hitCount task) 0) (take q (cellsOf task)) ∙ length-replicate (hitCount task) 0
 
-length-table : (f : ℕ → ℕ) (h : ℕ) → length (map f (range 0 h)) ≡ h
+pub length-table : (f : ℕ → ℕ) (h : ℕ) → length (map f (range 0 h)) ≡ h
 length-table f h = length-map (range 0 h) f ∙ length-range 0 h
 
-getD-table : (f : ℕ → ℕ) (h i : ℕ) → i < h → getD (map f (range 0 h)) i 0 ≡ f i
+pub getD-table : (f : ℕ → ℕ) (h i : ℕ) → i < h → getD (map f (range 0 h)) i 0 ≡ f i
 getD-table f h i l = go (range 0 h) i (subst (λ (n : ℕ). i < n) (sym (length-range 0 h)) l) ∙ ap f (getD-range 0 h i 0 l ∙ (let e : 0 + i ≡ i = omega arith in e))
   where
     go : (l : List ℕ) (i : ℕ) → i < length l → getD (map f l) i 0 ≡ f (getD l i 0)

@@ -2,3 +2,5 @@
 pub mod Tables
 pub mod WorkWords
 pub mod Start
+pub mod Answers
+pub mod Noting

@@ -1,3 +1,112 @@
 // Starting a mapping session: `start` copies what a session needs into lent work words.
+mod blocks;
+mod hits;
+mod per_hit;
 pub mod score;
 pub mod words;
+
+use crate::blocks::{copy, fill, put_heading, zeros_2048, zeros_4096};
+use crate::hits::collect;
+use crate::score::biased;
+use crate::per_hit::{put_back, put_reach, put_whole};
+use crate::words::{BACK, BEST, HEADING, HIT_LIMIT, INDEX, PATTERN_LIMIT, REACH, TEXT_LIMIT, WEIGHT_LIMIT, WHOLE, WORK_WORDS};
+use counts::sort_words;
+ghost use mathlib.Core.Path.{_≡_};
+ghost use mathlib.Core.List.{List};
+ghost use Prim.Native.Nat.{ℕ, _≤_, _<_};
+ghost use lib.ListN.{length, getD};
+ghost use Rattle.counts.specs.Sorting.{Sorted, SortedCopyOf};
+ghost use Rattle.sketch.specs.Limits.{outside};
+ghost use Rattle.mappings.specs.Score.{Task};
+ghost use Rattle.mappings.specs.Limits.{weightLimit};
+ghost use Rattle.start.specs.WorkWords.{sessionWords};
+ghost use Rattle.start.specs.Start.{startReply, startWords, afterStart};
+ghost use Rattle.start.specs.Answers.{startedReply, taskOf, hitReply};
+ghost use Rattle.start.specs.Noting.{Prepared};
+
+// h, or why the call is refused: 7, 8, 9, 10, or 11 with h.
+pub enum Started {
+    Hits(usize),
+    BadWeights,
+    TooManyEntries,
+    BadPattern,
+    TooFewWords,
+    TooManyHits(usize),
+}
+
+fn bad_weight(w: u32) -> bool
+    ensures { λ r. ⌜ r ≡ outside 1 weightLimit w ⌝ }
+{
+    w < 1 || WEIGHT_LIMIT < w
+}
+
+// Writes the work words from the hits' indices and back of each.
+fn put_words(index: &[u32], backs: &[u32], u: u32, v: u32, size: u32, threshold: u32, work: &mut [u32])
+    requires { ⌜ (length (now index) ≤ 2048) × (length (now backs) ≡ length (now index)) × (16384 ≤ length (now work)) ⌝ }
+    requires { ⌜ ((k : ℕ) → k < length (now backs) → getD (now backs) k 0 ≤ k) ⌝ }
+    ensures { λ _. ⌜ ((task : Task) → Prepared task u v size threshold (now (index .entry)) (now (backs .entry)) → now (work .exit) ≡ sessionWords task (now (work .entry)) 0) ⌝ }
+{
+    let h = index.len();
+    copy(backs, &mut work[BACK..BACK + h]);
+    copy(index, &mut work[INDEX..INDEX + h]);
+    put_reach(backs, &mut work[INDEX + REACH..INDEX + REACH + h]);
+    fill(0, &mut work[INDEX + BEST..INDEX + BEST + h]);
+    let shared = put_whole(backs, &mut work[WHOLE..WHOLE + h]);
+    put_heading(h as u32, u, v, size, threshold, shared, &mut work[..HEADING]);
+}
+
+// What is left of start once the pattern's words are in order: no work word is written before the number of hits is known.
+fn begin_sorted(text: &[u32], sorted: &[u32], u: u32, v: u32, threshold: i32, work: &mut [u32]) -> Started
+    requires { ⌜ (length (now text) ≤ 65535) × (length (now sorted) ≤ 4096) × (16384 ≤ length (now work)) × Sorted (now sorted) ⌝ }
+    ensures { λ r. ⌜ ((pattern : List ℕ) → SortedCopyOf pattern (now (sorted .entry)) → startedReply r ≡ hitReply (taskOf (now (text .entry)) pattern u v threshold)) ⌝ }
+    ensures { λ r. ⌜ ((pattern : List ℕ) → SortedCopyOf pattern (now (sorted .entry)) → now (work .exit) ≡ afterStart (startedReply r) (taskOf (now (text .entry)) pattern u v threshold) (now (work .entry))) ⌝ }
+{
+    let mut index = zeros_2048();
+    let mut slots = zeros_2048();
+    let h = collect(text, sorted, &mut index, &mut slots);
+    if HIT_LIMIT < h {
+        return Started::TooManyHits(h);
+    }
+    let mut backs = zeros_2048();
+    put_back(sorted, &slots[..h], &mut backs[..h]);
+    put_words(&index[..h], &backs[..h], u, v, sorted.len() as u32, biased(threshold), work);
+    Started::Hits(h)
+}
+
+// What is left of start once all but the number of hits is judged.
+fn begin(text: &[u32], pattern: &[u32], u: u32, v: u32, threshold: i32, work: &mut [u32]) -> Started
+    requires { ⌜ (length (now text) ≤ 65535) × (length (now pattern) ≤ 4096) × (16384 ≤ length (now work)) ⌝ }
+    ensures { λ r. ⌜ startedReply r ≡ hitReply (taskOf (now (text .entry)) (now (pattern .entry)) u v threshold) ⌝ }
+    ensures { λ r. ⌜ now (work .exit) ≡ afterStart (startedReply r) (taskOf (now (text .entry)) (now (pattern .entry)) u v threshold) (now (work .entry)) ⌝ }
+{
+    let n = pattern.len();
+    let mut sorted = zeros_4096();
+    sort_words(pattern, &mut sorted[..n]);
+    begin_sorted(text, &sorted[..n], u, v, threshold, work)
+}
+
+// Starts a session: judges the arguments, and writes what `step` needs into the work words.
+pub fn start(text: &[u32], pattern: &[u32], u: u32, v: u32, threshold: i32, work: &mut [u32]) -> Started
+    ensures { λ r. ⌜ startedReply r ≡ startReply (taskOf (now (text .entry)) (now (pattern .entry)) u v threshold) (length (now (work .entry))) ⌝ }
+    ensures { λ _. ⌜ now (work .exit) ≡ startWords (taskOf (now (text .entry)) (now (pattern .entry)) u v threshold) (now (work .entry)) ⌝ }
+{
+    if bad_weight(u) {
+        return Started::BadWeights;
+    }
+    if bad_weight(v) {
+        return Started::BadWeights;
+    }
+    if TEXT_LIMIT < text.len() {
+        return Started::TooManyEntries;
+    }
+    if pattern.len() < 1 {
+        return Started::BadPattern;
+    }
+    if PATTERN_LIMIT < pattern.len() {
+        return Started::BadPattern;
+    }
+    if work.len() < WORK_WORDS {
+        return Started::TooFewWords;
+    }
+    begin(text, pattern, u, v, threshold, work)
+}

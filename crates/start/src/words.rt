@@ -9,6 +9,10 @@ pub const HIT_LIMIT: usize = 2048;
 
 pub const WEIGHT_LIMIT: u32 = 1000;
 
+pub const TEXT_LIMIT: usize = 65535;
+
+pub const PATTERN_LIMIT: usize = 4096;
+
 // Single words.
 pub const HITS: usize = 0;
 
@@ -17,6 +21,8 @@ pub const U: usize = 1;
 pub const V: usize = 2;
 
 pub const PASSED: usize = 3;
+
+pub const KIND: usize = 4;
 
 pub const SIZE: usize = 5;
 
@@ -27,6 +33,8 @@ pub const COLUMNS: usize = 7;
 pub const ROW: usize = 8;
 
 pub const SHARED: usize = 9;
+
+pub const HEADING: usize = 10;
 
 // Blocks of one word a hit.
 pub const BACK: usize = 2048;

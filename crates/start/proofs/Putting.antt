@@ -1,0 +1,275 @@
+-- Blocks put into the work words: each in its place, and the others as they were. Put one after the other they are the words of a fresh
+-- session.
+-- Assumes nothing.
+use Prim.Native.Nat.{ℕ, zero, suc, _+_, _-_, _≤_, _<_, zero-le}
+use native.Mathlib.Nat.{le-refl}
+use native.Mathlib.Omega.{arith}
+use mathlib.Core.Path.{_≡_, refl, sym, ap, ap₂, _∙_}
+use mathlib.Core.Logic.{_⊎_, inl, inr}
+use mathlib.Core.Bool.{Bool, cond}
+use mathlib.Core.List.{List, [], _∷_, _++_}
+use lib.ListN.{length, getD, take, drop, replicate, length-append, length-drop, length-replicate, getD-replicate, List·getD-append}
+use lib.Seq.{length-take-le, getD-append-add, getD-take, getD-drop, take-all}
+use borrow.Author.Tests.{lt-ltb}
+use borrow.Rule.Slice.PartMut.{putMid, post-is}
+use Rattle.counts.specs.Counts.{occ}
+use Rattle.counts.proofs.Counts.{occ-le-length}
+use Rattle.mappings.specs.Bias.{biasedZ}
+use Rattle.mappings.specs.Score.{Task}
+use Rattle.mappings.specs.Cells.{hits, hitCodes, hitCount}
+use Rattle.mappings.proofs.HitCodes.{length-hitCodes, cell-shared}
+use Rattle.start.specs.Tables.{reach, back, whole}
+use Rattle.start.specs.WorkWords.{columnsLeft, nextRow, nextShared, bestAfter, sessionWords}
+use Rattle.start.specs.Noting.{backs, reaches, zerosUpTo, freshHeading, Prepared}
+use Rattle.start.proofs.Tables.{hit-codes-in}
+use Rattle.start.proofs.Reaching.{length-backs, getD-backs, length-zerosUpTo, getD-zerosUpTo, whole-zeros}
+use Rattle.start.proofs.WorkWords.{Outside, Free, HoldsBlocks, Holds, hold-words, getD-table, length-table}
+
+-- ---- one block
+
+-- `after` is `before` with this block from index `begins` on
+pub record Put (begins : ℕ) (block before after : List ℕ) : Type 0 where
+  pub same-length : length after ≡ length before
+  pub inside : (i : ℕ) → i < length block → getD after (begins + i) 0 ≡ getD block i 0
+  pub outside : (n : ℕ) → Outside begins (length block) n → getD after n 0 ≡ getD before n 0
+
+put-at : (a : ℕ) (block before : List ℕ) → a + length block ≤ length before → Put a block before (take a before ++ (block ++ drop (a + length block) before))
+put-at a block before h = record {
+  same-length = omega (arith, length-append (take a before) (block ++ drop (a + length block) before), length-append block (drop (a + length block) before), length-drop (a + length block) before, first);
+  inside = λ i l. ap (λ (n : ℕ). getD words (n + i) 0) (sym first) ∙ getD-append-add (take a before) (block ++ drop (a + length block) before) i 0 ∙ List·getD-append block (drop (a + length block) before) 0 i l;
+  outside = out;
+}
+  where
+    words : List ℕ
+    words = take a before ++ (block ++ drop (a + length block) before)
+    first : length (take a before) ≡ a
+    first = length-take-le a before (omega arith)
+    out : (n : ℕ) → Outside a (length block) n → getD words n 0 ≡ getD before n 0
+    out n (inl l) =
+        List·getD-append (take a before) (block ++ drop (a + length block) before) 0 n (rw first l)
+        ∙ getD-take a before n 0 l
+    out n (inr l) =
+        let past : n ≡ length (take a before) + (length block + (n - (a + length block))) = omega (arith, first) in
+        let back : a + length block + (n - (a + length block)) ≡ n = omega arith in
+        ap (λ (k : ℕ). getD words k 0) past
+        ∙ getD-append-add (take a before) (block ++ drop (a + length block) before) (length block + (n - (a + length block))) 0
+        ∙ getD-append-add block (drop (a + length block) before) (n - (a + length block)) 0
+        ∙ getD-drop (a + length block) before (n - (a + length block)) 0
+        ∙ ap (λ (k : ℕ). getD before k 0) back
+
+-- a part that was lent and has come back as `new`, which is the block
+put-mid : (a h : ℕ) (block before new : List ℕ) → new ≡ block → length block ≡ h → a + h ≤ length before → Put a block before (putMid a (a + h - a) before new)
+put-mid a h block before new e n l = rw (post-is a (a + h) before (omega arith), e, ← n) (put-at a block before (omega arith))
+
+-- the same of a first part
+put-front : (k : ℕ) (block before new : List ℕ) → new ≡ block → length block ≡ k → k ≤ length before → Put 0 block before (new ++ drop k before)
+put-front k block before new e n l = let s : k ≡ 0 + length block = omega arith in rw (e, s) (put-at 0 block before (omega arith))
+
+-- ---- the place of a fresh session
+
+columns-none : (h : ℕ) → columnsLeft h 0 ≡ h
+columns-none zero = refl
+columns-none (suc j) = rw (lt-ltb 0 (suc j) (omega arith))
+
+row-none : (h : ℕ) → nextRow h 0 ≡ 0
+row-none zero = refl
+row-none (suc j) = rw (lt-ltb 0 (suc j) (omega arith))
+
+-- m of the first cell is how many hits have back 0
+shared-none : (task : Task) (h : ℕ) → hitCount task ≡ h → occ 0 (backs (task .pattern) (hitCodes task)) ≡ nextShared task h 0
+unfolding whole
+shared-none task zero e = omega (arith, occ-le-length 0 (backs (task .pattern) (hitCodes task)), length-backs (task .pattern) (hitCodes task), length-hitCodes task)
+shared-none task (suc j) e =
+    let n : length (hitCodes task) ≡ suc j = length-hitCodes task ∙ e in
+    ap (occ 0) (sym (take-all (suc j) (backs (task .pattern) (hitCodes task)) (omega (arith, length-backs (task .pattern) (hitCodes task)))))
+    ∙ whole-zeros (task .pattern) (hitCodes task) (hit-codes-in task) j (omega arith)
+    ∙ sym (cell-shared task 0 j zero-le (omega arith))
+
+-- ---- all blocks
+
+-- the blocks of a fresh session, put one after the other
+pub record Puts (task : Task) (heading old w₁ w₂ w₃ w₄ w₅ w₆ : List ℕ) : Type 0 where
+  pub put-back : Put 2048 (backs (task .pattern) (hitCodes task)) old w₁
+  pub put-index : Put 4096 (hits task) w₁ w₂
+  pub put-reach : Put 6144 (reaches (task .pattern) (hitCodes task)) w₂ w₃
+  pub put-best : Put 8192 (replicate (hitCount task) 0) w₃ w₄
+  pub put-whole : Put 10240 (zerosUpTo (backs (task .pattern) (hitCodes task))) w₄ w₅
+  pub put-heading : Put 0 heading w₅ w₆
+
+module _ (task : Task) where
+  abbrev h : ℕ
+  h = hitCount task
+
+  abbrev p : List ℕ
+  p = task .pattern
+
+  abbrev g : List ℕ
+  g = hitCodes task
+
+  abbrev heading : List ℕ
+  heading = freshHeading h (task .u) (task .v) (length p) (biasedZ (task .threshold)) (occ 0 (backs p g))
+
+  length-g : length g ≡ h
+  length-g = length-hitCodes task
+
+  back-long : length (backs p g) ≡ h
+  back-long = length-backs p g ∙ length-g
+
+  index-long : length (hits task) ≡ h
+  unfolding hitCount
+  index-long = refl
+
+  reach-long : length (reaches p g) ≡ h
+  unfolding reaches
+  reach-long = length-table (reach p g) (length g) ∙ length-g
+
+  best-long : length {A = ℕ} (replicate h 0) ≡ h
+  best-long = length-replicate h 0
+
+  whole-long : length (zerosUpTo (backs p g)) ≡ h
+  whole-long = length-zerosUpTo (backs p g) ∙ back-long
+
+  module _ (old w₁ w₂ w₃ w₄ w₅ w₆ : List ℕ) (puts : Puts task heading old w₁ w₂ w₃ w₄ w₅ w₆) (small : h ≤ 2048) where
+    -- a word outside of the blocks that were put last
+    past₆ : (n : ℕ) → 10 ≤ n → getD w₆ n 0 ≡ getD w₅ n 0
+    past₆ n l = puts .put-heading .outside n (inr l)
+
+    past₅ : (n : ℕ) → 10 ≤ n → Outside 10240 h n → getD w₆ n 0 ≡ getD w₄ n 0
+    past₅ n l o = past₆ n l ∙ puts .put-whole .outside n (rw whole-long o)
+
+    past₄ : (n : ℕ) → 10 ≤ n → Outside 10240 h n → Outside 8192 h n → getD w₆ n 0 ≡ getD w₃ n 0
+    past₄ n l o₅ o = past₅ n l o₅ ∙ puts .put-best .outside n (rw best-long o)
+
+    past₃ : (n : ℕ) → 10 ≤ n → Outside 10240 h n → Outside 8192 h n → Outside 6144 h n → getD w₆ n 0 ≡ getD w₂ n 0
+    past₃ n l o₅ o₄ o = past₄ n l o₅ o₄ ∙ puts .put-reach .outside n (rw reach-long o)
+
+    past₂ : (n : ℕ) → 10 ≤ n → Outside 10240 h n → Outside 8192 h n → Outside 6144 h n → Outside 4096 h n → getD w₆ n 0 ≡ getD w₁ n 0
+    past₂ n l o₅ o₄ o₃ o = past₃ n l o₅ o₄ o₃ ∙ puts .put-index .outside n (rw index-long o)
+
+    free : (n : ℕ) → Free h n → getD w₆ n 0 ≡ getD old n 0
+    free n f =
+        past₂ n (f .heading-before) (f .no-whole) (f .no-best) (f .no-reach) (f .no-index)
+        ∙ puts .put-back .outside n (rw back-long (f .no-back))
+
+    back-at : (i : ℕ) → i < h → getD w₆ (2048 + i) 0 ≡ back p g i
+    back-at i l =
+        past₂ (2048 + i) (omega arith) (inl (omega arith)) (inl (omega arith)) (inl (omega arith)) (inl (omega arith))
+        ∙ puts .put-back .inside i (rw back-long l)
+        ∙ getD-backs p g i (rw length-g l)
+
+    index-at : (i : ℕ) → i < h → getD w₆ (4096 + i) 0 ≡ getD (hits task) i 0
+    index-at i l =
+        past₃ (4096 + i) (omega arith) (inl (omega arith)) (inl (omega arith)) (inl (omega arith))
+        ∙ puts .put-index .inside i (rw index-long l)
+
+    reach-at : (i : ℕ) → i < h → getD w₆ (6144 + i) 0 ≡ reach p g i
+    unfolding reaches
+    reach-at i l =
+        past₄ (6144 + i) (omega arith) (inl (omega arith)) (inl (omega arith))
+        ∙ puts .put-reach .inside i (rw reach-long l)
+        ∙ getD-table (reach p g) (length g) i (rw length-g l)
+
+    best-at : (i : ℕ) → i < h → getD w₆ (8192 + i) 0 ≡ getD (bestAfter task 0) i 0
+    unfolding bestAfter
+    best-at i l =
+        past₅ (8192 + i) (omega arith) (inl (omega arith))
+        ∙ puts .put-best .inside i (rw best-long l)
+
+    whole-at : (i : ℕ) → i < h → getD w₆ (10240 + i) 0 ≡ whole p g i
+    whole-at i l =
+        past₆ (10240 + i) (omega arith)
+        ∙ puts .put-whole .inside i (rw whole-long l)
+        ∙ getD-zerosUpTo (backs p g) i (rw back-long l)
+        ∙ whole-zeros p g (hit-codes-in task) i (rw length-g l)
+
+    head-at : (i : ℕ) → i < 10 → getD w₆ i 0 ≡ getD heading i 0
+    head-at i l = let e : i ≡ 0 + i = omega arith in ap (λ (n : ℕ). getD w₆ n 0) e ∙ puts .put-heading .inside i l
+
+    -- the words of a fresh session
+    pub puts-session : 16384 ≤ length old → w₆ ≡ sessionWords task old 0
+    puts-session many = hold-words task old 0 small many w₆ (record {
+      held = record {
+        number = puts .put-heading .same-length ∙ puts .put-whole .same-length ∙ puts .put-best .same-length ∙ puts .put-reach .same-length ∙ puts .put-index .same-length ∙ puts .put-back .same-length;
+        h-word = head-at 0 (omega arith);
+        u-word = head-at 1 (omega arith);
+        v-word = head-at 2 (omega arith);
+        kind-word = head-at 4 (omega arith);
+        size-word = head-at 5 (omega arith);
+        threshold-word = head-at 6 (omega arith);
+        back-word = back-at;
+        index-word = index-at;
+        reach-word = reach-at;
+        best-word = best-at;
+        whole-word = whole-at;
+        free-word = free;
+      };
+      passed-word = head-at 3 (omega arith);
+      columns-word = head-at 7 (omega arith) ∙ sym (columns-none h);
+      row-word = head-at 8 (omega arith) ∙ sym (row-none h);
+      shared-word = head-at 9 (omega arith) ∙ shared-none task h refl ∙ sym (ap₂ (nextShared task) (columns-none h) (row-none h));
+    })
+
+-- ---- the parts that were lent, one after the other
+
+-- the words with a part of h words from a on come back as `new`
+abbrev pub mid : ℕ → ℕ → List ℕ → List ℕ → List ℕ
+mid a h words new = putMid a (a + h - a) words new
+
+pub record Lent (task : Task) (u v size threshold m : ℕ) (index noted b₁ b₂ b₃ b₄ b₅ b₆ : List ℕ) : Type 0 where
+  pub ready : Prepared task u v size threshold index noted
+  pub back-block : b₁ ≡ noted
+  pub index-block : b₂ ≡ index
+  pub reach-block : b₃ ≡ reaches (task .pattern) (hitCodes task)
+  pub best-block : b₄ ≡ replicate (length index) 0
+  pub whole-block : b₅ ≡ zerosUpTo noted
+  pub heading-block : b₆ ≡ freshHeading (length index) u v size threshold m
+  pub shared-is : m ≡ occ 0 noted
+
+module _ (task : Task) (u v size threshold m : ℕ) (index noted old b₁ b₂ b₃ b₄ b₅ b₆ : List ℕ) where
+  abbrev after₁ : List ℕ
+  after₁ = mid 2048 (length index) old b₁
+
+  abbrev after₂ : List ℕ
+  after₂ = mid 4096 (length index) after₁ b₂
+
+  abbrev after₃ : List ℕ
+  after₃ = mid 6144 (length index) after₂ b₃
+
+  abbrev after₄ : List ℕ
+  after₄ = mid 8192 (length index) after₃ b₄
+
+  abbrev after₅ : List ℕ
+  after₅ = mid 10240 (length index) after₄ b₅
+
+  pub lent-session : Lent task u v size threshold m index noted b₁ b₂ b₃ b₄ b₅ b₆ → length index ≤ 2048 → 16384 ≤ length old → b₆ ++ drop 10 after₅ ≡ sessionWords task old 0
+  lent-session lent small many =
+      puts-session task old after₁ after₂ after₃ after₄ after₅ (b₆ ++ drop 10 after₅)
+      (record { put-back = p₁; put-index = p₂; put-reach = p₃; put-best = p₄; put-whole = p₅; put-heading = p₆ })
+      (omega (arith, n)) many
+    where
+      n : length index ≡ hitCount task
+      n = ap length (lent .ready .index-is) ∙ index-long task
+
+      p₁ : Put 2048 (backs (task .pattern) (hitCodes task)) old after₁
+      p₁ = put-mid 2048 (length index) (backs (task .pattern) (hitCodes task)) old b₁ (lent .back-block ∙ lent .ready .backs-are) (back-long task ∙ sym n) (omega arith)
+
+      p₂ : Put 4096 (hits task) after₁ after₂
+      p₂ = put-mid 4096 (length index) (hits task) after₁ b₂ (lent .index-block ∙ lent .ready .index-is) (index-long task ∙ sym n) (omega (arith, p₁ .same-length))
+
+      p₃ : Put 6144 (reaches (task .pattern) (hitCodes task)) after₂ after₃
+      p₃ = put-mid 6144 (length index) (reaches (task .pattern) (hitCodes task)) after₂ b₃ (lent .reach-block) (reach-long task ∙ sym n) (omega (arith, p₂ .same-length, p₁ .same-length))
+
+      p₄ : Put 8192 (replicate (hitCount task) 0) after₃ after₄
+      p₄ = put-mid 8192 (length index) (replicate (hitCount task) 0) after₃ b₄ (lent .best-block ∙ ap (λ (k : ℕ). replicate k 0) n) (best-long task ∙ sym n) (omega (arith, p₃ .same-length, p₂ .same-length, p₁ .same-length))
+
+      p₅ : Put 10240 (zerosUpTo (backs (task .pattern) (hitCodes task))) after₄ after₅
+      p₅ = put-mid 10240 (length index) (zerosUpTo (backs (task .pattern) (hitCodes task))) after₄ b₅ (lent .whole-block ∙ ap zerosUpTo (lent .ready .backs-are)) (whole-long task ∙ sym n) (omega (arith, p₄ .same-length, p₃ .same-length, p₂ .same-length, p₁ .same-length))
+
+      zeros-are : m ≡ occ 0 (backs (task .pattern) (hitCodes task))
+      zeros-are = lent .shared-is ∙ ap (occ 0) (lent .ready .backs-are)
+
+      p₆ : Put 0 (heading task) after₅ (b₆ ++ drop 10 after₅)
+      p₆ =
+          put-front 10 (heading task) after₅ b₆
+          (lent .heading-block ∙ (let r = lent .ready in cc (n, zeros-are)))
+          refl (omega (arith, p₅ .same-length, p₄ .same-length, p₃ .same-length, p₂ .same-length, p₁ .same-length))

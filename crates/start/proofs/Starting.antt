@@ -1,0 +1,127 @@
+-- From what start has noted to the task: the pattern's words in order have the pattern's counts, so the hits, their codes and back of each are
+-- the task's.
+-- Assumes nothing.
+use Prim.Native.Nat.{ℕ, suc, _+_, _≤_, _<_, zero-le}
+use native.Mathlib.Omega.{arith}
+use mathlib.Core.Path.{_≡_, refl, sym, ap, ap₂, _∙_, subst}
+use mathlib.Core.Bool.{Bool, true}
+use mathlib.Core.List.{List, [], _∷_, _++_}
+use lib.Dec.{ltb, leb}
+use lib.IntN.{ℤ}
+use lib.ListN.{length, getD, take}
+use lib.Seq.{ext-getD, getD-take, length-take-le, take-all, take-at}
+use borrow.Author.Tests.{lt-ltb, le-ltb, le-leb}
+use Rattle.counts.specs.Lists.{addIf, range}
+use Rattle.counts.specs.Counts.{occ}
+use Rattle.counts.specs.Replies.{accepted, refused}
+use Rattle.counts.specs.Sorting.{Sorted, SortedCopyOf, LowerBound, sortLimit, sortable, SortedInto}
+use Rattle.counts.proofs.Lists.{and-both}
+use Rattle.counts.proofs.Sorting.{lower-bound-run, lower-bound-at}
+use Rattle.mappings.specs.Limits.{hitLimit}
+use Rattle.mappings.specs.Bias.{biasedZ}
+use Rattle.mappings.specs.Score.{Task, interval}
+use Rattle.mappings.specs.Cells.{hitsFrom, hits, hitCount, hitCodes}
+use Rattle.mappings.proofs.Hits.{hit-in-pattern}
+use Rattle.mappings.proofs.HitCodes.{length-hitCodes, getD-hitCodes}
+use Rattle.start.specs.Tables.{back}
+use Rattle.start.specs.Answers.{hitReply}
+use Rattle.start.specs.Noting.{Noted, wordsAt, Begin, AllIn, backs, Prepared}
+use Rattle.start.proofs.Tables.{first-same, back-within, hit-codes-in}
+use Rattle.start.proofs.Reaching.{length-backs, getD-backs}
+use Rattle.start.proofs.Linking.{length-wordsAt, getD-wordsAt, words-in}
+
+-- ---- lists with the same counts
+
+module _ (p q : List ℕ) (same : (x : ℕ) → occ x q ≡ occ x p) where
+  hits-same : (at : ℕ) (text : List ℕ) → hitsFrom q at text ≡ hitsFrom p at text
+  hits-same at [] = refl
+  hits-same at (x ∷ xs) = ap₂ (λ (n : ℕ) (l : List ℕ). addIf (ltb 0 n) at l) (same x) (hits-same (suc at) xs)
+
+  back-same : (g : List ℕ) (j : ℕ) → back q g j ≡ back p g j
+  unfolding back
+  back-same g j =
+      first-same (λ (i : ℕ). leb (occ (getD g j 0) (interval g i j)) (occ (getD g j 0) q)) (λ (i : ℕ). leb (occ (getD g j 0) (interval g i j)) (occ (getD g j 0) p)) 0 (suc j)
+      (λ i. ap (leb (occ (getD g j 0) (interval g i j))) (same (getD g j 0)))
+
+  backs-same : (g : List ℕ) → backs q g ≡ backs p g
+  backs-same g =
+      ext-getD 0 (backs q g) (backs p g) (length-backs q g ∙ sym (length-backs p g))
+      (λ j l. (let h : j < length g = rw (length-backs q g) at l in getD-backs q g j h ∙ back-same g j ∙ sym (getD-backs p g j h)))
+
+-- ---- the task
+
+module _ (task : Task) (sorted index slots : List ℕ) (n : ℕ) (copy : SortedCopyOf (task .pattern) sorted) (noted : Noted (task .text) sorted index slots n) where
+  hits-are : hitsFrom sorted 0 (task .text) ≡ hits task
+  unfolding hits
+  hits-are = hits-same (task .pattern) sorted (copy .same-counts) 0 (task .text)
+
+  pub number-is : n ≡ hitCount task
+  unfolding hitCount
+  number-is = noted .number ∙ ap length hits-are
+
+  module _ (room : n ≤ length index) (wide : n ≤ length slots) where
+    pub index-are : take n index ≡ hits task
+    unfolding hitCount
+    index-are =
+        ext-getD 0 (take n index) (hits task) (length-take-le n index room ∙ number-is)
+        (λ k l. (let h : k < n = rw (length-take-le n index room) at l in getD-take n index k 0 h ∙ noted .indices k h (omega arith) ∙ ap (λ (x : List ℕ). getD x k 0) hits-are))
+
+    slots-long : length (take n slots) ≡ n
+    slots-long = length-take-le n slots wide
+
+    -- the code of hit k, and its slot
+    abbrev code : ℕ → ℕ
+    code k = getD (task .text) (getD (hits task) k 0) 0
+
+    code-in : (k : ℕ) → k < n → 1 ≤ occ (code k) sorted
+    code-in k h = rw (copy .same-counts (code k)) (hit-in-pattern task k (rw number-is at h))
+
+    lower-at : (k : ℕ) → k < n → LowerBound sorted (code k) (getD (take n slots) k 0)
+    lower-at k h = rw (getD-take n slots k 0 h) (rw hits-are at (noted .lower k h (omega arith)))
+
+    word-at : (k : ℕ) → k < n → getD sorted (getD (take n slots) k 0) 0 ≡ code k
+    word-at k h =
+        let none : getD (take n slots) k 0 ≡ getD (take n slots) k 0 + 0 = omega arith in
+        ap (λ (s : ℕ). getD sorted s 0) none ∙ lower-bound-at sorted (copy .in-order) (code k) (getD (take n slots) k 0) (lower-at k h) 0 (code-in k h)
+
+    pub slots-begin : Begin sorted (take n slots)
+    slots-begin = record {
+      in-order = copy .in-order;
+      within = λ k l. (let h : k < n = rw slots-long at l in omega (arith, code-in k h, lower-bound-run sorted (copy .in-order) (code k) (getD (take n slots) k 0) (lower-at k h) .within));
+      lower = λ k l. (let h : k < n = rw slots-long at l in rw (word-at k h) (lower-at k h));
+    }
+
+    codes-are : wordsAt sorted (take n slots) ≡ hitCodes task
+    codes-are =
+        ext-getD 0 (wordsAt sorted (take n slots)) (hitCodes task)
+        (length-wordsAt sorted (take n slots) ∙ slots-long ∙ number-is ∙ sym (length-hitCodes task))
+        (λ k l. (let m : k < length (take n slots) = rw (length-wordsAt sorted (take n slots)) at l in let h : k < n = rw slots-long at m in getD-wordsAt sorted (take n slots) k m ∙ word-at k h ∙ sym (getD-hitCodes task k (rw number-is at h))))
+
+    pub backs-are : backs sorted (wordsAt sorted (take n slots)) ≡ backs (task .pattern) (hitCodes task)
+    backs-are = ap (backs sorted) codes-are ∙ backs-same (task .pattern) sorted (copy .same-counts) (hitCodes task)
+
+-- back of a hit is at most its number
+pub backs-within : (p g : List ℕ) → AllIn p g → (k : ℕ) → k < length (backs p g) → getD (backs p g) k 0 ≤ k
+backs-within p g all k l = let h : k < length g = rw (length-backs p g) at l in rw (getD-backs p g k h) (back-within p g all k h)
+
+-- ---- what start answers of the number of hits
+
+pub reply-hits : (task : Task) (n : ℕ) → n ≡ hitCount task → n ≤ hitLimit → accepted (n ∷ []) ≡ hitReply task
+unfolding hitReply
+reply-hits task n e l = rw (← e, le-ltb hitLimit n l)
+
+pub reply-many : (task : Task) (n : ℕ) → n ≡ hitCount task → hitLimit < n → refused 11 (n ∷ []) ≡ hitReply task
+unfolding hitReply
+reply-many task n e l = rw (← e, lt-ltb hitLimit n l)
+
+-- words in order are their own copy in order
+pub own-copy : (sorted : List ℕ) → Sorted sorted → SortedCopyOf sorted sorted
+own-copy sorted in-order = record { same-length = refl; same-counts = λ x. refl; in-order = in-order }
+
+-- a sort that had room has left a copy in order, from the start of what it was lent
+pub sorted-front : (r : Bool) (words old new rest : List ℕ) → r ≡ sortable words old → SortedInto r words old new → length words ≤ sortLimit → length old ≡ length words → length new ≡ length old → SortedCopyOf words (take (length words) (new ++ rest))
+unfolding sortable
+sorted-front r words old new rest e s few room kept =
+    let yes : r ≡ true = e ∙ and-both (le-leb (length words) sortLimit few) (le-leb (length words) (length old) (omega arith)) in
+    let whole : take (length words) new ≡ new = take-all (length words) new (omega arith) in
+    rw (take-at new rest (length words) (omega arith)) (rw whole at (rw yes at s .0))

@@ -1,0 +1,31 @@
+-- What the cases of start's answer say in document 01's numbers, and the task that its arguments make.
+-- Assumes nothing.
+use Prim.Native.Nat.{ℕ}
+use mathlib.Core.Bool.{cond}
+use mathlib.Core.List.{List, [], _∷_}
+use lib.Dec.{ltb}
+use lib.IntN.{ℤ}
+use Rattle.counts.specs.Replies.{Reply, accepted, refused}
+use Rattle.mappings.specs.Limits.{hitLimit}
+use Rattle.mappings.specs.Score.{Task}
+use Rattle.mappings.specs.Cells.{hitCount}
+use Rattle.start.specs.declared.Started.{Started}
+use Rattle.start.specs.declared.Started.the-variants.{Hits, BadWeights, TooManyEntries, BadPattern, TooFewWords, TooManyHits}
+
+-- h; or 7, u or v outside 1–1,000; 8, text over 65,535 entries; 9, pattern of 0 or over 4,096 entries; 10, fewer than 16,384 work
+-- words; 11, with h, h over 2,048
+abbrev pub startedReply : Started → Reply
+startedReply (Hits h) = accepted (h ∷ [])
+startedReply BadWeights = refused 7 []
+startedReply TooManyEntries = refused 8 []
+startedReply BadPattern = refused 9 []
+startedReply TooFewWords = refused 10 []
+startedReply (TooManyHits h) = refused 11 (h ∷ [])
+
+-- what start's arguments ask to be mapped
+abbrev pub taskOf : List ℕ → List ℕ → ℕ → ℕ → ℤ → Task
+taskOf text pattern u v threshold = record { text = text; pattern = pattern; u = u; v = v; threshold = threshold }
+
+-- what start answers where only the number of hits is left to judge
+unfoldable pub hitReply : Task → Reply
+hitReply task = cond (ltb hitLimit (hitCount task)) (refused 11 (hitCount task ∷ [])) (accepted (hitCount task ∷ []))
