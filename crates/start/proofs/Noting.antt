@@ -77,8 +77,10 @@ module _ (text sorted : List ℕ) where
     where
       x : ℕ
       x = getD text i 0
+
       next : drop h all-hits ≡ addIf (ltb 0 (occ x sorted)) i (hitsFrom sorted (suc i) (drop (suc i) text))
       next = now .left ∙ ap (hitsFrom sorted i) (drop-cons text i 0 l)
+
       go : (b : Bool) → ltb 0 (occ x sorted) ≡ b → Noting (set index h i) (set slots h slot) (h + bit b) (suc i)
       go true e =
           let f : First all-hits h i (hitsFrom sorted (suc i) (drop (suc i) text)) = drop-first all-hits h i (hitsFrom sorted (suc i) (drop (suc i) text)) (rw e at next) in

@@ -42,8 +42,10 @@ put-at a block before h = record {
   where
     words : List ℕ
     words = take a before ++ (block ++ drop (a + length block) before)
+
     first : length (take a before) ≡ a
     first = length-take-le a before (omega arith)
+
     out : (n : ℕ) → Outside a (length block) n → getD words n 0 ≡ getD before n 0
     out n (inl l) =
         List·getD-append (take a before) (block ++ drop (a + length block) before) 0 n (rw first l)

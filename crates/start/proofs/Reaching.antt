@@ -75,6 +75,7 @@ module _ (p g : List ℕ) where
         -- another hit's reach is not j
         other : (i : ℕ) → i < length g → back p g j ≢ suc i → reach p g i ≢ j
         other i l d e = d (pair-back p g all i j (reach-pair p g all i j l e h))
+
         go : (b : ℕ) → back p g j ≡ b → getD (withPair b j words) i 0 ≡ known (length g) (suc j) (reach p g i)
         go zero e = t i l ∙ known-same (length g) j (reach p g i) (other i l (λ d. absurd (omega (arith, e, d))))
         go (suc k) e = pick (eq-or-ne i k)

@@ -47,6 +47,7 @@ module _ (sorted : List ℕ) (in-order : Sorted sorted) where
     where
       run : Run x sorted n (n + occ x sorted)
       run = lower-bound-run sorted in-order x n l
+
       go : (b : Bool) → ltb i (occ x sorted) ≡ b → (t : Bool) → ltb (n + i) (length sorted) ≡ t → bit (t && eqb (getD sorted (n + i) 0) x) ≡ bit b
       go true e true f = ap bit (eq-eqb (getD sorted (n + i) 0) x (run .inside (n + i) (omega arith) (omega (arith, ltb-true i (occ x sorted) e))))
       go true e false f = absurd (omega (arith, ltb-true i (occ x sorted) e, ltb-false (n + i) (length sorted) f, run .within))
@@ -68,6 +69,7 @@ occurrence g x k (suc j) h l = go (ltb k (before g x j)) refl (occurrence g x k 
   where
     step : before g x (suc j) ≡ before g x j + bit (eqb x (getD g j 0))
     step = before-suc g x j h
+
     go : (b : Bool) → ltb k (before g x j) ≡ b → (k < before g x j → (i : ℕ) × (i < j) × (getD g i 0 ≡ x) × (before g x i ≡ k)) → (x ≡ getD g j 0) ⊎ (x ≢ getD g j 0) → (i : ℕ) × (i < suc j) × (getD g i 0 ≡ x) × (before g x i ≡ k)
     go true e rec s = let r = rec (ltb-true k (before g x j) e) in (r .0, omega (arith, r .1), r .2, r .3)
     go false e rec (inl s) =

@@ -1,5 +1,14 @@
 // Blocks of words: arrays of zeros, and blocks of the work words filled with one word, copied, and the heading.
-use crate::words::{COLUMNS, HITS, KIND, PASSED, ROW, SHARED, SIZE, THRESHOLD, U, V};
+use crate::words::COLUMNS;
+use crate::words::HITS;
+use crate::words::KIND;
+use crate::words::PASSED;
+use crate::words::ROW;
+use crate::words::SHARED;
+use crate::words::SIZE;
+use crate::words::THRESHOLD;
+use crate::words::U;
+use crate::words::V;
 ghost use mathlib.Core.Path.{_≡_};
 ghost use lib.ListN.{length, replicate};
 ghost use Rattle.counts.specs.Keys.{zeros};
@@ -38,7 +47,15 @@ pub(crate) fn copy(words: &[u32], block: &mut [u32])
     }
 }
 
-pub(crate) fn put_heading(h: u32, u: u32, v: u32, size: u32, threshold: u32, shared: u32, heading: &mut [u32])
+pub(crate) fn put_heading(
+    h: u32,
+    u: u32,
+    v: u32,
+    size: u32,
+    threshold: u32,
+    shared: u32,
+    heading: &mut [u32],
+)
     requires { ⌜ length (now heading) ≡ 10 ⌝ }
     ensures { λ _. ⌜ now (heading .exit) ≡ freshHeading h u v size threshold shared ⌝ }
 {

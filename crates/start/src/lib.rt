@@ -5,11 +5,27 @@ mod per_hit;
 pub mod score;
 pub mod words;
 
-use crate::blocks::{copy, fill, put_heading, zeros_2048, zeros_4096};
+use crate::blocks::copy;
+use crate::blocks::fill;
+use crate::blocks::put_heading;
+use crate::blocks::zeros_2048;
+use crate::blocks::zeros_4096;
 use crate::hits::collect;
+use crate::per_hit::put_back;
+use crate::per_hit::put_reach;
+use crate::per_hit::put_whole;
 use crate::score::biased;
-use crate::per_hit::{put_back, put_reach, put_whole};
-use crate::words::{BACK, BEST, HEADING, HIT_LIMIT, INDEX, PATTERN_LIMIT, REACH, TEXT_LIMIT, WEIGHT_LIMIT, WHOLE, WORK_WORDS};
+use crate::words::BACK;
+use crate::words::BEST;
+use crate::words::HEADING;
+use crate::words::HIT_LIMIT;
+use crate::words::INDEX;
+use crate::words::PATTERN_LIMIT;
+use crate::words::REACH;
+use crate::words::TEXT_LIMIT;
+use crate::words::WEIGHT_LIMIT;
+use crate::words::WHOLE;
+use crate::words::WORK_WORDS;
 use counts::sort_words;
 ghost use mathlib.Core.Path.{_≡_};
 ghost use mathlib.Core.List.{List};
@@ -41,7 +57,15 @@ fn bad_weight(w: u32) -> bool
 }
 
 // Writes the work words from the hits' indices and back of each.
-fn put_words(index: &[u32], backs: &[u32], u: u32, v: u32, size: u32, threshold: u32, work: &mut [u32])
+fn put_words(
+    index: &[u32],
+    backs: &[u32],
+    u: u32,
+    v: u32,
+    size: u32,
+    threshold: u32,
+    work: &mut [u32],
+)
     requires { ⌜ (length (now index) ≤ 2048) × (length (now backs) ≡ length (now index)) × (16384 ≤ length (now work)) ⌝ }
     requires { ⌜ ((k : ℕ) → k < length (now backs) → getD (now backs) k 0 ≤ k) ⌝ }
     ensures { λ _. ⌜ ((task : Task) → Prepared task u v size threshold (now (index .entry)) (now (backs .entry)) → now (work .exit) ≡ sessionWords task (now (work .entry)) 0) ⌝ }
@@ -52,11 +76,26 @@ fn put_words(index: &[u32], backs: &[u32], u: u32, v: u32, size: u32, threshold:
     put_reach(backs, &mut work[INDEX + REACH..INDEX + REACH + h]);
     fill(0, &mut work[INDEX + BEST..INDEX + BEST + h]);
     let shared = put_whole(backs, &mut work[WHOLE..WHOLE + h]);
-    put_heading(h as u32, u, v, size, threshold, shared, &mut work[..HEADING]);
+    put_heading(
+        h as u32,
+        u,
+        v,
+        size,
+        threshold,
+        shared,
+        &mut work[..HEADING],
+    );
 }
 
 // What is left of start once the pattern's words are in order: no work word is written before the number of hits is known.
-fn begin_sorted(text: &[u32], sorted: &[u32], u: u32, v: u32, threshold: i32, work: &mut [u32]) -> Started
+fn begin_sorted(
+    text: &[u32],
+    sorted: &[u32],
+    u: u32,
+    v: u32,
+    threshold: i32,
+    work: &mut [u32],
+) -> Started
     requires { ⌜ (length (now text) ≤ 65535) × (length (now sorted) ≤ 4096) × (16384 ≤ length (now work)) × Sorted (now sorted) ⌝ }
     ensures { λ r. ⌜ ((pattern : List ℕ) → SortedCopyOf pattern (now (sorted .entry)) → startedReply r ≡ hitReply (taskOf (now (text .entry)) pattern u v threshold)) ⌝ }
     ensures { λ r. ⌜ ((pattern : List ℕ) → SortedCopyOf pattern (now (sorted .entry)) → now (work .exit) ≡ afterStart (startedReply r) (taskOf (now (text .entry)) pattern u v threshold) (now (work .entry))) ⌝ }
@@ -69,7 +108,15 @@ fn begin_sorted(text: &[u32], sorted: &[u32], u: u32, v: u32, threshold: i32, wo
     }
     let mut backs = zeros_2048();
     put_back(sorted, &slots[..h], &mut backs[..h]);
-    put_words(&index[..h], &backs[..h], u, v, sorted.len() as u32, biased(threshold), work);
+    put_words(
+        &index[..h],
+        &backs[..h],
+        u,
+        v,
+        sorted.len() as u32,
+        biased(threshold),
+        work,
+    );
     Started::Hits(h)
 }
 
@@ -86,7 +133,14 @@ fn begin(text: &[u32], pattern: &[u32], u: u32, v: u32, threshold: i32, work: &m
 }
 
 // Starts a session: judges the arguments, and writes what `step` needs into the work words.
-pub fn start(text: &[u32], pattern: &[u32], u: u32, v: u32, threshold: i32, work: &mut [u32]) -> Started
+pub fn start(
+    text: &[u32],
+    pattern: &[u32],
+    u: u32,
+    v: u32,
+    threshold: i32,
+    work: &mut [u32],
+) -> Started
     ensures { λ r. ⌜ startedReply r ≡ startReply (taskOf (now (text .entry)) (now (pattern .entry)) u v threshold) (length (now (work .entry))) ⌝ }
     ensures { λ _. ⌜ now (work .exit) ≡ startWords (taskOf (now (text .entry)) (now (pattern .entry)) u v threshold) (now (work .entry)) ⌝ }
 {

@@ -1,5 +1,6 @@
 // What a session knows of each hit: back, reach and whole.
-use crate::blocks::{fill, zeros_4096};
+use crate::blocks::fill;
+use crate::blocks::zeros_4096;
 use crate::hits::one_at;
 use crate::words::wide;
 ghost use mathlib.Core.Path.{_≡_};

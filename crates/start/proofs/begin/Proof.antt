@@ -89,9 +89,10 @@ returns c =
     let rest = drop (length pattern) (zeros .result) in
     let copy : SortedCopyOf pattern (take (length pattern) (new ++ rest)) = sorted-front (sort .result) pattern (take (length pattern) (zeros .result)) new rest (sort .ensures .0) (sort .ensures .1) few part (sort .kept .1 .0) in
     let args = c .before .before .before .before .before .before .before .before .before .before .before .before .args in
-    let same = toZ-ofZ w32 (args .threshold) (c .before .before .before .before .before .before .before .before .before .before .before .before .fits .threshold) in
-    (subst (λ (z : ℤ). startedReply (c .before .before .begin-sorted .result) ≡ hitReply (taskOf (args .text .now) pattern (args .u) (args .v) z)) same (c .before .before .begin-sorted .ensures .0 pattern copy),
-    subst (λ (z : ℤ). c .before .before .begin-sorted .last .1 .1 .1 .1 .1 .0 ≡ afterStart (startedReply (c .before .before .begin-sorted .result)) (taskOf (args .text .now) pattern (args .u) (args .v) z) (args .work .now)) same (c .before .before .begin-sorted .ensures .1 pattern copy))
+    let same = toZ-ofZ w32 (args .threshold) (c .before .before .before .before .before .before .before .before .before .before .before .before .fits .threshold) in (
+      subst (λ (z : ℤ). startedReply (c .before .before .begin-sorted .result) ≡ hitReply (taskOf (args .text .now) pattern (args .u) (args .v) z)) same (c .before .before .begin-sorted .ensures .0 pattern copy),
+      subst (λ (z : ℤ). c .before .before .begin-sorted .last .1 .1 .1 .1 .1 .0 ≡ afterStart (startedReply (c .before .before .begin-sorted .result)) (taskOf (args .text .now) pattern (args .u) (args .v) z) (args .work .now)) same (c .before .before .begin-sorted .ensures .1 pattern copy),
+    )
 
 pub begin-spec : {M : Type 1} → statement M
 begin-spec =

@@ -41,11 +41,12 @@ collect-requires c κs = search needs
 returns : tie.Need-returns
 returns c =
     let start = c .before .before .before .before .before .before .before .before .before .before .before in
-    let collect = c .before .before .before .collect in
-    (λ pattern copy.
-    let task = taskOf (start .args .text .now) pattern (start .args .u) (start .args .v) (start .args .threshold) in
-    reply-many task (collect .result) (number-is task (start .args .sorted .now) (collect .last .1 .1 .0) (collect .last .1 .1 .1 .0) (collect .result) copy (collect .ensures)) (c .if1 .taken),
-    λ pattern copy. refl)
+    let collect = c .before .before .before .collect in (
+      λ pattern copy.
+          let task = taskOf (start .args .text .now) pattern (start .args .u) (start .args .v) (start .args .threshold) in
+          reply-many task (collect .result) (number-is task (start .args .sorted .now) (collect .last .1 .1 .0) (collect .last .1 .1 .1 .0) (collect .result) copy (collect .ensures)) (c .if1 .taken),
+      λ pattern copy. refl,
+    )
 
 zeros-2048-requires-3 : tie.Need-zeros-2048-requires-3
 zeros-2048-requires-3 c κs = search needs
@@ -95,9 +96,10 @@ put-back-requires c κs =
     let room : n ≤ length index = omega (arith, collect .kept .1 .1 .0, c .before .before .before .before .before .before .before .before .before .before .zeros-2048 .ensures .0) in
     let wide : n ≤ length slots = omega (arith, collect .kept .1 .1 .1 .0, c .before .before .before .before .before .before .before .before .before .zeros-20482 .ensures .0) in
     let zeros = c .before .before .zeros-20483 in
-    let long : n ≤ length (zeros .result) = omega (arith, zeros .ensures .0) in
-    (slots-begin (taskOf (start .args .text .now) (start .args .sorted .now) (start .args .u) (start .args .v) (start .args .threshold)) (start .args .sorted .now) index slots n (own-copy (start .args .sorted .now) (start .pre .3)) (collect .ensures) room wide,
-    (start .pre .1, omega (arith, length-take-le n slots wide), length-take-le n (zeros .result) long ∙ sym (length-take-le n slots wide)))
+    let long : n ≤ length (zeros .result) = omega (arith, zeros .ensures .0) in (
+      slots-begin (taskOf (start .args .text .now) (start .args .sorted .now) (start .args .u) (start .args .v) (start .args .threshold)) (start .args .sorted .now) index slots n (own-copy (start .args .sorted .now) (start .pre .3)) (collect .ensures) room wide,
+      (start .pre .1, omega (arith, length-take-le n slots wide), length-take-le n (zeros .result) long ∙ sym (length-take-le n slots wide)),
+    )
 
 array-share-prefix-index : tie.Need-array-share-prefix-index
 array-share-prefix-index c = search needs
@@ -178,10 +180,11 @@ put-words-requires c κs =
     let backs = put .last .1 .1 .0 in
     let many : length backs ≡ n = put .kept .1 .1 .0 ∙ length-take-le n (zeros .result) long in
     let array : n ≤ length (backs ++ drop n (zeros .result)) = omega (arith, length-append backs (drop n (zeros .result))) in
-    let front : take n (backs ++ drop n (zeros .result)) ≡ backs = take-at backs (drop n (zeros .result)) n many in
-    ((omega (arith, length-take-le n index room), ap length front ∙ many ∙ sym (length-take-le n index room), start .pre .2),
-    subst (λ (l : List ℕ). (k : ℕ) → k < length l → getD l k 0 ≤ k) (sym (front ∙ put .ensures))
-    (backs-within (start .args .sorted .now) (wordsAt (start .args .sorted .now) (take n slots)) (words-in (start .args .sorted .now) (take n slots) (slots-begin (taskOf (start .args .text .now) (start .args .sorted .now) (start .args .u) (start .args .v) (start .args .threshold)) (start .args .sorted .now) index slots n (own-copy (start .args .sorted .now) (start .pre .3)) (collect .ensures) room wide))))
+    let front : take n (backs ++ drop n (zeros .result)) ≡ backs = take-at backs (drop n (zeros .result)) n many in (
+      (omega (arith, length-take-le n index room), ap length front ∙ many ∙ sym (length-take-le n index room), start .pre .2),
+      subst (λ (l : List ℕ). (k : ℕ) → k < length l → getD l k 0 ≤ k) (sym (front ∙ put .ensures))
+          (backs-within (start .args .sorted .now) (wordsAt (start .args .sorted .now) (take n slots)) (words-in (start .args .sorted .now) (take n slots) (slots-begin (taskOf (start .args .text .now) (start .args .sorted .now) (start .args .u) (start .args .v) (start .args .threshold)) (start .args .sorted .now) index slots n (own-copy (start .args .sorted .now) (start .pre .3)) (collect .ensures) room wide))),
+    )
 
 same-length : tie.Need-same-length
 same-length c = search needs
@@ -202,21 +205,22 @@ returns-2 c =
     let backs = put .last .1 .1 .0 in
     let many : length backs ≡ n = put .kept .1 .1 .0 ∙ length-take-le n (zeros .result) long in
     let array : n ≤ length (backs ++ drop n (zeros .result)) = omega (arith, length-append backs (drop n (zeros .result))) in
-    let front : take n (backs ++ drop n (zeros .result)) ≡ backs = take-at backs (drop n (zeros .result)) n many in
-    (λ pattern copy.
-    let task = taskOf (start .args .text .now) pattern (start .args .u) (start .args .v) (start .args .threshold) in
-    reply-hits task n (number-is task (start .args .sorted .now) index slots n copy (collect .ensures)) small,
-    λ pattern copy.
-    let task = taskOf (start .args .text .now) pattern (start .args .u) (start .args .v) (start .args .threshold) in
-    c .before .before .put-words .ensures task
-    (record {
-      u-is = refl;
-      v-is = refl;
-      size-is = copy .same-length;
-      threshold-is = c .before .before .before .before .biased .ensures ∙ ap biasedZ (toZ-ofZ w32 (start .args .threshold) (start .fits .threshold));
-      index-is = index-are task (start .args .sorted .now) index slots n copy (collect .ensures) room wide;
-      backs-are = front ∙ put .ensures ∙ backs-are task (start .args .sorted .now) index slots n copy (collect .ensures) room wide;
-    }))
+    let front : take n (backs ++ drop n (zeros .result)) ≡ backs = take-at backs (drop n (zeros .result)) n many in (
+      λ pattern copy.
+          let task = taskOf (start .args .text .now) pattern (start .args .u) (start .args .v) (start .args .threshold) in
+          reply-hits task n (number-is task (start .args .sorted .now) index slots n copy (collect .ensures)) small,
+      λ pattern copy.
+          let task = taskOf (start .args .text .now) pattern (start .args .u) (start .args .v) (start .args .threshold) in
+          c .before .before .put-words .ensures task
+          (record {
+            u-is = refl;
+            v-is = refl;
+            size-is = copy .same-length;
+            threshold-is = c .before .before .before .before .biased .ensures ∙ ap biasedZ (toZ-ofZ w32 (start .args .threshold) (start .fits .threshold));
+            index-is = index-are task (start .args .sorted .now) index slots n copy (collect .ensures) room wide;
+            backs-are = front ∙ put .ensures ∙ backs-are task (start .args .sorted .now) index slots n copy (collect .ensures) room wide;
+          }),
+    )
 
 pub begin-sorted-spec : {M : Type 1} → statement M
 begin-sorted-spec =

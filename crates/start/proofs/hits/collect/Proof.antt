@@ -73,12 +73,13 @@ loop-again c =
     let args = c .before .before .before .before .before .before .before .before .before .before .before .before .before .before .before .before .before .before .before .args in
     let bound = c .before .before .before .before .before .before .before .before .before .before .before .lower-bound in
     let indices = c .before .before .before .before .before .before .before .before .before .note .ensures in
-    let lowers = c .before .before .before .before .before .note2 .ensures in
-    (omega arith,
-    ap length indices ∙ length-set (at .index) (at .h) (at .i) ∙ at .inv .1,
-    ap length lowers ∙ length-set (at .slots) (at .h) (bound .result) ∙ at .inv .2,
-    rw (indices, lowers, c .wide .ensures .0, c .before .one-at .ensures .0)
-    (noting-more (args .text .now) (args .sorted .now) (c .before .before .before .before .before .before .before .before .before .before .before .before .before .before .before .before .before .before .before .pre .2) (at .index) (at .slots) (at .h) (at .i) (bound .result) (at .inv .3) (c .before .before .before .before .before .before .before .before .before .before .before .before .before .loop-test .taken) (bound .ensures .1 (c .before .before .before .before .before .before .before .before .before .before .before .before .before .before .before .before .before .before .before .pre .2))))
+    let lowers = c .before .before .before .before .before .note2 .ensures in (
+      omega arith,
+      ap length indices ∙ length-set (at .index) (at .h) (at .i) ∙ at .inv .1,
+      ap length lowers ∙ length-set (at .slots) (at .h) (bound .result) ∙ at .inv .2,
+      rw (indices, lowers, c .wide .ensures .0, c .before .one-at .ensures .0)
+          (noting-more (args .text .now) (args .sorted .now) (c .before .before .before .before .before .before .before .before .before .before .before .before .before .before .before .before .before .before .before .pre .2) (at .index) (at .slots) (at .h) (at .i) (bound .result) (at .inv .3) (c .before .before .before .before .before .before .before .before .before .before .before .before .before .loop-test .taken) (bound .ensures .1 (c .before .before .before .before .before .before .before .before .before .before .before .before .before .before .before .before .before .before .before .pre .2))),
+    )
 
 same-length : tie.Need-same-length Inv-loop μ-loop
 same-length c = search needs

@@ -121,10 +121,14 @@ loop-again c =
     let slot = c .before .before .before .before .before .wide in
     let turn = c .before .before .before .wide2 in
     let h : at .j < length slots = c .before .before .before .before .before .before .before .loop-test .taken in
-    let n : length (backsOf sorted (wordsAt sorted slots)) ≡ length slots = length-backs sorted (wordsAt sorted slots) ∙ length-wordsAt sorted slots in
-    (omega arith, simp length-set (at .inv .1), simp length-set (at .inv .2), simp length-set (at .inv .3),
-    links-more sorted slots begin (at .turns) (at .ring) (at .j) (slot .result) (turn .result) (at .inv .4) h (slot .ensures .0) (turn .ensures .0) (c .one-at .result) (c .one-at .ensures .0) (omega arith) (omega arith),
-    written-more (backsOf sorted (wordsAt sorted slots)) (c .before .before .before .before .before .before .before .before .before .before .before .before .before .before .args .backs .now) (at .j) (at .backs) (getD (at .ring) (slot .result + turn .result) 0) (at .inv .5) (omega arith) (omega arith) (finds-back sorted slots begin (at .turns) (at .ring) (at .j) (slot .result) (turn .result) (at .inv .4) h (slot .ensures .0) (turn .ensures .0)))
+    let n : length (backsOf sorted (wordsAt sorted slots)) ≡ length slots = length-backs sorted (wordsAt sorted slots) ∙ length-wordsAt sorted slots in (
+      omega arith,
+      simp length-set (at .inv .1),
+      simp length-set (at .inv .2),
+      simp length-set (at .inv .3),
+      links-more sorted slots begin (at .turns) (at .ring) (at .j) (slot .result) (turn .result) (at .inv .4) h (slot .ensures .0) (turn .ensures .0) (c .one-at .result) (c .one-at .ensures .0) (omega arith) (omega arith),
+      written-more (backsOf sorted (wordsAt sorted slots)) (c .before .before .before .before .before .before .before .before .before .before .before .before .before .before .args .backs .now) (at .j) (at .backs) (getD (at .ring) (slot .result + turn .result) 0) (at .inv .5) (omega arith) (omega arith) (finds-back sorted slots begin (at .turns) (at .ring) (at .j) (slot .result) (turn .result) (at .inv .4) h (slot .ensures .0) (turn .ensures .0)),
+    )
 
 same-length : tie.Need-same-length Inv-loop μ-loop
 same-length c = search needs

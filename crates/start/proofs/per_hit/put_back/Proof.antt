@@ -34,11 +34,16 @@ slice-aggregate-link-2 c = sym (length-take-le _ _ (omega arith))
 
 link-requires : tie.Need-link-requires
 link-requires c κs =
-    let n = length (c .before .before .before .before .before .before .before .before .args .sorted .now) in
-    (c .before .before .before .before .before .before .before .before .pre .0,
-    (c .before .before .before .before .before .before .before .before .pre .1,
-    ((length-take-le _ _ (omega arith), λ k. ap (λ (l : List ℕ). getD (take n l) k 0) (c .before .before .before .before .zeros-4096 .ensures .1) ∙ zero-words n 4096 k),
-    (length-take-le _ _ (omega arith), λ k. ap (λ (l : List ℕ). getD (take n l) k 0) (c .before .before .before .zeros-40962 .ensures .1) ∙ zero-words n 4096 k))))
+    let n = length (c .before .before .before .before .before .before .before .before .args .sorted .now) in (
+      c .before .before .before .before .before .before .before .before .pre .0,
+      (
+        c .before .before .before .before .before .before .before .before .pre .1,
+        (
+          (length-take-le _ _ (omega arith), λ k. ap (λ (l : List ℕ). getD (take n l) k 0) (c .before .before .before .before .zeros-4096 .ensures .1) ∙ zero-words n 4096 k),
+          (length-take-le _ _ (omega arith), λ k. ap (λ (l : List ℕ). getD (take n l) k 0) (c .before .before .before .zeros-40962 .ensures .1) ∙ zero-words n 4096 k),
+        ),
+      ),
+    )
 
 same-length : tie.Need-same-length
 same-length c = search needs

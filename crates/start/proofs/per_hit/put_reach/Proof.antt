@@ -69,9 +69,11 @@ loop-again c =
     let at = c .before .before .before .before .before .before .before .loop in
     let noted = c .before .before .before .before .before .before .before .before .before .before .before .before .before .before .args .backs .now in
     let paired = c .before .before .put-pair .ensures in
-    let h : at .j < length noted = c .before .before .before .before .before .before .loop-test .taken in
-    (omega arith, ap length paired ∙ length-withPair (c .before .before .before .before .wide .result) (at .j) (at .reach) ∙ at .inv .1,
-    λ p g all e. told-next p g noted e all (at .reach) (c .before .before .put-pair .last .1 .1 .0) (at .j) (c .before .before .before .before .wide .result) h (at .inv .1) (c .before .before .before .before .wide .ensures .0) paired (at .inv .2 p g all e))
+    let h : at .j < length noted = c .before .before .before .before .before .before .loop-test .taken in (
+      omega arith,
+      ap length paired ∙ length-withPair (c .before .before .before .before .wide .result) (at .j) (at .reach) ∙ at .inv .1,
+      λ p g all e. told-next p g noted e all (at .reach) (c .before .before .put-pair .last .1 .1 .0) (at .j) (c .before .before .before .before .wide .result) h (at .inv .1) (c .before .before .before .before .wide .ensures .0) paired (at .inv .2 p g all e),
+    )
 
 same-length : tie.Need-same-length Inv-loop μ-loop
 same-length c = c .before .loop .inv .1 ∙ sym (c .before .before .before .before .before .before .before .before .pre .0 .1)

@@ -60,11 +60,12 @@ loop-again c =
     let old = c .before .before .before .before .before .before .args .whole .now in
     let h : l .j < length words = c .before .before .loop-test .taken in
     let n : length (zerosUpTo words) ≡ length words = length-zerosUpTo words in
-    let e : l .m + c .one-if-zero .result ≡ occ 0 (take (suc (l .j)) words) = count-more words (l .j) (l .m) (c .one-if-zero .result) h (l .inv .2) (c .one-if-zero .ensures .0) in
-    (omega arith,
-    simp length-set (l .inv .1),
-    rw (add-one (l .j)) e,
-    written-more (zerosUpTo words) old (l .j) (l .whole) (l .m + c .one-if-zero .result) (l .inv .3) (omega arith) (omega arith) (e ∙ sym (getD-zerosUpTo words (l .j) h)))
+    let e : l .m + c .one-if-zero .result ≡ occ 0 (take (suc (l .j)) words) = count-more words (l .j) (l .m) (c .one-if-zero .result) h (l .inv .2) (c .one-if-zero .ensures .0) in (
+      omega arith,
+      simp length-set (l .inv .1),
+      rw (add-one (l .j)) e,
+      written-more (zerosUpTo words) old (l .j) (l .whole) (l .m + c .one-if-zero .result) (l .inv .3) (omega arith) (omega arith) (e ∙ sym (getD-zerosUpTo words (l .j) h)),
+    )
 
 same-length : tie.Need-same-length Inv-loop μ-loop
 same-length c = search needs
