@@ -13,21 +13,21 @@ const INVERSE: u64 = 244002641;
 const MODULUS: u64 = 1073741824;
 
 // The rank of a code.
-pub fn rank(code: u32) -> u32
+pub(crate) fn rank(code: u32) -> u32
     ensures { λ r. ⌜ r ≡ rank code ⌝ }
 {
     (code as u64 * MULTIPLIER % MODULUS) as u32
 }
 
 // The code of a rank: the ring keeps ranks alone.
-pub fn unrank(rank: u32) -> u32
+pub(crate) fn unrank(rank: u32) -> u32
     ensures { λ r. ⌜ r ≡ unrank rank ⌝ }
 {
     (rank as u64 * INVERSE % MODULUS) as u32
 }
 
 // The code with one more digit behind, of which `last` digits and the new one are kept.
-pub fn next_code(code: u32, digit: u8, last: usize) -> u32
+pub(crate) fn next_code(code: u32, digit: u8, last: usize) -> u32
     requires { ⌜ (last < kLimit) × (code < 4 ^ kLimit) × (digit < 4) ⌝ }
     ensures { λ r. ⌜ r ≡ (4 * code + digit) % 4 ^ suc last ⌝ }
 {

@@ -5,10 +5,10 @@ ghost use Rattle.sketch.specs.Letters.{value};
 ghost use Rattle.sketch.specs.Scan.{IsTable};
 
 // What stands for the value of a letter outside the eight.
-pub const FOREIGN: u8 = 4;
+pub(crate) const FOREIGN: u8 = 4;
 
 // The value of a letter: 0 to 3 for the eight, FOREIGN for any other byte.
-pub fn value(b: u8) -> u8
+pub(crate) fn value(b: u8) -> u8
     ensures { λ r. ⌜ r ≡ value b ⌝ }
 {
     match b {
@@ -21,7 +21,7 @@ pub fn value(b: u8) -> u8
 }
 
 // The value of each byte. A scan looks a letter up here, since a branch on every letter is often predicted wrongly.
-pub fn table() -> [u8; 256]
+pub(crate) fn table() -> [u8; 256]
     ensures { λ r. ⌜ IsTable r ⌝ }
 {
     let mut values = [0u8; 256];
@@ -34,7 +34,7 @@ pub fn table() -> [u8; 256]
 }
 
 // The value of the letter at a position, looked up; past the end FOREIGN, since a run ends there too.
-pub fn value_at(letters: &[u8], values: &[u8], at: usize) -> u8
+pub(crate) fn value_at(letters: &[u8], values: &[u8], at: usize) -> u8
     requires { ⌜ IsTable (now values) ⌝ }
     ensures { λ r. ⌜ r ≡ value (getD (now (letters .entry)) at 0) ⌝ }
 {

@@ -1,4 +1,4 @@
-// Sketches of letters: the sketch in two buffers, and for a host program the count of its entries.
+// Sketches of letters: the sketch in two buffers, and for a host program the count of its entries. Assumes nothing.
 mod kmers;
 mod letters;
 mod scan;
@@ -29,25 +29,7 @@ pub enum Sketched {
     TooShort(usize),
 }
 
-// Each limit is the one that the definitions name.
-pub fn k_limit() -> u32
-    ensures { λ r. ⌜ r ≡ kLimit ⌝ }
-{
-    K_LIMIT
-}
-
-pub fn w_limit() -> u32
-    ensures { λ r. ⌜ r ≡ wLimit ⌝ }
-{
-    W_LIMIT
-}
-
-pub fn letter_limit() -> usize
-    ensures { λ r. ⌜ r ≡ letterLimit ⌝ }
-{
-    LETTER_LIMIT
-}
-
+// The limit on a text's entries, for the crates that take texts: the one that the definitions name.
 pub fn text_limit() -> usize
     ensures { λ r. ⌜ r ≡ textLimit ⌝ }
 {
@@ -55,7 +37,7 @@ pub fn text_limit() -> usize
 }
 
 // Whether n is outside low to high.
-pub fn outside(low: u32, high: u32, n: u32) -> bool
+fn outside(low: u32, high: u32, n: u32) -> bool
     ensures { λ r. ⌜ r ≡ outside low high n ⌝ }
 {
     n < low || high < n

@@ -17,7 +17,7 @@ use crate::windows::pass_windows;
 use crate::windows::put;
 
 // Passes the run that begins at a position, and puts its sketch.
-pub fn run(
+pub(crate) fn run(
     letters: &[u8],
     values: &[u8],
     ring: &mut [u32],
@@ -81,7 +81,7 @@ pub fn run(
 }
 
 // Passes all runs, and answers how many entries their sketches have. As many as there is room for are written.
-pub fn scan(
+pub(crate) fn scan(
     letters: &[u8],
     k: u32,
     w: u32,

@@ -1,10 +1,10 @@
 // Windows of k-mers: the scan of a run's letters, and the k-mers that its windows pick. Assumes nothing.
-ghost use Prim.Native.Nat.{ℕ, suc, _+_, _-_, _^_, _≤_, _<_};
+ghost use Prim.Native.Nat.{suc, _+_, _-_, _≤_, _<_};
 ghost use mathlib.Core.Path.{_≡_};
 ghost use lib.ListN.{length};
-ghost use Rattle.sketch.specs.Limits.{kLimit, wLimit, letterLimit};
+ghost use Rattle.sketch.specs.Limits.{wLimit, letterLimit};
 ghost use Rattle.sketch.specs.Places.{codeAt, runEnd};
-ghost use Rattle.sketch.specs.Scan.{ringAt, ringSize, IsTable, Ready, Begun, Scanned, Filled, Passes, pickedFrom, IsLowest, HasRoom, IsPut};
+ghost use Rattle.sketch.specs.Scan.{ringAt, ringSize, Ready, Begun, Scanned, Filled, Passes, pickedFrom, IsLowest, HasRoom, IsPut};
 use crate::kmers::next_code;
 use crate::kmers::rank;
 use crate::kmers::unrank;
@@ -12,22 +12,22 @@ use crate::letters::FOREIGN;
 use crate::letters::value_at;
 
 // How many ranks the ring holds.
-pub const RING: usize = 64;
+pub(crate) const RING: usize = 64;
 
 // A position, and the code in hand there.
-pub struct Reached {
-    pub at: usize,
-    pub code: u32,
+pub(crate) struct Reached {
+    pub(crate) at: usize,
+    pub(crate) code: u32,
 }
 
 // Where a run ended, and the entries found up to there.
-pub struct Passed {
-    pub at: usize,
-    pub entries: usize,
+pub(crate) struct Passed {
+    pub(crate) at: usize,
+    pub(crate) entries: usize,
 }
 
 // One more entry: counted, and written where there is room.
-pub fn put(
+pub(crate) fn put(
     codes: &mut [u32],
     positions: &mut [u32],
     room: usize,
@@ -47,7 +47,7 @@ pub fn put(
 }
 
 // The position of the lowest rank, the rightmost of equal ones, among neighbouring positions.
-pub fn lowest(ring: &[u32], from: usize, to: usize) -> usize
+pub(crate) fn lowest(ring: &[u32], from: usize, to: usize) -> usize
     requires { ⌜ (length (now ring) ≡ ringSize) × (from < to) ⌝ }
     ensures { λ r. ⌜ IsLowest (ringAt (now (ring .entry))) from to r ⌝ }
 {
@@ -58,6 +58,7 @@ pub fn lowest(ring: &[u32], from: usize, to: usize) -> usize
         let r = ring[q % RING];
         let here = q;
         q += 1;
+        // An equal rank further right is lower.
         if r <= low {
             low_at = here;
             low = r;
@@ -67,7 +68,7 @@ pub fn lowest(ring: &[u32], from: usize, to: usize) -> usize
 }
 
 // Reads the letters in front of the last one of a run's first k-mer.
-pub fn first_letters(letters: &[u8], values: &[u8], from: usize, last: usize) -> Reached
+pub(crate) fn first_letters(letters: &[u8], values: &[u8], from: usize, last: usize) -> Reached
     requires { ⌜ Ready (now letters) (now values) from last ⌝ }
     ensures { λ r. ⌜ Begun (now (letters .entry)) from last (r .at) (r .code) ⌝ }
 {
@@ -86,7 +87,7 @@ pub fn first_letters(letters: &[u8], values: &[u8], from: usize, last: usize) ->
 }
 
 // Reads the k-mers of a run's first window into the ring.
-pub fn first_window(
+pub(crate) fn first_window(
     letters: &[u8],
     values: &[u8],
     ring: &mut [u32],
@@ -115,8 +116,9 @@ pub fn first_window(
     Reached { at, code }
 }
 
-// Passes the windows of a run, the first of which is in the ring, and puts each pick that is new.
-pub fn pass_windows(
+// Passes the windows of a run, the first of which is in the ring, and puts each pick that is new: a pick changes where the lowest
+// has left the window, which is then searched, or where a new rank is not above it.
+pub(crate) fn pass_windows(
     letters: &[u8],
     values: &[u8],
     ring: &mut [u32],
@@ -145,6 +147,7 @@ pub fn pass_windows(
         n = put(codes, positions, room, n, unrank(low), low_at);
         loop {
             let v = value_at(letters, values, p + last);
+            // The run ends, and with it its windows.
             if v == FOREIGN {
                 break 'windows;
             }
@@ -153,6 +156,7 @@ pub fn pass_windows(
             ring[p % RING] = r;
             let here = p;
             p += 1;
+            // The lowest has left the window. Asked first, since this is foreseen more often than how the ranks compare.
             if low_at + w <= here {
                 continue 'windows;
             }
