@@ -55,13 +55,13 @@ pub(crate) fn lowest(ring: &[u32], from: usize, to: usize) -> usize
     let mut low = ring[from % RING];
     let mut q = from + 1;
     while q < to {
-        let r = ring[q % RING];
+        let found = ring[q % RING];
         let here = q;
         q += 1;
         // An equal rank further right is lower.
-        if r <= low {
+        if found <= low {
             low_at = here;
-            low = r;
+            low = found;
         }
     }
     low_at

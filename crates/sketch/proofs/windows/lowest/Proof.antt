@@ -29,11 +29,11 @@ add-q c = search needs
 loop-holds : tie.Need-loop-holds Inv-loop μ-loop
 loop-holds c = (omega arith, rw add-one (lowest-one (ringAt (c .before .args .ring .now)) (c .before .args .from)), refl)
 
-mul-r : tie.Need-mul-r Inv-loop μ-loop
-mul-r c = search needs
+mul-found : tie.Need-mul-found Inv-loop μ-loop
+mul-found c = search needs
 
-shared-slice-read-r : tie.Need-shared-slice-read-r Inv-loop μ-loop
-shared-slice-read-r c = search needs
+shared-slice-read-found : tie.Need-shared-slice-read-found Inv-loop μ-loop
+shared-slice-read-found c = search needs
 
 add-q-2 : tie.Need-add-q-2 Inv-loop μ-loop
 add-q-2 c = search needs
@@ -72,8 +72,8 @@ lowest-spec =
     shared-slice-read-low
     add-q
     loop-holds
-    mul-r
-    shared-slice-read-r
+    mul-found
+    shared-slice-read-found
     add-q-2
     loop-less
     loop-again
