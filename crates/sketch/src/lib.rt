@@ -37,7 +37,7 @@ pub fn text_limit() -> usize
 }
 
 // Whether n is outside low to high.
-fn outside(low: u32, high: u32, n: u32) -> bool
+pub fn outside(low: u32, high: u32, n: u32) -> bool
     ensures { λ r. ⌜ r ≡ outside low high n ⌝ }
 {
     n < low || high < n
