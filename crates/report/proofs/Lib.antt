@@ -1,3 +1,7 @@
--- Document 01's table as one theorem, and its example.
+-- Laws about the output and its pieces; document 01's table as one theorem, and its example.
+pub mod Writers
+pub mod Mapping
+pub mod Rest
+pub mod Going
 pub mod Compute
 pub mod Table

@@ -1,2 +1,3 @@
--- The whole of what `maplist` prints, from the bytes of its input.
+-- The whole of what `maplist` prints, from the bytes of its input, and the pieces in which it prints.
 pub mod Output
+pub mod Pieces

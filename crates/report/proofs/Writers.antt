@@ -1,0 +1,59 @@
+-- More laws of what a writer leaves in a lent buffer, and of a line written into a part of it.
+-- Assumes nothing.
+use Prim.Native.Nat.{ℕ, _+_, _-_, _≤_, _<_}
+use native.Mathlib.Nat.{le-refl}
+use native.Mathlib.Omega.{arith}
+use mathlib.Core.Path.{_≡_, refl, sym, ap, _∙_}
+use mathlib.Core.Bool.{Bool, true, false, cond}
+use mathlib.Core.List.{List, [], _∷_, _++_, append-assoc, append-nil}
+use lib.Dec.{leb}
+use lib.ListN.{length, take, drop, length-append, length-drop, drop-of-length-le}
+use lib.Seq.{drop-drop, take-at, length-take-le}
+use borrow.Author.Tests.{leb-true}
+use Rattle.counts.specs.Replies.{over}
+use Rattle.listing.specs.Writing.{Written, LineWritten, fitting, overFrom}
+use Rattle.listing.proofs.Buffers.{written-index, written-buffer, length-overFrom, part-to-end}
+
+fitting-short : (room : ℕ) (bytes : List ℕ) → length (fitting room bytes) ≤ room
+unfolding fitting
+fitting-short room bytes = go (leb (length bytes) room) refl
+  where
+    go : (b : Bool) → leb (length bytes) room ≡ b → length (cond b bytes []) ≤ room
+    go true e = leb-true (length bytes) room e
+    go false e = omega arith
+
+module _ {bytes : List ℕ} {at : ℕ} {old new : List ℕ} {next : ℕ} (w : Written bytes at old new next) (inside : at ≤ length old) where
+  pub written-inside : next ≤ length old
+  written-inside = let e : next ≡ at + length (fitting (length old - at) bytes) = w .index in let l = fitting-short (length old - at) bytes in omega arith
+
+  pub written-same : length new ≡ length old
+  written-same = let l = fitting-short (length old - at) bytes in ap length (w .buffer) ∙ length-overFrom at old (fitting (length old - at) bytes) (omega arith)
+
+-- the first bytes of a buffer after a writer with room for its bytes
+pub take-written : {bytes : List ℕ} {at : ℕ} {old new : List ℕ} {next : ℕ} → Written bytes at old new next → at + length bytes ≤ length old → take next new ≡ take at old ++ bytes
+unfolding overFrom
+take-written {bytes} {at} {old} {new} {next} w room =
+    let long : length (take at old ++ bytes) ≡ next =
+    length-append (take at old) bytes ∙ ap (λ (n : ℕ). n + length bytes) (length-take-le at old (omega arith)) ∙ sym (written-index w room) in
+    ap (take next) (written-buffer w room) ∙ take-at (take at old ++ bytes) (drop (at + length bytes) old) next long
+
+-- a line written from the start of the part from `at` on, put back into the whole
+pub part-written : (bytes : List ℕ) (at : ℕ) (old part : List ℕ) (n : ℕ) → at ≤ length old → LineWritten bytes (take (length old - at) (drop at old)) part n → Written bytes at old (take at old ++ (part ++ drop (length old - at) (drop at old))) (at + n)
+unfolding overFrom
+part-written bytes at old part n h w =
+    let whole : take (length old - at) (drop at old) ≡ drop at old = part-to-end old (length old) at (le-refl (length old)) in
+    let room : length (take (length old - at) (drop at old)) ≡ length old - at = length-take-le (length old - at) (drop at old) (omega (arith, length-drop at old)) in
+    let f : List ℕ = fitting (length old - at) bytes in
+    let same : fitting (length (take (length old - at) (drop at old))) bytes ≡ f = ap (λ (r : ℕ). fitting r bytes) room in
+    let end : at + (length old - at) ≡ length old = omega arith in
+    let none : drop (length old - at) (drop at old) ≡ [] = drop-drop (length old - at) at old ∙ ap (λ (i : ℕ). drop i old) end ∙ drop-of-length-le old (le-refl (length old)) in
+    let written : part ≡ f ++ drop (at + length f) old =
+    w .buffer ∙ ap (λ (l : List ℕ). over l (take (length old - at) (drop at old))) same ∙ ap (λ (l : List ℕ). f ++ drop (length f) l) whole ∙ ap (λ (l : List ℕ). f ++ l) (drop-drop (length f) at old) in
+    record {
+      index = ap (λ (i : ℕ). at + i) (w .number ∙ ap length same);
+      buffer =
+          ap (λ (l : List ℕ). take at old ++ (part ++ l)) none
+          ∙ ap (λ (l : List ℕ). take at old ++ l) (append-nil part)
+          ∙ ap (λ (l : List ℕ). take at old ++ l) written
+          ∙ sym (append-assoc (take at old) f (drop (at + length f) old));
+    }
