@@ -3,5 +3,6 @@ pub mod Writers
 pub mod Mapping
 pub mod Rest
 pub mod Going
+pub mod FirstPiece
 pub mod Compute
 pub mod Table
