@@ -1,6 +1,6 @@
 // The calls of document 01 for programs in other languages: numbers and slices only, since an enum does not cross the C boundary.
 // `number` becomes 0 where the call is accepted, else 01's refusal number; the result is the value answered, or the second value.
-// Assumes nothing.
+// A caller passes each slice as two arguments, a pointer and a length, and not as one of 16 bytes. Assumes nothing.
 mod numbers;
 mod steps;
 
