@@ -99,8 +99,7 @@ module _ (bytes places work out : List ℕ) (room : length places ≡ lineLimit)
     pub begin-prints : (places′ work′ : List ℕ) → Begins bytes places work out r places′ work′ out′ → After bytes places′ work′ (r .k) (r .size) 0 (r .left) (take (r .written) out′)
     begin-prints places′ work′ b = rw (b .positions-after, b .work-after) (by-input (inputOf bytes) refl (rw (b .work-after) at (b .begun)))
 
--- each piece, with room for any line: what it adds to what is printed, and less is left
-pub fill-prints : (bytes places work : List ℕ) (k size found left : ℕ) (done : List ℕ) → Printing bytes places work k size found left done
+fill-prints : (bytes places work : List ℕ) (k size found left : ℕ) (done : List ℕ) → Printing bytes places work k size found left done
     → (out : List ℕ) (r : Filled) (work′ out′ : List ℕ) → 64 ≤ length out → Fills work places k size found out r work′ out′
     → (r .left < left) × After bytes places work′ k size (r .found) (r .left) (done ++ take (r .written) out′)
 fill-prints bytes places work k size found left done p out r work′ out′ long f =
@@ -136,3 +135,10 @@ fill-prints bytes places work k size found left done p out r work′ out′ long
                 rest = joined q′ (restOf (p .task) places k size q′ (r .found)) more;
               }),
         )
+
+-- each further piece, with room for any line: it goes on where the one before ended, and less is left
+pub next-prints : (bytes places work : List ℕ) (k size found left : ℕ) (done : List ℕ) → After bytes places work k size found left done → 0 < left
+    → (out : List ℕ) (r : Filled) (work′ out′ : List ℕ) → 64 ≤ length out → Fills work places k size found out r work′ out′
+    → (r .left < left) × After bytes places work′ k size (r .found) (r .left) (done ++ take (r .written) out′)
+next-prints bytes places work k size found left done (inl e) some out r work′ out′ long f = absurd (omega (arith, e .0))
+next-prints bytes places work k size found left done (inr p) some out r work′ out′ long f = fill-prints bytes places work k size found left done p out r work′ out′ long f
