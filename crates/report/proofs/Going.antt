@@ -28,14 +28,10 @@ use Rattle.listing.specs.Writing.{Written}
 use Rattle.listing.proofs.Buffers.{written-index}
 use Rattle.listing.proofs.Decimal.{length-line}
 use Rattle.report.specs.Output.{lastLine}
-use Rattle.report.specs.Pieces.{mappingLine, MappingWritten, finalsAfter, restOf, cellsLeft, Belongs, linesIn, Done, Full, Piece, refusedWords, Unmoved, Fills}
+use Rattle.report.specs.Pieces.{mappingLine, MappingWritten, finalsAfter, restOf, cellsLeft, Belongs, linesIn, stepBudget, passedFor, Done, Full, Piece, refusedWords, Unmoved, Fills}
 use Rattle.report.specs.declared.filling.Filled.{Filled}
 use Rattle.report.proofs.Writers.{take-written, drop-later, written-onward, written-inside, written-past}
 use Rattle.report.proofs.Rest.{length-last, found-next, found-within, finished-next, never-spent, never-refused, found-final, few-cells, rest-found, rest-finished, Fitting, fitting-final}
-
--- the budget of each step
-abbrev budget : ℕ
-budget = 4294967295
 
 -- after q cells and `count` mappings, `at` bytes are written of what was left to print after q₀ cells and `found` mappings
 pub record On (task : Task) (before places : List ℕ) (k size q₀ found : ℕ) (out₀ out work : List ℕ) (at count q : ℕ) : Type 0 where
@@ -44,6 +40,7 @@ pub record On (task : Task) (before places : List ℕ) (k size q₀ found : ℕ)
   pub counted : count ≤ q
   pub words : work ≡ sessionWords task before q
   pub lines : count + linesIn places k size (length out₀ - at) (finalsAfter task q) ≡ found + linesIn places k size (length out₀) (finalsAfter task q₀)
+  pub place : passedFor task q (linesIn places k size (length out₀ - at) (finalsAfter task q)) ≡ passedFor task q₀ (linesIn places k size (length out₀) (finalsAfter task q₀))
   pub tally : count + length (finalsAfter task q) ≡ found + length (finalsAfter task q₀)
   pub bytes : take at out ++ restOf task places k size q count ≡ restOf task places k size q₀ found
   pub moved : 0 < at → q₀ < q
@@ -77,6 +74,7 @@ going-start work places k size count out = record {
       counted = p .counted;
       words = p .words;
       lines = ap (λ (n : ℕ). count + linesIn places k size n (finalsAfter task q₀)) (sub-zero (length out));
+      place = ap (λ (n : ℕ). passedFor task q₀ (linesIn places k size n (finalsAfter task q₀))) (sub-zero (length out));
       tally = refl;
       bytes = refl;
       moved = λ h. absurd (omega arith);
@@ -136,7 +134,7 @@ fills work₀ places k size found₀ out₀ out work at count going same-out sam
 -- ---- a turn with room for a line
 
 module _ (work₀ places : List ℕ) (k size found₀ : ℕ) (out₀ out work : List ℕ) (at count : ℕ) (inside : at ≤ length out) (same : length out ≡ length out₀) (room : 64 ≤ length out - at) (going : Going work₀ places k size found₀ out₀ out work at count) where
-  refused-now : (answer : Stepped) (work′ : List ℕ) → StepPromise work budget answer work′ → refusedWords work₀ ≡ true → ((n : ℕ) × (answerOf answer ≡ refused n)) × (work′ ≡ work)
+  refused-now : (answer : Stepped) (work′ : List ℕ) → StepPromise work stepBudget answer work′ → refusedWords work₀ ≡ true → ((n : ℕ) × (answerOf answer ≡ refused n)) × (work′ ≡ work)
   refused-now answer work′ promise e = refused-step promise (ap refusedWords (going .unmoved e .2) ∙ e)
 
   module _ (task : Task) (before : List ℕ) (q₀ : ℕ) (p : InPiece task before work₀ places k size found₀ q₀) where
@@ -150,26 +148,26 @@ module _ (work₀ places : List ℕ) (k size found₀ : ℕ) (out₀ out work : 
     limits : Admitted task (length before) (hitCount task ∷ [])
     limits = admitted task (length before) (hitCount task ∷ []) (p .accepts .accepts)
 
-    ruled : (answer : Stepped) (work′ : List ℕ) → StepPromise work budget answer work′ → (ruleAnswer task q budget ≡ answerOf answer) × (work′ ≡ sessionWords task before (q + reported (answerOf answer)))
+    ruled : (answer : Stepped) (work′ : List ℕ) → StepPromise work stepBudget answer work′ → (ruleAnswer task q stepBudget ≡ answerOf answer) × (work′ ≡ sessionWords task before (q + reported (answerOf answer)))
     ruled answer work′ promise =
         let s = promise .session task before q (p .accepts) (on .among) (on .words) in
         (sym (s .0), s .1 ∙ ap (λ (a : Answer). sessionWords task before (q + reported a)) (sym (s .0)))
 
     -- ---- found
 
-    module _ (a b : ℕ) (score : ℤ) (m cells : ℕ) (work′ : List ℕ) (promise : StepPromise work budget (Found a b score m cells) work′) where
+    module _ (a b : ℕ) (score : ℤ) (m cells : ℕ) (work′ : List ℕ) (promise : StepPromise work stepBudget (Found a b score m cells) work′) where
       abbrev mapping : Mapping
       mapping = record { a = a; b = b; score = score; m = m }
 
-      rule : ruleAnswer task q budget ≡ found mapping cells
+      rule : ruleAnswer task q stepBudget ≡ found mapping cells
       rule = ruled (Found a b score m cells) work′ promise .0
 
       within : (0 < cells) × (q + cells ≤ total task)
-      within = found-within task q budget (on .among) mapping cells rule
+      within = found-within task q stepBudget (on .among) mapping cells rule
 
       fits : Fitting task places k size mapping
       fits =
-          let f = found-final task q budget (on .among) mapping cells rule in
+          let f = found-final task q stepBudget (on .among) mapping cells rule in
           subst (Fitting task places k size) (sym (f .1)) (fitting-final task places k size (limits .limited) (p .belongs) (f .0) (f .2))
 
       pub found-few : count < 2098176
@@ -189,19 +187,24 @@ module _ (work₀ places : List ℕ) (k size found₀ : ℕ) (out₀ out work : 
         found-further = let e = next-is in let l = length-mapping places k size mapping in omega arith
 
         finals : finalsAfter task q ≡ mapping ∷ finalsAfter task (q + cells)
-        finals = found-next task q budget (on .among) mapping cells rule
+        finals = found-next task q stepBudget (on .among) mapping cells rule
 
-        one-line : count + 1 + linesIn places k size (length out₀ - next) (finalsAfter task (q + cells)) ≡ count + linesIn places k size (length out₀ - at) (finalsAfter task q)
-        one-line =
-            let after : ℕ = linesIn places k size (length out₀ - next) (finalsAfter task (q + cells)) in
+        after : ℕ
+        after = linesIn places k size (length out₀ - next) (finalsAfter task (q + cells))
+
+        one-more : linesIn places k size (length out₀ - at) (finalsAfter task q) ≡ suc after
+        unfolding after
+        one-more =
             let e : length out₀ - at - length (mappingLine places k size mapping) ≡ length out₀ - next = omega (arith, next-is) in
-            let s : linesIn places k size (length out₀ - at) (finalsAfter task q) ≡ suc after =
             ap (linesIn places k size (length out₀ - at)) finals
             ∙ lines-some places k size (length out₀ - at) mapping (finalsAfter task (q + cells)) (omega arith)
-            ∙ ap (λ (n : ℕ). suc (linesIn places k size n (finalsAfter task (q + cells)))) e in
-            omega arith
+            ∙ ap (λ (n : ℕ). suc (linesIn places k size n (finalsAfter task (q + cells)))) e
+
+        on-place : passedFor task (q + cells) after ≡ passedFor task q (linesIn places k size (length out₀ - at) (finalsAfter task q))
+        on-place = sym (ap (passedFor task q) one-more ∙ ap (λ (a : Answer). passedFor task (q + reported a) after) rule)
 
         found-on : (q′ : ℕ) × On task before places k size q₀ found₀ out₀ out′ work′ next (count + 1) q′
+        unfolding after
         found-on = (
           q + cells,
           record {
@@ -209,7 +212,8 @@ module _ (work₀ places : List ℕ) (k size found₀ : ℕ) (out₀ out work : 
             among = within .1;
             counted = let w = within in let c = on .counted in omega arith;
             words = ruled (Found a b score m cells) work′ promise .1;
-            lines = one-line ∙ on .lines;
+            lines = let l = on .lines in let o = one-more in omega arith;
+            place = on-place ∙ on .place;
             tally = let t = on .tally in let l : length (finalsAfter task q) ≡ suc (length (finalsAfter task (q + cells))) = ap length finals in omega arith;
             bytes =
                 let rest : List ℕ = restOf task places k size (q + cells) (count + 1) in
@@ -223,10 +227,10 @@ module _ (work₀ places : List ℕ) (k size found₀ : ℕ) (out₀ out work : 
 
     -- ---- finished
 
-    module _ (cells passed next : ℕ) (out′ work′ : List ℕ) (promise : StepPromise work budget (Finished cells) work′) (is-passed : passed ≡ getD work′ 3 0) (put : Written (lastLine count passed) at out out′ next) where
+    module _ (cells passed next : ℕ) (out′ work′ : List ℕ) (promise : StepPromise work stepBudget (Finished cells) work′) (is-passed : passed ≡ getD work′ 3 0) (put : Written (lastLine count passed) at out out′ next) where
       ended : (finalsEnd : ℕ) → finalsEnd ≡ passed → finalsEnd ≡ total task → take next out′ ++ [] ≡ restOf task places k size q₀ found₀
       ended n e t =
-          let f = finished-next task q budget (on .among) cells (ruled (Finished cells) work′ promise .0) in
+          let f = finished-next task q stepBudget (on .among) cells (ruled (Finished cells) work′ promise .0) in
           let l : length (lastLine count passed) ≤ 64 = length-last count passed in
           append-nil (take next out′)
           ∙ take-written put (omega arith)
@@ -236,7 +240,7 @@ module _ (work₀ places : List ℕ) (k size found₀ : ℕ) (out₀ out work : 
 
       finished-piece : (r : Filled) → r .written ≡ next → r .found ≡ count → r .left ≡ 0 → (q′ : ℕ) × Piece task before places k size q₀ found₀ out₀ r work′ out′ q′
       finished-piece r ew ef el =
-          let f = finished-next task q budget (on .among) cells (ruled (Finished cells) work′ promise .0) in
+          let f = finished-next task q stepBudget (on .among) cells (ruled (Finished cells) work′ promise .0) in
           let words : work′ ≡ sessionWords task before (q + cells) = ruled (Finished cells) work′ promise .1 in
           let s : InSession task before (q + cells) work′ = in-session task before (q + cells) work′ (p .accepts) words in
           let third : getD work′ 3 0 ≡ q + cells = s .held .passed-word in
@@ -261,28 +265,28 @@ module _ (work₀ places : List ℕ) (k size found₀ : ℕ) (out₀ out work : 
 
     -- ---- no other answer
 
-    not-other : (answer : Stepped) → Other answer → (work′ : List ℕ) → StepPromise work budget answer work′ → ⊥
+    not-other : (answer : Stepped) → Other answer → (work′ : List ℕ) → StepPromise work stepBudget answer work′ → ⊥
     not-other (Found a b score m cells) o work′ promise = o
     not-other (Finished cells) o work′ promise = o
-    not-other (Spent n) o work′ promise = never-spent task q budget (on .among) n (let f = few-cells task (limits .few-hits) in omega arith) (ruled (Spent n) work′ promise .0)
-    not-other TooFewWords o work′ promise = never-refused task q budget (on .among) 10 (ruled TooFewWords work′ promise .0)
-    not-other BadWords o work′ promise = never-refused task q budget (on .among) 15 (ruled BadWords work′ promise .0)
+    not-other (Spent n) o work′ promise = never-spent task q stepBudget (on .among) n (let f = few-cells task (limits .few-hits) in omega arith) (ruled (Spent n) work′ promise .0)
+    not-other TooFewWords o work′ promise = never-refused task q stepBudget (on .among) 10 (ruled TooFewWords work′ promise .0)
+    not-other BadWords o work′ promise = never-refused task q stepBudget (on .among) 15 (ruled BadWords work′ promise .0)
 
-  not-found : (a b : ℕ) (score : ℤ) (m cells : ℕ) (work′ : List ℕ) → StepPromise work budget (Found a b score m cells) work′ → refusedWords work₀ ≡ true → ⊥
+  not-found : (a b : ℕ) (score : ℤ) (m cells : ℕ) (work′ : List ℕ) → StepPromise work stepBudget (Found a b score m cells) work′ → refusedWords work₀ ≡ true → ⊥
   not-found a b score m cells work′ promise e =
       let r = refused-now (Found a b score m cells) work′ promise e in
       let d : found (record { a = a; b = b; score = score; m = m }) cells ≡ refused (r .0 .0) = r .0 .1 in
       let z : _≡_ {A = ℕ} 0 1 = cc in
       omega arith
 
-  not-finished : (cells : ℕ) (work′ : List ℕ) → StepPromise work budget (Finished cells) work′ → refusedWords work₀ ≡ true → ⊥
+  not-finished : (cells : ℕ) (work′ : List ℕ) → StepPromise work stepBudget (Finished cells) work′ → refusedWords work₀ ≡ true → ⊥
   not-finished cells work′ promise e =
       let r = refused-now (Finished cells) work′ promise e in
       let d : finished cells ≡ refused (r .0 .0) = r .0 .1 in
       let z : _≡_ {A = ℕ} 0 1 = cc in
       omega arith
 
-  pub going-found : (a b : ℕ) (score : ℤ) (m cells next : ℕ) (out′ work′ : List ℕ) → StepPromise work budget (Found a b score m cells) work′ → MappingWritten places k size a b score m at out out′ next → Going work₀ places k size found₀ out₀ out′ work′ next (count + 1)
+  pub going-found : (a b : ℕ) (score : ℤ) (m cells next : ℕ) (out′ work′ : List ℕ) → StepPromise work stepBudget (Found a b score m cells) work′ → MappingWritten places k size a b score m at out out′ next → Going work₀ places k size found₀ out₀ out′ work′ next (count + 1)
   going-found a b score m cells next out′ work′ promise put = record {
     beyond = promise .beyond ∙ going .beyond;
     past = put .past inside ∙ drop-later at next out out₀ (put .onward) (going .past);
@@ -294,16 +298,16 @@ module _ (work₀ places : List ℕ) (k size found₀ : ℕ) (out₀ out work : 
 
   module _ (number : length work ≡ length work₀) (r : Filled) where
     -- a mapping whose line is not written, which no session hands out
-    pub fills-stopped : (a b : ℕ) (score : ℤ) (m cells : ℕ) (work′ : List ℕ) → StepPromise work budget (Found a b score m cells) work′ → r .written ≡ at → (out′ : List ℕ) → length out′ ≡ length out → drop at out′ ≡ drop at out
+    pub fills-stopped : (a b : ℕ) (score : ℤ) (m cells : ℕ) (work′ : List ℕ) → StepPromise work stepBudget (Found a b score m cells) work′ → r .written ≡ at → (out′ : List ℕ) → length out′ ≡ length out → drop at out′ ≡ drop at out
         → ((task : Task) (before : List ℕ) (q₀ : ℕ) → InPiece task before work₀ places k size found₀ q₀ → ⊥) → Fills work₀ places k size found₀ out₀ r work′ out′
     fills-stopped a b score m cells work′ promise ew out′ long past never =
         fills work₀ places k size found₀ out₀ out work at count going same number r work′ out′ (promise .number) (promise .beyond) long (omega arith) (omega arith) (rw ew past) (λ e. absurd (not-found a b score m cells work′ promise e)) (λ task before q₀ p. absurd (never task before q₀ p))
 
-    pub fills-finished : (cells passed : ℕ) (out′ work′ : List ℕ) → StepPromise work budget (Finished cells) work′ → passed ≡ getD work′ 3 0 → Written (lastLine count passed) at out out′ (r .written) → length out′ ≡ length out → r .found ≡ count → r .left ≡ 0 → Fills work₀ places k size found₀ out₀ r work′ out′
+    pub fills-finished : (cells passed : ℕ) (out′ work′ : List ℕ) → StepPromise work stepBudget (Finished cells) work′ → passed ≡ getD work′ 3 0 → Written (lastLine count passed) at out out′ (r .written) → length out′ ≡ length out → r .found ≡ count → r .left ≡ 0 → Fills work₀ places k size found₀ out₀ r work′ out′
     fills-finished cells passed out′ work′ promise is-passed put long ef el =
         fills work₀ places k size found₀ out₀ out work at count going same number r work′ out′ (promise .number) (promise .beyond) long (written-onward put) (written-inside put inside) (written-past put inside) (λ e. absurd (not-finished cells work′ promise e)) (λ task before q₀ p. finished-piece task before q₀ p cells passed (r .written) out′ work′ promise is-passed put r refl ef el)
 
-    pub fills-other : (answer : Stepped) → Other answer → (work′ : List ℕ) → StepPromise work budget answer work′ → r .written ≡ at → r .found ≡ count → r .left ≡ 0 → Fills work₀ places k size found₀ out₀ r work′ out
+    pub fills-other : (answer : Stepped) → Other answer → (work′ : List ℕ) → StepPromise work stepBudget answer work′ → r .written ≡ at → r .found ≡ count → r .left ≡ 0 → Fills work₀ places k size found₀ out₀ r work′ out
     fills-other answer other work′ promise ew ef el =
         fills work₀ places k size found₀ out₀ out work at count going same number r work′ out (promise .number) (promise .beyond) refl (omega arith) (omega arith) refl unmoved (λ task before q₀ p. absurd (not-other task before q₀ p answer other work′ promise))
       where
@@ -342,7 +346,7 @@ module _ (work₀ places : List ℕ) (k size found₀ : ℕ) (out₀ out work : 
           found-is = let l = on .lines in omega arith;
           tally = rw ef (on .tally);
           bytes = rw (ew, left, ef) (on .bytes);
-          ends = inr (record { left-is = left; no-room = omega arith; further = λ h. on .moved (omega arith) });
+          ends = inr (record { place = sym (ap (passedFor task q) none-more) ∙ on .place; left-is = left; no-room = omega arith; further = λ h. on .moved (omega arith) });
         },
       )
 
@@ -365,6 +369,6 @@ module _ (work₀ places : List ℕ) (k size found₀ : ℕ) (out₀ out work : 
 pub piece-falls : {task : Task} {before places : List ℕ} {k size q found : ℕ} {out : List ℕ} {r : Filled} {work′ out′ : List ℕ} {q′ : ℕ} → Piece task before places k size q found out r work′ out′ q′ → 64 ≤ length out → (r .left ≡ 0) ⊎ ((q < q′) × (r .left ≡ suc (cellCount (hitCount task) - q′)))
 piece-falls {task} {before} {places} {k} {size} {q} {found} {out} {r} {work′} {out′} {q′} piece long = go (piece .ends)
   where
-    go : Done task (length out) r q′ ⊎ Full task q (length out) r q′ → (r .left ≡ 0) ⊎ ((q < q′) × (r .left ≡ suc (cellCount (hitCount task) - q′)))
+    go : Done task (length out) r q′ ⊎ Full task q (linesIn places k size (length out) (finalsAfter task q)) (length out) r q′ → (r .left ≡ 0) ⊎ ((q < q′) × (r .left ≡ suc (cellCount (hitCount task) - q′)))
     go (inl done) = inl (done .none-left)
     go (inr full) = inr (full .further (omega (arith, full .no-room)), full .left-is)

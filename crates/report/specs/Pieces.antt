@@ -12,6 +12,7 @@ use Rattle.counts.specs.Lists.{keep}
 use Rattle.mappings.specs.Limits.{hitLimit, workWords}
 use Rattle.mappings.specs.Score.{Task, lengthOf}
 use Rattle.mappings.specs.Cells.{Cell, Mapping, cellsOf, hitCount, cellCount, isFinalCell, mappingOf}
+use Rattle.mappings.specs.Rule.{reported, ruleAnswer}
 use Rattle.start.specs.WorkWords.{sessionWords}
 use Rattle.mapper.specs.Step.{tooFewWords, badWords}
 use Rattle.mapper.specs.Promise.{Accepts}
@@ -101,14 +102,24 @@ linesIn places k size room (mapping ∷ rest) =
     cond (ltb room lineRoom) 0
     (suc (linesIn places k size (room - length (mappingLine places k size mapping)) rest))
 
+-- the budget of each step: more cells than any session has
+abbrev pub stepBudget : ℕ
+stepBudget = 4294967295
+
+-- the cells passed when the rule has found so many mappings more
+abbrev pub passedFor : Task → ℕ → ℕ → ℕ
+passedFor task q zero = q
+passedFor task q (suc n) = passedFor task (q + reported (ruleAnswer task q stepBudget)) n
+
 -- a piece ends behind the last line, for which there was room, and then nothing is left
 pub record Done (task : Task) (room : ℕ) (r : Filled) (q′ : ℕ) : Type 0 where
   pub none-left : r .left ≡ 0
   pub all-passed : q′ ≡ cellCount (hitCount task)
   pub had-room : lineRoom + r .written ≤ room + length (lastLine (r .found) (cellCount (hitCount task)))
 
--- or it ends for want of room; where it has any bytes, at least one cell was passed
-pub record Full (task : Task) (q room : ℕ) (r : Filled) (q′ : ℕ) : Type 0 where
+-- or it ends for want of room, right behind the last mapping written; where it has any bytes, at least one cell was passed
+pub record Full (task : Task) (q lines room : ℕ) (r : Filled) (q′ : ℕ) : Type 0 where
+  pub place : q′ ≡ passedFor task q lines
   pub left-is : r .left ≡ suc (cellCount (hitCount task) - q′)
   pub no-room : room < lineRoom + r .written
   pub further : 0 < r .written → q < q′
@@ -123,7 +134,7 @@ pub record Piece (task : Task) (before places : List ℕ) (k size q found : ℕ)
   pub found-is : r .found ≡ found + linesIn places k size (length out) (finalsAfter task q)
   pub tally : r .found + length (finalsAfter task q′) ≡ found + length (finalsAfter task q)
   pub bytes : take (r .written) out′ ++ unlessDone (r .left) (restOf task places k size q′ (r .found)) ≡ restOf task places k size q found
-  pub ends : Done task (length out) r q′ ⊎ Full task q (length out) r q′
+  pub ends : Done task (length out) r q′ ⊎ Full task q (linesIn places k size (length out) (finalsAfter task q)) (length out) r q′
 
 -- ---- words that step refuses
 
