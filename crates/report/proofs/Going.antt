@@ -1,6 +1,6 @@
 -- A piece in the making: what `fill` has written so far, and what each answer of step adds to it.
 -- Assumes nothing.
-use Prim.Native.Nat.{ℕ, zero, suc, _+_, _-_, _≤_, _<_}
+use Prim.Native.Nat.{ℕ, suc, _+_, _-_, _≤_, _<_}
 use native.Mathlib.Nat.{le-refl, sub-zero}
 use native.Mathlib.Omega.{arith}
 use mathlib.Core.Path.{_≡_, refl, sym, ap, ap₂, _∙_, subst}
@@ -12,14 +12,14 @@ use lib.ListN.{length, getD, take, drop, length-append}
 use borrow.Author.Tests.{le-ltb, lt-ltb}
 use Rattle.mappings.specs.Limits.{workWords}
 use Rattle.mappings.specs.Score.{Task}
-use Rattle.mappings.specs.Cells.{Cell, Mapping, hitCount, cellCount, mappingOf}
-use Rattle.mappings.specs.Rule.{Answer, found, finished, spent, refused, reported, ruleAnswer}
+use Rattle.mappings.specs.Cells.{Mapping, hitCount, cellCount}
+use Rattle.mappings.specs.Rule.{Answer, found, finished, refused, reported, ruleAnswer}
 use Rattle.mappings.proofs.Rule.{total}
 use Rattle.start.specs.WorkWords.{sessionWords}
 use Rattle.mapper.specs.declared.walk.Stepped.{Stepped}
 use Rattle.mapper.specs.declared.walk.Stepped.the-variants.{Found, Finished, Spent, TooFewWords, BadWords}
 use Rattle.mapper.specs.Answers.{answerOf}
-use Rattle.mapper.specs.Step.{tooFewWords, badWords}
+use Rattle.mapper.specs.Step.{tooFewWords}
 use Rattle.mapper.specs.Promise.{Accepts, StepPromise}
 use Rattle.mapper.proofs.Accepted.{Admitted, admitted}
 use Rattle.mapper.proofs.StepPromise.{InSession, in-session}
@@ -28,10 +28,10 @@ use Rattle.listing.specs.Writing.{Written}
 use Rattle.listing.proofs.Buffers.{written-index}
 use Rattle.listing.proofs.Decimal.{length-line}
 use Rattle.report.specs.Output.{lastLine}
-use Rattle.report.specs.Pieces.{mappingLine, MappingWritten, finalsAfter, restOf, cellsLeft, Belongs, linesIn, stepBudget, passedFor, Done, Full, Piece, refusedWords, Unmoved, Fills}
+use Rattle.report.specs.Pieces.{mappingLine, MappingWritten, finalsAfter, restOf, cellsLeft, Belongs, linesIn, stepBudget, passedFor, Done, Full, Piece, refusedWords, Unmoved, Later, Fills}
 use Rattle.report.specs.declared.filling.Filled.{Filled}
 use Rattle.report.proofs.Writers.{take-written, drop-later, written-onward, written-inside, written-past}
-use Rattle.report.proofs.Rest.{length-last, found-next, found-within, finished-next, never-spent, never-refused, found-final, few-cells, rest-found, rest-finished, Fitting, fitting-final}
+use Rattle.report.proofs.Rest.{length-last, found-next, found-within, finished-next, step-within, never-spent, never-refused, found-final, few-cells, rest-found, rest-finished, Fitting, fitting-final}
 
 -- after q cells and `count` mappings, `at` bytes are written of what was left to print after q₀ cells and `found` mappings
 pub record On (task : Task) (before places : List ℕ) (k size q₀ found : ℕ) (out₀ out work : List ℕ) (at count q : ℕ) : Type 0 where
@@ -59,6 +59,7 @@ pub record Going (work₀ places : List ℕ) (k size found : ℕ) (out₀ out wo
   pub beyond : drop workWords work ≡ drop workWords work₀
   pub past : drop at out ≡ drop at out₀
   pub unmoved : refusedWords work₀ ≡ true → (at ≡ 0) × (count ≡ found) × (work ≡ work₀) × (out ≡ out₀)
+  pub later : (task : Task) (before : List ℕ) (q₀ : ℕ) → Accepts task before → q₀ ≤ total task → work₀ ≡ sessionWords task before q₀ → Later task before q₀ work
   pub on : (task : Task) (before : List ℕ) (q₀ : ℕ) → InPiece task before work₀ places k size found q₀ → (q : ℕ) × On task before places k size q₀ found out₀ out work at count q
 
 pub going-start : (work places : List ℕ) (k size count : ℕ) (out : List ℕ) → Going work places k size count out out work 0 count
@@ -66,6 +67,7 @@ going-start work places k size count out = record {
   beyond = refl;
   past = refl;
   unmoved = λ e. (refl, refl, refl, refl);
+  later = λ task before q₀ a l w. (q₀, le-refl q₀, l, w);
   on = λ task before q₀ p. (
     q₀,
     record {
@@ -119,21 +121,29 @@ lines-some places k size room mapping finals h = rw (le-ltb room 64 h)
 fills : (work₀ places : List ℕ) (k size found₀ : ℕ) (out₀ out work : List ℕ) (at count : ℕ) → Going work₀ places k size found₀ out₀ out work at count → length out ≡ length out₀ → length work ≡ length work₀ → (r : Filled) (work′ out′ : List ℕ)
     → length work′ ≡ length work → drop workWords work′ ≡ drop workWords work → length out′ ≡ length out → at ≤ r .written → r .written ≤ length out → drop (r .written) out′ ≡ drop (r .written) out
     → (refusedWords work₀ ≡ true → Unmoved work₀ found₀ out₀ r work′ out′)
+    → ((task : Task) (before : List ℕ) (q₀ : ℕ) → Accepts task before → q₀ ≤ total task → work₀ ≡ sessionWords task before q₀ → Later task before q₀ work′)
     → ((task : Task) (before : List ℕ) (q₀ : ℕ) → InPiece task before work₀ places k size found₀ q₀ → (q′ : ℕ) × Piece task before places k size q₀ found₀ out₀ r work′ out′ q′)
     → Fills work₀ places k size found₀ out₀ r work′ out′
-fills work₀ places k size found₀ out₀ out work at count going same-out same-work r work′ out′ number beyond long onward inside past unmoved piece = record {
+fills work₀ places k size found₀ out₀ out work at count going same-out same-work r work′ out′ number beyond long onward inside past unmoved later piece = record {
   inside = omega arith;
   long = long ∙ same-out;
   past = past ∙ drop-later at (r .written) out out₀ onward (going .past);
   number = number ∙ same-work;
   beyond = beyond ∙ going .beyond;
   refused = unmoved;
+  later = later;
   session = λ task before q a b l f w. piece task before q (record { accepts = a; belongs = b; among = l; counted = f; words = w });
 }
 
 -- ---- a turn with room for a line
 
 module _ (work₀ places : List ℕ) (k size found₀ : ℕ) (out₀ out work : List ℕ) (at count : ℕ) (inside : at ≤ length out) (same : length out ≡ length out₀) (room : 64 ≤ length out - at) (going : Going work₀ places k size found₀ out₀ out work at count) where
+  later-step : (answer : Stepped) (work′ : List ℕ) → StepPromise work stepBudget answer work′ → (task : Task) (before : List ℕ) (q₀ : ℕ) → Accepts task before → q₀ ≤ total task → work₀ ≡ sessionWords task before q₀ → Later task before q₀ work′
+  later-step answer work′ promise task before q₀ a l w =
+      let now = going .later task before q₀ a l w in
+      let o : q₀ ≤ now .0 = now .1 in
+      (now .0 + reported (ruleAnswer task (now .0) stepBudget), (omega arith), step-within task (now .0) stepBudget (now .2), promise .session task before (now .0) a (now .2) (now .3) .1)
+
   refused-now : (answer : Stepped) (work′ : List ℕ) → StepPromise work stepBudget answer work′ → refusedWords work₀ ≡ true → ((n : ℕ) × (answerOf answer ≡ refused n)) × (work′ ≡ work)
   refused-now answer work′ promise e = refused-step promise (ap refusedWords (going .unmoved e .2) ∙ e)
 
@@ -291,6 +301,7 @@ module _ (work₀ places : List ℕ) (k size found₀ : ℕ) (out₀ out work : 
     beyond = promise .beyond ∙ going .beyond;
     past = put .past inside ∙ drop-later at next out out₀ (put .onward) (going .past);
     unmoved = λ e. absurd (not-found a b score m cells work′ promise e);
+    later = later-step (Found a b score m cells) work′ promise;
     on = λ task before q₀ p. found-on task before q₀ p a b score m cells work′ promise next out′ put;
   }
 
@@ -301,15 +312,15 @@ module _ (work₀ places : List ℕ) (k size found₀ : ℕ) (out₀ out work : 
     pub fills-stopped : (a b : ℕ) (score : ℤ) (m cells : ℕ) (work′ : List ℕ) → StepPromise work stepBudget (Found a b score m cells) work′ → r .written ≡ at → (out′ : List ℕ) → length out′ ≡ length out → drop at out′ ≡ drop at out
         → ((task : Task) (before : List ℕ) (q₀ : ℕ) → InPiece task before work₀ places k size found₀ q₀ → ⊥) → Fills work₀ places k size found₀ out₀ r work′ out′
     fills-stopped a b score m cells work′ promise ew out′ long past never =
-        fills work₀ places k size found₀ out₀ out work at count going same number r work′ out′ (promise .number) (promise .beyond) long (omega arith) (omega arith) (rw ew past) (λ e. absurd (not-found a b score m cells work′ promise e)) (λ task before q₀ p. absurd (never task before q₀ p))
+        fills work₀ places k size found₀ out₀ out work at count going same number r work′ out′ (promise .number) (promise .beyond) long (omega arith) (omega arith) (rw ew past) (λ e. absurd (not-found a b score m cells work′ promise e)) (later-step (Found a b score m cells) work′ promise) (λ task before q₀ p. absurd (never task before q₀ p))
 
     pub fills-finished : (cells passed : ℕ) (out′ work′ : List ℕ) → StepPromise work stepBudget (Finished cells) work′ → passed ≡ getD work′ 3 0 → Written (lastLine count passed) at out out′ (r .written) → length out′ ≡ length out → r .found ≡ count → r .left ≡ 0 → Fills work₀ places k size found₀ out₀ r work′ out′
     fills-finished cells passed out′ work′ promise is-passed put long ef el =
-        fills work₀ places k size found₀ out₀ out work at count going same number r work′ out′ (promise .number) (promise .beyond) long (written-onward put) (written-inside put inside) (written-past put inside) (λ e. absurd (not-finished cells work′ promise e)) (λ task before q₀ p. finished-piece task before q₀ p cells passed (r .written) out′ work′ promise is-passed put r refl ef el)
+        fills work₀ places k size found₀ out₀ out work at count going same number r work′ out′ (promise .number) (promise .beyond) long (written-onward put) (written-inside put inside) (written-past put inside) (λ e. absurd (not-finished cells work′ promise e)) (later-step (Finished cells) work′ promise) (λ task before q₀ p. finished-piece task before q₀ p cells passed (r .written) out′ work′ promise is-passed put r refl ef el)
 
     pub fills-other : (answer : Stepped) → Other answer → (work′ : List ℕ) → StepPromise work stepBudget answer work′ → r .written ≡ at → r .found ≡ count → r .left ≡ 0 → Fills work₀ places k size found₀ out₀ r work′ out
     fills-other answer other work′ promise ew ef el =
-        fills work₀ places k size found₀ out₀ out work at count going same number r work′ out (promise .number) (promise .beyond) refl (omega arith) (omega arith) refl unmoved (λ task before q₀ p. absurd (not-other task before q₀ p answer other work′ promise))
+        fills work₀ places k size found₀ out₀ out work at count going same number r work′ out (promise .number) (promise .beyond) refl (omega arith) (omega arith) refl unmoved (later-step answer work′ promise) (λ task before q₀ p. absurd (not-other task before q₀ p answer other work′ promise))
       where
         unmoved : refusedWords work₀ ≡ true → Unmoved work₀ found₀ out₀ r work′ out
         unmoved e =
@@ -363,7 +374,7 @@ module _ (work₀ places : List ℕ) (k size found₀ : ℕ) (out₀ out work : 
       }
 
   pub fills-full : length work ≡ length work₀ → at ≤ length out → Fills work₀ places k size found₀ out₀ r work out
-  fills-full number inside = fills work₀ places k size found₀ out₀ out work at count going same number r work out refl refl refl (omega arith) (omega arith) refl full-unmoved full-piece
+  fills-full number inside = fills work₀ places k size found₀ out₀ out work at count going same number r work out refl refl refl (omega arith) (omega arith) refl full-unmoved (going .later) full-piece
 
 -- with room for a line: all is printed, or at least one cell was passed
 pub piece-falls : {task : Task} {before places : List ℕ} {k size q found : ℕ} {out : List ℕ} {r : Filled} {work′ out′ : List ℕ} {q′ : ℕ} → Piece task before places k size q found out r work′ out′ q′ → 64 ≤ length out → (r .left ≡ 0) ⊎ ((q < q′) × (r .left ≡ suc (cellCount (hitCount task) - q′)))

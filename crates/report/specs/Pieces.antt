@@ -150,8 +150,13 @@ pub record Unmoved (work : List ℕ) (found : ℕ) (out : List ℕ) (r : Filled)
   pub same-work : work′ ≡ work
   pub same-out : out′ ≡ out
 
--- what `fill` answers and leaves. Which bytes it writes for words that no start and steps made is open, as step's answer is; all other
--- bytes, and the words beyond the first 16,384, keep their content for any words
+-- the words of a session after q cells or more
+abbrev pub Later : Task → List ℕ → ℕ → List ℕ → Type 0
+Later task before q work = (q′ : ℕ) × (q ≤ q′) × (q′ ≤ cellCount (hitCount task)) × (work ≡ sessionWords task before q′)
+
+-- what `fill` answers and leaves. Open is which bytes it writes for words that no start and steps made, as step's answer is, and how far it
+-- comes with positions, k, a size or a count that do not belong to the session. All other bytes, and the words beyond the first 16,384,
+-- keep their content in any case, and a session stays one
 pub record Fills (work places : List ℕ) (k size found : ℕ) (out : List ℕ) (r : Filled) (work′ out′ : List ℕ) : Type 0 where
   pub inside : r .written ≤ length out′
   pub long : length out′ ≡ length out
@@ -159,5 +164,6 @@ pub record Fills (work places : List ℕ) (k size found : ℕ) (out : List ℕ) 
   pub number : length work′ ≡ length work
   pub beyond : drop workWords work′ ≡ drop workWords work
   pub refused : refusedWords work ≡ true → Unmoved work found out r work′ out′
+  pub later : (task : Task) (before : List ℕ) (q : ℕ) → Accepts task before → q ≤ cellCount (hitCount task) → work ≡ sessionWords task before q → Later task before q work′
   pub session : (task : Task) (before : List ℕ) (q : ℕ) → Accepts task before → Belongs task places k size → q ≤ cellCount (hitCount task) → found ≤ q → work ≡ sessionWords task before q
       → (q′ : ℕ) × Piece task before places k size q found out r work′ out′ q′

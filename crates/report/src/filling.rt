@@ -168,9 +168,7 @@ pub fn fill(
                 let end = put_last(out, at, count, cells_passed(work));
                 return stopped(end, count);
             }
-            _ => {
-                return stopped(at, count);
-            }
+            _ => return stopped(at, count),
         }
     }
     Filled {

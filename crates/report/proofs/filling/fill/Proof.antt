@@ -1,10 +1,10 @@
 -- `report::filling::fill` meets its contract: at each turn, what is written and what is left to print after the cells passed are together what
 -- was left to print before the call. The measure is the room. Assumes nothing.
-use Prim.Native.Nat.{ℕ, _+_, _-_, _≤_, _<_}
+use Prim.Native.Nat.{ℕ, _-_, _≤_}
 use native.Mathlib.Omega.{arith}
-use mathlib.Core.Path.{_≡_, refl, sym, ap, _∙_, subst}
-use mathlib.Core.Logic.{_⊎_, inl, inr}
-use mathlib.Core.List.{List, [], _∷_}
+use mathlib.Core.Path.{_≡_, refl, subst}
+use mathlib.Core.Logic.{inl, inr}
+use mathlib.Core.List.{[], _∷_}
 use lib.ListN.{length, drop}
 use types.Run.{OneOf}
 use denote.Enum.Declared.{tagOf}
@@ -56,7 +56,7 @@ module _ (c : tie.After-slice-known3 Inv-loop μ-loop) where
   promise e = subst (λ (a : Stepped). StepPromise (at-loop .loop .work) 4294967295 a (at-step .step .last .0)) e (at-step .step .ensures)
 
   roomy : 64 ≤ length (at-loop .loop .out) - at-loop .loop .at
-  roomy = at-step .before .before .loop-test .taken
+  roomy = omega (arith, at-step .before .before .loop-test .taken)
 
 -- a mapping is found
 module _ (c : tie.After-slice-known4 Inv-loop μ-loop) where
