@@ -6,10 +6,10 @@ use native.Mathlib.Omega.{arith}
 use mathlib.Core.Path.{_≡_, refl, sym, ap, ap₂, _∙_, subst}
 use mathlib.Core.Logic.{_⊎_, inl, inr}
 use mathlib.Core.Bool.{Bool, true, false}
-use mathlib.Core.List.{List, [], _∷_, _++_, append-assoc, append-nil}
+use mathlib.Core.List.{List, [], _∷_, _++_, append-assoc}
 use lib.IntN.{ℤ}
 use lib.ListN.{length, getD, take, drop, length-append}
-use borrow.Author.Tests.{le-ltb, lt-ltb}
+use borrow.Author.Tests.{le-ltb, lt-ltb, le-leb, lt-leb}
 use Rattle.mappings.specs.Limits.{workWords}
 use Rattle.mappings.specs.Score.{Task}
 use Rattle.mappings.specs.Cells.{Mapping, hitCount, cellCount}
@@ -28,29 +28,28 @@ use Rattle.listing.specs.Writing.{Written}
 use Rattle.listing.proofs.Buffers.{written-index}
 use Rattle.listing.proofs.Decimal.{length-line}
 use Rattle.report.specs.Output.{lastLine}
-use Rattle.report.specs.Pieces.{mappingLine, MappingWritten, finalsAfter, restOf, cellsLeft, Belongs, linesIn, stepBudget, passedFor, Done, Full, Piece, refusedWords, Unmoved, Later, Fills}
+use Rattle.report.specs.Pieces.{mappingLine, MappingWritten, finalsAfter, restOf, cellsLeft, isHeld, isPrinted, linesIn, stepBudget, passedFor, Piece, refusedWords, Unmoved, Fills}
 use Rattle.report.specs.declared.filling.Filled.{Filled}
 use Rattle.report.proofs.Writers.{take-written, drop-later, written-onward, written-inside, written-past}
-use Rattle.report.proofs.Rest.{length-last, found-next, found-within, finished-next, step-within, never-spent, never-refused, found-final, few-cells, rest-found, rest-finished, Fitting, fitting-final}
+use Rattle.report.proofs.Rest.{length-last, found-next, found-within, finished-next, never-spent, never-refused, few-cells, rest-found, rest-finished}
+use Rattle.report.proofs.Mapping.{held-facts}
 
 -- after q cells and `count` mappings, `at` bytes are written of what was left to print after q₀ cells and `found` mappings
 pub record On (task : Task) (before places : List ℕ) (k size q₀ found : ℕ) (out₀ out work : List ℕ) (at count q : ℕ) : Type 0 where
   pub onward : q₀ ≤ q
   pub among : q ≤ total task
-  pub counted : count ≤ q
+  pub counted : found ≤ q₀ → count ≤ q
   pub words : work ≡ sessionWords task before q
-  pub lines : count + linesIn places k size (length out₀ - at) (finalsAfter task q) ≡ found + linesIn places k size (length out₀) (finalsAfter task q₀)
-  pub place : passedFor task q (linesIn places k size (length out₀ - at) (finalsAfter task q)) ≡ passedFor task q₀ (linesIn places k size (length out₀) (finalsAfter task q₀))
+  pub lines : count + linesIn places k size (length out₀ - at) count (finalsAfter task q) ≡ found + linesIn places k size (length out₀) found (finalsAfter task q₀)
+  pub place : passedFor task q (linesIn places k size (length out₀ - at) count (finalsAfter task q)) ≡ passedFor task q₀ (linesIn places k size (length out₀) found (finalsAfter task q₀))
   pub tally : count + length (finalsAfter task q) ≡ found + length (finalsAfter task q₀)
   pub bytes : take at out ++ restOf task places k size q count ≡ restOf task places k size q₀ found
   pub moved : 0 < at → q₀ < q
 
 -- a session whose words are those at the start
-pub record InPiece (task : Task) (before work₀ places : List ℕ) (k size found q₀ : ℕ) : Type 0 where
+pub record InPiece (task : Task) (before work₀ : List ℕ) (q₀ : ℕ) : Type 0 where
   pub accepts : Accepts task before
-  pub belongs : Belongs task places k size
   pub among : q₀ ≤ total task
-  pub counted : found ≤ q₀
   pub words : work₀ ≡ sessionWords task before q₀
 
 -- the words beyond a session's and the bytes behind those written are as they came, and so is all for words that step refuses; and so it
@@ -59,24 +58,22 @@ pub record Going (work₀ places : List ℕ) (k size found : ℕ) (out₀ out wo
   pub beyond : drop workWords work ≡ drop workWords work₀
   pub past : drop at out ≡ drop at out₀
   pub unmoved : refusedWords work₀ ≡ true → (at ≡ 0) × (count ≡ found) × (work ≡ work₀) × (out ≡ out₀)
-  pub later : (task : Task) (before : List ℕ) (q₀ : ℕ) → Accepts task before → q₀ ≤ total task → work₀ ≡ sessionWords task before q₀ → Later task before q₀ work
-  pub on : (task : Task) (before : List ℕ) (q₀ : ℕ) → InPiece task before work₀ places k size found q₀ → (q : ℕ) × On task before places k size q₀ found out₀ out work at count q
+  pub on : (task : Task) (before : List ℕ) (q₀ : ℕ) → InPiece task before work₀ q₀ → (q : ℕ) × On task before places k size q₀ found out₀ out work at count q
 
 pub going-start : (work places : List ℕ) (k size count : ℕ) (out : List ℕ) → Going work places k size count out out work 0 count
 going-start work places k size count out = record {
   beyond = refl;
   past = refl;
   unmoved = λ e. (refl, refl, refl, refl);
-  later = λ task before q₀ a l w. (q₀, le-refl q₀, l, w);
   on = λ task before q₀ p. (
     q₀,
     record {
       onward = le-refl q₀;
       among = p .among;
-      counted = p .counted;
+      counted = λ h. h;
       words = p .words;
-      lines = ap (λ (n : ℕ). count + linesIn places k size n (finalsAfter task q₀)) (sub-zero (length out));
-      place = ap (λ (n : ℕ). passedFor task q₀ (linesIn places k size n (finalsAfter task q₀))) (sub-zero (length out));
+      lines = ap (λ (n : ℕ). count + linesIn places k size n count (finalsAfter task q₀)) (sub-zero (length out));
+      place = ap (λ (n : ℕ). passedFor task q₀ (linesIn places k size n count (finalsAfter task q₀))) (sub-zero (length out));
       tally = refl;
       bytes = refl;
       moved = λ h. absurd (omega arith);
@@ -107,13 +104,31 @@ length-mapping : (places : List ℕ) (k size : ℕ) (mapping : Mapping) → (0 <
 unfolding mappingLine line
 length-mapping places k size mapping = (simp length-append (omega arith), length-line _ _ (mapping .score) (mapping .m) _)
 
--- without room for a line none is written
-lines-none : (places : List ℕ) (k size room : ℕ) (finals : List Mapping) → room < 64 → linesIn places k size room finals ≡ 0
-lines-none places k size room [] h = refl
-lines-none places k size room (mapping ∷ finals) h = rw (lt-ltb room 64 h)
+-- how many lines are written: without room for one, with a first that is not written, and with one that is
+module _ (places : List ℕ) (k size room count : ℕ) where
+  lines-none : (finals : List Mapping) → room < 64 → linesIn places k size room count finals ≡ 0
+  lines-none [] h = refl
+  lines-none (mapping ∷ finals) h = rw (lt-leb 64 room h)
 
-lines-some : (places : List ℕ) (k size room : ℕ) (mapping : Mapping) (finals : List Mapping) → 64 ≤ room → linesIn places k size room (mapping ∷ finals) ≡ suc (linesIn places k size (room - length (mappingLine places k size mapping)) finals)
-lines-some places k size room mapping finals h = rw (le-ltb room 64 h)
+  module _ (mapping : Mapping) (finals : List Mapping) (h : 64 ≤ room) where
+    lines-stuck : isPrinted places k size count mapping ≡ false → linesIn places k size room count (mapping ∷ finals) ≡ 0
+    lines-stuck e = rw (le-leb 64 room h, e)
+
+    lines-some : isPrinted places k size count mapping ≡ true → linesIn places k size room count (mapping ∷ finals) ≡ suc (linesIn places k size (room - length (mappingLine places k size mapping)) (count + 1) finals)
+    lines-some e = rw (le-leb 64 room h, e)
+
+-- a line is not written for the count, or for its numbers
+pub too-many : (places : List ℕ) (k size count : ℕ) (mapping : Mapping) → 2098176 ≤ count → isPrinted places k size count mapping ≡ false
+unfolding isPrinted
+too-many places k size count mapping h = rw (le-ltb count 2098176 h)
+
+pub not-printed : (places : List ℕ) (k size count : ℕ) (mapping : Mapping) → count < 2098176 → isHeld places k size (mapping .a) (mapping .b) (mapping .m) ≡ false → isPrinted places k size count mapping ≡ false
+unfolding isPrinted
+not-printed places k size count mapping h e = rw (lt-ltb count 2098176 h, e)
+
+pub printed : (places : List ℕ) (k size count : ℕ) (mapping : Mapping) → count < 2098176 → isHeld places k size (mapping .a) (mapping .b) (mapping .m) ≡ true → isPrinted places k size count mapping ≡ true
+unfolding isPrinted
+printed places k size count mapping h e = rw (lt-ltb count 2098176 h, e)
 
 -- ---- the contract
 
@@ -121,33 +136,50 @@ lines-some places k size room mapping finals h = rw (le-ltb room 64 h)
 fills : (work₀ places : List ℕ) (k size found₀ : ℕ) (out₀ out work : List ℕ) (at count : ℕ) → Going work₀ places k size found₀ out₀ out work at count → length out ≡ length out₀ → length work ≡ length work₀ → (r : Filled) (work′ out′ : List ℕ)
     → length work′ ≡ length work → drop workWords work′ ≡ drop workWords work → length out′ ≡ length out → at ≤ r .written → r .written ≤ length out → drop (r .written) out′ ≡ drop (r .written) out
     → (refusedWords work₀ ≡ true → Unmoved work₀ found₀ out₀ r work′ out′)
-    → ((task : Task) (before : List ℕ) (q₀ : ℕ) → Accepts task before → q₀ ≤ total task → work₀ ≡ sessionWords task before q₀ → Later task before q₀ work′)
-    → ((task : Task) (before : List ℕ) (q₀ : ℕ) → InPiece task before work₀ places k size found₀ q₀ → (q′ : ℕ) × Piece task before places k size q₀ found₀ out₀ r work′ out′ q′)
+    → ((task : Task) (before : List ℕ) (q₀ : ℕ) → InPiece task before work₀ q₀ → (q′ : ℕ) × Piece task before places k size q₀ found₀ out₀ r work′ out′ q′)
     → Fills work₀ places k size found₀ out₀ r work′ out′
-fills work₀ places k size found₀ out₀ out work at count going same-out same-work r work′ out′ number beyond long onward inside past unmoved later piece = record {
+fills work₀ places k size found₀ out₀ out work at count going same-out same-work r work′ out′ number beyond long onward inside past unmoved piece = record {
   inside = omega arith;
   long = long ∙ same-out;
   past = past ∙ drop-later at (r .written) out out₀ onward (going .past);
   number = number ∙ same-work;
   beyond = beyond ∙ going .beyond;
   refused = unmoved;
-  later = later;
-  session = λ task before q a b l f w. piece task before q (record { accepts = a; belongs = b; among = l; counted = f; words = w });
+  session = λ task before q a l w. piece task before q (record { accepts = a; among = l; words = w });
 }
 
 -- ---- a turn with room for a line
 
 module _ (work₀ places : List ℕ) (k size found₀ : ℕ) (out₀ out work : List ℕ) (at count : ℕ) (inside : at ≤ length out) (same : length out ≡ length out₀) (room : 64 ≤ length out - at) (going : Going work₀ places k size found₀ out₀ out work at count) where
-  later-step : (answer : Stepped) (work′ : List ℕ) → StepPromise work stepBudget answer work′ → (task : Task) (before : List ℕ) (q₀ : ℕ) → Accepts task before → q₀ ≤ total task → work₀ ≡ sessionWords task before q₀ → Later task before q₀ work′
-  later-step answer work′ promise task before q₀ a l w =
-      let now = going .later task before q₀ a l w in
-      let o : q₀ ≤ now .0 = now .1 in
-      (now .0 + reported (ruleAnswer task (now .0) stepBudget), (omega arith), step-within task (now .0) stepBudget (now .2), promise .session task before (now .0) a (now .2) (now .3) .1)
-
   refused-now : (answer : Stepped) (work′ : List ℕ) → StepPromise work stepBudget answer work′ → refusedWords work₀ ≡ true → ((n : ℕ) × (answerOf answer ≡ refused n)) × (work′ ≡ work)
   refused-now answer work′ promise e = refused-step promise (ap refusedWords (going .unmoved e .2) ∙ e)
 
-  module _ (task : Task) (before : List ℕ) (q₀ : ℕ) (p : InPiece task before work₀ places k size found₀ q₀) where
+  -- a mapping's line is written, and moves the index, exactly where its numbers hold it
+  module _ (a b : ℕ) (score : ℤ) (m next : ℕ) (out′ : List ℕ) (put : MappingWritten places k size a b score m at out out′ next) where
+    abbrev putting : Mapping
+    putting = record { a = a; b = b; score = score; m = m }
+
+    fitting : at + length (mappingLine places k size putting) ≤ length out
+    fitting = let l = length-mapping places k size putting in omega arith
+
+    wrote : isHeld places k size a b m ≡ true → Written (mappingLine places k size putting) at out out′ next
+    wrote e = let f = held-facts places k size a b m e in put .held (f .0) (f .1) (f .2) inside
+
+    pub unheld : next ≤ at → isHeld places k size a b m ≡ false
+    unheld l = go (isHeld places k size a b m) refl
+      where
+        go : (c : Bool) → isHeld places k size a b m ≡ c → isHeld places k size a b m ≡ false
+        go true e = absurd (let i : next ≡ at + length (mappingLine places k size putting) = written-index (wrote e) fitting in let s = length-mapping places k size putting in omega arith)
+        go false e = e
+
+    held : at < next → isHeld places k size a b m ≡ true
+    held l = go (isHeld places k size a b m) refl
+      where
+        go : (c : Bool) → isHeld places k size a b m ≡ c → isHeld places k size a b m ≡ true
+        go true e = e
+        go false e = absurd (let i : next ≡ at = put .none e .0 in omega arith)
+
+  module _ (task : Task) (before : List ℕ) (q₀ : ℕ) (p : InPiece task before work₀ q₀) where
     q : ℕ
     q = going .on task before q₀ p .0
 
@@ -175,42 +207,32 @@ module _ (work₀ places : List ℕ) (k size found₀ : ℕ) (out₀ out work : 
       within : (0 < cells) × (q + cells ≤ total task)
       within = found-within task q stepBudget (on .among) mapping cells rule
 
-      fits : Fitting task places k size mapping
-      fits =
-          let f = found-final task q stepBudget (on .among) mapping cells rule in
-          subst (Fitting task places k size) (sym (f .1)) (fitting-final task places k size (limits .limited) (p .belongs) (f .0) (f .2))
+      finals : finalsAfter task q ≡ mapping ∷ finalsAfter task (q + cells)
+      finals = found-next task q stepBudget (on .among) mapping cells rule
 
-      pub found-few : count < 2098176
-      found-few = let w = within in let c = on .counted in let f = few-cells task (limits .few-hits) in omega arith
+      module _ (next : ℕ) (out′ : List ℕ) (put : MappingWritten places k size a b score m at out out′ next) (few : count < 2098176) (further : at < next) where
+        is-held : isHeld places k size a b m ≡ true
+        is-held = held a b score m next out′ put further
 
-      module _ (next : ℕ) (out′ : List ℕ) (put : MappingWritten places k size a b score m at out out′ next) where
-        wrote : Written (mappingLine places k size mapping) at out out′ next
-        wrote = put .held (fits .holds) (fits .in-length) (fits .in-size) inside
+        line-written : Written (mappingLine places k size mapping) at out out′ next
+        line-written = wrote a b score m next out′ put is-held
 
-        fitting : at + length (mappingLine places k size mapping) ≤ length out
-        fitting = let l = length-mapping places k size mapping in omega arith
-
-        next-is : next ≡ at + length (mappingLine places k size mapping)
-        next-is = written-index wrote fitting
-
-        pub found-further : at < next
-        found-further = let e = next-is in let l = length-mapping places k size mapping in omega arith
-
-        finals : finalsAfter task q ≡ mapping ∷ finalsAfter task (q + cells)
-        finals = found-next task q stepBudget (on .among) mapping cells rule
+        line-fits : at + length (mappingLine places k size mapping) ≤ length out
+        line-fits = fitting a b score m next out′ put
 
         after : ℕ
-        after = linesIn places k size (length out₀ - next) (finalsAfter task (q + cells))
+        after = linesIn places k size (length out₀ - next) (count + 1) (finalsAfter task (q + cells))
 
-        one-more : linesIn places k size (length out₀ - at) (finalsAfter task q) ≡ suc after
+        one-more : linesIn places k size (length out₀ - at) count (finalsAfter task q) ≡ suc after
         unfolding after
         one-more =
-            let e : length out₀ - at - length (mappingLine places k size mapping) ≡ length out₀ - next = omega (arith, next-is) in
-            ap (linesIn places k size (length out₀ - at)) finals
-            ∙ lines-some places k size (length out₀ - at) mapping (finalsAfter task (q + cells)) (omega arith)
-            ∙ ap (λ (n : ℕ). suc (linesIn places k size n (finalsAfter task (q + cells)))) e
+            let i : next ≡ at + length (mappingLine places k size mapping) = written-index line-written line-fits in
+            let e : length out₀ - at - length (mappingLine places k size mapping) ≡ length out₀ - next = omega arith in
+            ap (linesIn places k size (length out₀ - at) count) finals
+            ∙ lines-some places k size (length out₀ - at) count mapping (finalsAfter task (q + cells)) (omega arith) (printed places k size count mapping few is-held)
+            ∙ ap (λ (n : ℕ). suc (linesIn places k size n (count + 1) (finalsAfter task (q + cells)))) e
 
-        on-place : passedFor task (q + cells) after ≡ passedFor task q (linesIn places k size (length out₀ - at) (finalsAfter task q))
+        on-place : passedFor task (q + cells) after ≡ passedFor task q (linesIn places k size (length out₀ - at) count (finalsAfter task q))
         on-place = sym (ap (passedFor task q) one-more ∙ ap (λ (a : Answer). passedFor task (q + reported a) after) rule)
 
         found-on : (q′ : ℕ) × On task before places k size q₀ found₀ out₀ out′ work′ next (count + 1) q′
@@ -220,14 +242,14 @@ module _ (work₀ places : List ℕ) (k size found₀ : ℕ) (out₀ out work : 
           record {
             onward = let o = on .onward in omega arith;
             among = within .1;
-            counted = let w = within in let c = on .counted in omega arith;
+            counted = λ h. let w = within in let c = on .counted h in omega arith;
             words = ruled (Found a b score m cells) work′ promise .1;
             lines = let l = on .lines in let o = one-more in omega arith;
             place = on-place ∙ on .place;
             tally = let t = on .tally in let l : length (finalsAfter task q) ≡ suc (length (finalsAfter task (q + cells))) = ap length finals in omega arith;
             bytes =
                 let rest : List ℕ = restOf task places k size (q + cells) (count + 1) in
-                ap (λ (l : List ℕ). l ++ rest) (take-written wrote fitting)
+                ap (λ (l : List ℕ). l ++ rest) (take-written line-written line-fits)
                 ∙ append-assoc (take at out) (mappingLine places k size mapping) rest
                 ∙ ap (λ (l : List ℕ). take at out ++ l) (sym (rest-found task places k size q cells count mapping finals))
                 ∙ on .bytes;
@@ -235,15 +257,43 @@ module _ (work₀ places : List ℕ) (k size found₀ : ℕ) (out₀ out work : 
           },
         )
 
+      -- the line is not written
+      stuck-piece : isPrinted places k size count mapping ≡ false → (out′ : List ℕ) → out′ ≡ out → (r : Filled) → r .written ≡ at → r .found ≡ count → r .left ≡ 0 → (q′ : ℕ) × Piece task before places k size q₀ found₀ out₀ r work′ out′ q′
+      stuck-piece unprinted out′ eo r ew ef el =
+          let lines₀ : ℕ = linesIn places k size (length out₀) found₀ (finalsAfter task q₀) in
+          let none-more : linesIn places k size (length out₀ - at) count (finalsAfter task q) ≡ 0 =
+          ap (linesIn places k size (length out₀ - at) count) finals ∙ lines-stuck places k size (length out₀ - at) count mapping (finalsAfter task (q + cells)) (omega arith) unprinted in
+          let here : q ≡ passedFor task q₀ lines₀ = sym (ap (passedFor task q) none-more) ∙ on .place in
+          let w = within in (
+            q + cells,
+            record {
+              onward = let o = on .onward in omega arith;
+              among = w .1;
+              counted = λ h. let c = on .counted h in omega arith;
+              words = ruled (Found a b score m cells) work′ promise .1;
+              found-is = let l = on .lines in omega arith;
+              ends =
+                  inr
+                  (inr
+                  (record {
+                    none-left = el;
+                    had-room = omega arith;
+                    place = ap (λ (x : Answer). q + reported x) (sym rule) ∙ ap (λ (x : ℕ). passedFor task x 1) here;
+                    unprinted = (mapping, ap (finalsAfter task) (sym here) ∙ finals, rw ef unprinted);
+                    counted = λ h. let c = on .counted h in omega arith;
+                    bytes = rw (ew, ef, eo) (ap (λ (x : ℕ). take at out ++ restOf task places k size x count) (sym here) ∙ on .bytes);
+                  }));
+            },
+          )
+
     -- ---- finished
 
     module _ (cells passed next : ℕ) (out′ work′ : List ℕ) (promise : StepPromise work stepBudget (Finished cells) work′) (is-passed : passed ≡ getD work′ 3 0) (put : Written (lastLine count passed) at out out′ next) where
-      ended : (finalsEnd : ℕ) → finalsEnd ≡ passed → finalsEnd ≡ total task → take next out′ ++ [] ≡ restOf task places k size q₀ found₀
+      ended : (finalsEnd : ℕ) → finalsEnd ≡ passed → finalsEnd ≡ total task → take next out′ ≡ restOf task places k size q₀ found₀
       ended n e t =
           let f = finished-next task q stepBudget (on .among) cells (ruled (Finished cells) work′ promise .0) in
           let l : length (lastLine count passed) ≤ 64 = length-last count passed in
-          append-nil (take next out′)
-          ∙ take-written put (omega arith)
+          take-written put (omega arith)
           ∙ ap (λ (i : ℕ). take at out ++ lastLine count i) (sym e ∙ t)
           ∙ ap (λ (x : List ℕ). take at out ++ x) (sym (rest-finished task places k size q count (f .0)))
           ∙ on .bytes
@@ -254,22 +304,26 @@ module _ (work₀ places : List ℕ) (k size found₀ : ℕ) (out₀ out work : 
           let words : work′ ≡ sessionWords task before (q + cells) = ruled (Finished cells) work′ promise .1 in
           let s : InSession task before (q + cells) work′ = in-session task before (q + cells) work′ (p .accepts) words in
           let third : getD work′ 3 0 ≡ q + cells = s .held .passed-word in
-          let c = on .counted in
           let none : length (finalsAfter task q) ≡ 0 = ap length (f .0) in
-          let none-after : length (finalsAfter task (q + cells)) ≡ 0 = ap length (f .2) in
-          let none-more : linesIn places k size (length out₀ - at) (finalsAfter task q) ≡ 0 = ap (linesIn places k size (length out₀ - at)) (f .0) in
+          let none-more : linesIn places k size (length out₀ - at) count (finalsAfter task q) ≡ 0 = ap (linesIn places k size (length out₀ - at) count) (f .0) in
           let last : length (lastLine (r .found) (total task)) ≡ length (lastLine count passed) = ap length (ap₂ lastLine ef (sym (f .1) ∙ sym third ∙ sym is-passed)) in
           let end : next ≡ at + length (lastLine count passed) = let l : length (lastLine count passed) ≤ 64 = length-last count passed in written-index put (omega arith) in (
             q + cells,
             record {
               onward = let o = on .onward in omega arith;
               among = omega (arith, f .1);
-              counted = omega arith;
+              counted = λ h. let c = on .counted h in omega arith;
               words = words;
               found-is = let l = on .lines in omega arith;
-              tally = let t = on .tally in omega arith;
-              bytes = rw (ew, el) (ended (q + cells) (sym third ∙ sym is-passed) (f .1));
-              ends = inl (record { none-left = el; all-passed = f .1; had-room = omega arith });
+              ends =
+                  inl
+                  (record {
+                    none-left = el;
+                    had-room = omega arith;
+                    all-passed = f .1;
+                    all-found = let t = on .tally in omega arith;
+                    bytes = rw ew (ended (q + cells) (sym third ∙ sym is-passed) (f .1));
+                  });
             },
           )
 
@@ -296,31 +350,29 @@ module _ (work₀ places : List ℕ) (k size found₀ : ℕ) (out₀ out work : 
       let z : _≡_ {A = ℕ} 0 1 = cc in
       omega arith
 
-  pub going-found : (a b : ℕ) (score : ℤ) (m cells next : ℕ) (out′ work′ : List ℕ) → StepPromise work stepBudget (Found a b score m cells) work′ → MappingWritten places k size a b score m at out out′ next → Going work₀ places k size found₀ out₀ out′ work′ next (count + 1)
-  going-found a b score m cells next out′ work′ promise put = record {
+  pub going-found : (a b : ℕ) (score : ℤ) (m cells next : ℕ) (out′ work′ : List ℕ) → StepPromise work stepBudget (Found a b score m cells) work′ → MappingWritten places k size a b score m at out out′ next → count < 2098176 → at < next → Going work₀ places k size found₀ out₀ out′ work′ next (count + 1)
+  going-found a b score m cells next out′ work′ promise put few further = record {
     beyond = promise .beyond ∙ going .beyond;
     past = put .past inside ∙ drop-later at next out out₀ (put .onward) (going .past);
     unmoved = λ e. absurd (not-found a b score m cells work′ promise e);
-    later = later-step (Found a b score m cells) work′ promise;
-    on = λ task before q₀ p. found-on task before q₀ p a b score m cells work′ promise next out′ put;
+    on = λ task before q₀ p. found-on task before q₀ p a b score m cells work′ promise next out′ put few further;
   }
 
   -- ---- a turn that ends the piece
 
   module _ (number : length work ≡ length work₀) (r : Filled) where
-    -- a mapping whose line is not written, which no session hands out
-    pub fills-stopped : (a b : ℕ) (score : ℤ) (m cells : ℕ) (work′ : List ℕ) → StepPromise work stepBudget (Found a b score m cells) work′ → r .written ≡ at → (out′ : List ℕ) → length out′ ≡ length out → drop at out′ ≡ drop at out
-        → ((task : Task) (before : List ℕ) (q₀ : ℕ) → InPiece task before work₀ places k size found₀ q₀ → ⊥) → Fills work₀ places k size found₀ out₀ r work′ out′
-    fills-stopped a b score m cells work′ promise ew out′ long past never =
-        fills work₀ places k size found₀ out₀ out work at count going same number r work′ out′ (promise .number) (promise .beyond) long (omega arith) (omega arith) (rw ew past) (λ e. absurd (not-found a b score m cells work′ promise e)) (later-step (Found a b score m cells) work′ promise) (λ task before q₀ p. absurd (never task before q₀ p))
+    -- a mapping whose line is not written
+    pub fills-stopped : (a b : ℕ) (score : ℤ) (m cells : ℕ) (work′ : List ℕ) → StepPromise work stepBudget (Found a b score m cells) work′ → isPrinted places k size count (record { a = a; b = b; score = score; m = m }) ≡ false → (out′ : List ℕ) → out′ ≡ out → r .written ≡ at → r .found ≡ count → r .left ≡ 0 → Fills work₀ places k size found₀ out₀ r work′ out′
+    fills-stopped a b score m cells work′ promise unprinted out′ eo ew ef el =
+        fills work₀ places k size found₀ out₀ out work at count going same number r work′ out′ (promise .number) (promise .beyond) (ap length eo) (omega arith) (omega arith) (ap (drop (r .written)) eo) (λ e. absurd (not-found a b score m cells work′ promise e)) (λ task before q₀ p. stuck-piece task before q₀ p a b score m cells work′ promise unprinted out′ eo r ew ef el)
 
     pub fills-finished : (cells passed : ℕ) (out′ work′ : List ℕ) → StepPromise work stepBudget (Finished cells) work′ → passed ≡ getD work′ 3 0 → Written (lastLine count passed) at out out′ (r .written) → length out′ ≡ length out → r .found ≡ count → r .left ≡ 0 → Fills work₀ places k size found₀ out₀ r work′ out′
     fills-finished cells passed out′ work′ promise is-passed put long ef el =
-        fills work₀ places k size found₀ out₀ out work at count going same number r work′ out′ (promise .number) (promise .beyond) long (written-onward put) (written-inside put inside) (written-past put inside) (λ e. absurd (not-finished cells work′ promise e)) (later-step (Finished cells) work′ promise) (λ task before q₀ p. finished-piece task before q₀ p cells passed (r .written) out′ work′ promise is-passed put r refl ef el)
+        fills work₀ places k size found₀ out₀ out work at count going same number r work′ out′ (promise .number) (promise .beyond) long (written-onward put) (written-inside put inside) (written-past put inside) (λ e. absurd (not-finished cells work′ promise e)) (λ task before q₀ p. finished-piece task before q₀ p cells passed (r .written) out′ work′ promise is-passed put r refl ef el)
 
     pub fills-other : (answer : Stepped) → Other answer → (work′ : List ℕ) → StepPromise work stepBudget answer work′ → r .written ≡ at → r .found ≡ count → r .left ≡ 0 → Fills work₀ places k size found₀ out₀ r work′ out
     fills-other answer other work′ promise ew ef el =
-        fills work₀ places k size found₀ out₀ out work at count going same number r work′ out (promise .number) (promise .beyond) refl (omega arith) (omega arith) refl unmoved (later-step answer work′ promise) (λ task before q₀ p. absurd (not-other task before q₀ p answer other work′ promise))
+        fills work₀ places k size found₀ out₀ out work at count going same number r work′ out (promise .number) (promise .beyond) refl (omega arith) (omega arith) refl unmoved (λ task before q₀ p. absurd (not-other task before q₀ p answer other work′ promise))
       where
         unmoved : refusedWords work₀ ≡ true → Unmoved work₀ found₀ out₀ r work′ out
         unmoved e =
@@ -342,12 +394,12 @@ session-left task before q work a l e =
     rw (s .held .held .h-word, s .held .passed-word, le-ltb (length work) 16384 (s .number), le-ltb 2048 (hitCount task) (s .limits .few-hits), le-ltb (total task) q l)
 
 module _ (work₀ places : List ℕ) (k size found₀ : ℕ) (out₀ out work : List ℕ) (at count : ℕ) (going : Going work₀ places k size found₀ out₀ out work at count) (none : length out - at < 64) (same : length out ≡ length out₀) (r : Filled) (ew : r .written ≡ at) (ef : r .found ≡ count) (el : r .left ≡ cellsLeft work) where
-  full-piece : (task : Task) (before : List ℕ) (q₀ : ℕ) → InPiece task before work₀ places k size found₀ q₀ → (q′ : ℕ) × Piece task before places k size q₀ found₀ out₀ r work out q′
+  full-piece : (task : Task) (before : List ℕ) (q₀ : ℕ) → InPiece task before work₀ q₀ → (q′ : ℕ) × Piece task before places k size q₀ found₀ out₀ r work out q′
   full-piece task before q₀ p =
       let q = going .on task before q₀ p .0 in
       let on = going .on task before q₀ p .1 in
       let left : r .left ≡ suc (total task - q) = el ∙ session-left task before q work (p .accepts) (on .among) (on .words) in
-      let none-more : linesIn places k size (length out₀ - at) (finalsAfter task q) ≡ 0 = lines-none places k size (length out₀ - at) (finalsAfter task q) (omega arith) in (
+      let none-more : linesIn places k size (length out₀ - at) count (finalsAfter task q) ≡ 0 = lines-none places k size (length out₀ - at) count (finalsAfter task q) (omega arith) in (
         q,
         record {
           onward = on .onward;
@@ -355,9 +407,16 @@ module _ (work₀ places : List ℕ) (k size found₀ : ℕ) (out₀ out work : 
           counted = rw ef (on .counted);
           words = on .words;
           found-is = let l = on .lines in omega arith;
-          tally = rw ef (on .tally);
-          bytes = rw (ew, left, ef) (on .bytes);
-          ends = inr (record { place = sym (ap (passedFor task q) none-more) ∙ on .place; left-is = left; no-room = omega arith; further = λ h. on .moved (omega arith) });
+          ends =
+              inr
+              (inl
+              (record {
+                left-is = left;
+                no-room = omega arith;
+                place = sym (ap (passedFor task q) none-more) ∙ on .place;
+                further = λ h. on .moved (omega arith);
+                bytes = rw (ew, ef) (on .bytes);
+              }));
         },
       )
 
@@ -374,12 +433,4 @@ module _ (work₀ places : List ℕ) (k size found₀ : ℕ) (out₀ out work : 
       }
 
   pub fills-full : length work ≡ length work₀ → at ≤ length out → Fills work₀ places k size found₀ out₀ r work out
-  fills-full number inside = fills work₀ places k size found₀ out₀ out work at count going same number r work out refl refl refl (omega arith) (omega arith) refl full-unmoved (going .later) full-piece
-
--- with room for a line: all is printed, or at least one cell was passed
-pub piece-falls : {task : Task} {before places : List ℕ} {k size q found : ℕ} {out : List ℕ} {r : Filled} {work′ out′ : List ℕ} {q′ : ℕ} → Piece task before places k size q found out r work′ out′ q′ → 64 ≤ length out → (r .left ≡ 0) ⊎ ((q < q′) × (r .left ≡ suc (cellCount (hitCount task) - q′)))
-piece-falls {task} {before} {places} {k} {size} {q} {found} {out} {r} {work′} {out′} {q′} piece long = go (piece .ends)
-  where
-    go : Done task (length out) r q′ ⊎ Full task q (linesIn places k size (length out) (finalsAfter task q)) (length out) r q′ → (r .left ≡ 0) ⊎ ((q < q′) × (r .left ≡ suc (cellCount (hitCount task) - q′)))
-    go (inl done) = inl (done .none-left)
-    go (inr full) = inr (full .further (omega (arith, full .no-room)), full .left-is)
+  fills-full number inside = fills work₀ places k size found₀ out₀ out work at count going same number r work out refl refl refl (omega arith) (omega arith) refl full-unmoved full-piece

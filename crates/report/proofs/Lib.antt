@@ -3,6 +3,7 @@ pub mod Writers
 pub mod Mapping
 pub mod Rest
 pub mod Going
+pub mod Belonging
 pub mod FirstPiece
 pub mod Threshold
 pub mod OpenedSession

@@ -71,15 +71,6 @@ module _ (task : Task) where
             ap (finalsAfter task) t ∙ ap (λ (l : List Cell). map (mappingOf task) (keep (isFinalCell task) l)) (drop-all-cells (hitCount task)) in
             (finals-split q n ∙ ap (λ (l : List Mapping). l ++ finalsAfter task (q + n)) (sym (handed e)) ∙ none, t, none)
 
-    -- no step passes more cells than there are
-    pub step-within : q + reported (ruleAnswer task q B) ≤ total task
-    step-within = go (came refl)
-      where
-        go : {answer : Answer} → Outcome task q B answer → q + reported answer ≤ total task
-        go (as-found mapping cells p h k) = k
-        go (as-finished cells h t) = omega arith
-        go (as-spent cells s t) = omega arith
-
     -- a budget of more cells than there are is never spent, and no step of a session is refused
     pub never-spent : (n : ℕ) → total task ≤ B → ruleAnswer task q B ≡ spent n → ⊥
     never-spent n h e = go (came e)
@@ -95,17 +86,17 @@ module _ (task : Task) where
         go (as-finished cells h t) r = let z : _≡_ {A = ℕ} 0 1 = cc in omega arith
         go (as-spent cells s t) r = let z : _≡_ {A = ℕ} 0 1 = cc in omega arith
 
-    -- the mapping that a step finds is a final one
-    final-of : (l : List Cell) (mapping : Mapping) → mapping ∷ [] ≡ finalsOf task l → (cell : Cell) × (mapping ≡ mappingOf task cell) × (isFinalCell task cell ≡ true)
-    final-of [] mapping e = absurd (let z : _≡_ {A = ℕ} 0 1 = ap length (sym e) in omega arith)
-    final-of (cell ∷ l) mapping e = go (final-of l mapping) (isFinalCell task cell) refl
-      where
-        go : (mapping ∷ [] ≡ finalsOf task l → (cell : Cell) × (mapping ≡ mappingOf task cell) × (isFinalCell task cell ≡ true)) → (b : Bool) → isFinalCell task cell ≡ b → (cell : Cell) × (mapping ≡ mappingOf task cell) × (isFinalCell task cell ≡ true)
-        go rec true t = let f : mapping ∷ [] ≡ mappingOf task cell ∷ finalsOf task l = rw t at e in (cell, (cc), t)
-        go rec false t = rec (rw t at e)
+  -- the first of the mappings of some cells is that of a final one
+  final-of : (l : List Cell) (mapping : Mapping) (rest : List Mapping) → mapping ∷ rest ≡ finalsOf task l → (cell : Cell) × (mapping ≡ mappingOf task cell) × (isFinalCell task cell ≡ true)
+  final-of [] mapping rest e = absurd (let z : _≡_ {A = ℕ} 0 (suc (length rest)) = ap length (sym e) in omega arith)
+  final-of (cell ∷ l) mapping rest e = go (final-of l mapping rest) (isFinalCell task cell) refl
+    where
+      go : (mapping ∷ rest ≡ finalsOf task l → (cell : Cell) × (mapping ≡ mappingOf task cell) × (isFinalCell task cell ≡ true)) → (b : Bool) → isFinalCell task cell ≡ b → (cell : Cell) × (mapping ≡ mappingOf task cell) × (isFinalCell task cell ≡ true)
+      go rec true t = let f : mapping ∷ rest ≡ mappingOf task cell ∷ finalsOf task l = rw t at e in (cell, (cc), t)
+      go rec false t = rec (rw t at e)
 
-    pub found-final : (mapping : Mapping) (n : ℕ) → ruleAnswer task q B ≡ found mapping n → (cell : Cell) × (mapping ≡ mappingOf task cell) × (isFinalCell task cell ≡ true)
-    found-final mapping n e = final-of (take n (drop q (cellsOf task))) mapping (handed e)
+  pub left-final : (q : ℕ) (mapping : Mapping) (rest : List Mapping) → finalsAfter task q ≡ mapping ∷ rest → (cell : Cell) × (mapping ≡ mappingOf task cell) × (isFinalCell task cell ≡ true)
+  left-final q mapping rest e = final-of (drop q (cellsOf task)) mapping rest (sym e)
 
   -- all cells of a session are few
   pub few-cells : hitCount task ≤ 2048 → total task ≤ 2098176
@@ -149,7 +140,7 @@ module _ (task : Task) where
             known = omega (arith, f .within, belongs .enough);
             short = omega (arith, f .within);
             pattern-small = omega (arith, belongs .size-is);
-            some = belongs .k-some;
+            some = omega (arith, belongs .k-some);
             last-small = belongs .last-small (rightEnd task cell) (f .within);
           };
           in-length = shared-le-len task (leftEnd task cell) (rightEnd task cell) (f .within);

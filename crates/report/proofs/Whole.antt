@@ -23,13 +23,14 @@ use Rattle.opening.specs.Opening.{openedBy, openedOf, positionsAfter, workAfter
 use Rattle.opening.specs.declared.opening.Opened.{Opened}
 use Rattle.opening.specs.declared.opening.Opened.the-variants.{Malformed, Refused, Session}
 use Rattle.report.specs.Output.{headerLine, malformedLine, refusedLine, unlessRefused, listOf, printed, printedFor, outputOf}
-use Rattle.report.specs.Pieces.{restOf, unlessDone, cellsLeft, Belongs, Piece, Fills}
+use Rattle.report.specs.Pieces.{restOf, finalsAfter, linesIn, Done, Full, Piece, Fills}
 use Rattle.report.specs.Beginning.{firstLine, leftOf, BeginsWith, Begins}
 use Rattle.report.specs.Whole.{Printing}
 use Rattle.report.specs.declared.beginning.Begun.{Begun}
 use Rattle.report.specs.declared.filling.Filled.{Filled}
 use Rattle.report.proofs.Writers.{take-written}
-use Rattle.report.proofs.Going.{session-left, piece-falls}
+use Rattle.report.proofs.Going.{session-left}
+use Rattle.report.proofs.Belonging.{belonging}
 use Rattle.report.proofs.Threshold.{threshold-fits}
 use Rattle.report.proofs.OpenedSession.{start-accepts, places-are, words-are, session-belongs, list-rest}
 
@@ -103,24 +104,17 @@ fill-prints : (bytes places work : List ℕ) (k size found left : ℕ) (done : L
     → (out : List ℕ) (r : Filled) (work′ out′ : List ℕ) → 64 ≤ length out → Fills work places k size found out r work′ out′
     → (r .left < left) × After bytes places work′ k size (r .found) (r .left) (done ++ take (r .written) out′)
 fill-prints bytes places work k size found left done p out r work′ out′ long f =
-    let s = f .session (p .task) (p .before) (p .q) (p .accepts) (p .belongs) (p .among) (p .counted) (p .words) in
-    go (s .0) (s .1) (piece-falls (s .1) long)
+    let s = f .session (p .task) (p .before) (p .q) (p .accepts) (p .among) (p .words) in
+    go (s .0) (s .1) (belonging (p .task) (p .before) places k size (p .q) found (p .accepts) (p .belongs) (p .counted) (s .1))
   where
-    joined : (q′ : ℕ) (l : List ℕ) → take (r .written) out′ ++ l ≡ restOf (p .task) places k size (p .q) found → (done ++ take (r .written) out′) ++ l ≡ outputOf bytes
-    joined q′ l e = append-assoc done (take (r .written) out′) l ∙ ap (λ (x : List ℕ). done ++ x) e ∙ p .rest
-
-    go : (q′ : ℕ) (piece : Piece (p .task) (p .before) places k size (p .q) found out r work′ out′ q′) → (r .left ≡ 0) ⊎ ((p .q < q′) × (r .left ≡ suc (cellCount (hitCount (p .task)) - q′)))
+    go : (q′ : ℕ) (piece : Piece (p .task) (p .before) places k size (p .q) found out r work′ out′ q′)
+        → Done (p .task) places k size (p .q) found (length out) r (take (r .written) out′) q′ ⊎ Full (p .task) places k size (p .q) found (linesIn places k size (length out) found (finalsAfter (p .task) (p .q))) (length out) r (take (r .written) out′) q′
         → (r .left < left) × After bytes places work′ k size (r .found) (r .left) (done ++ take (r .written) out′)
-    go q′ piece (inl e) =
-        let bytes-are : take (r .written) out′ ++ unlessDone (r .left) (restOf (p .task) places k size q′ (r .found)) ≡ restOf (p .task) places k size (p .q) found = piece .bytes in
-        let none : take (r .written) out′ ++ [] ≡ restOf (p .task) places k size (p .q) found = rw e at bytes-are in
-        (omega (arith, p .remaining), inl (e, sym (append-nil (done ++ take (r .written) out′)) ∙ joined q′ [] none))
-    go q′ piece (inr e) =
-        let bytes-are : take (r .written) out′ ++ unlessDone (r .left) (restOf (p .task) places k size q′ (r .found)) ≡ restOf (p .task) places k size (p .q) found = piece .bytes in
-        let more : take (r .written) out′ ++ restOf (p .task) places k size q′ (r .found) ≡ restOf (p .task) places k size (p .q) found = rw (e .1) at bytes-are in
-        let further : p .q < q′ = e .0 in
+    go q′ piece (inl all) = (omega (arith, p .remaining, all .none-left), inl (all .none-left, ap (λ (x : List ℕ). done ++ x) (all .bytes) ∙ p .rest))
+    go q′ piece (inr full) =
+        let further : p .q < q′ = full .further (omega (arith, full .no-room)) in
         let within : q′ ≤ cellCount (hitCount (p .task)) = piece .among in (
-          omega (arith, p .remaining, e .1),
+          omega (arith, p .remaining, full .left-is),
           inr
               (record {
                 task = p .task;
@@ -129,10 +123,10 @@ fill-prints bytes places work k size found left done p out r work′ out′ long
                 accepts = p .accepts;
                 belongs = p .belongs;
                 among = within;
-                counted = piece .counted;
+                counted = piece .counted (p .counted);
                 words = piece .words;
-                remaining = e .1;
-                rest = joined q′ (restOf (p .task) places k size q′ (r .found)) more;
+                remaining = full .left-is;
+                rest = append-assoc done (take (r .written) out′) (restOf (p .task) places k size q′ (r .found)) ∙ ap (λ (x : List ℕ). done ++ x) (full .bytes) ∙ p .rest;
               }),
         )
 

@@ -3,15 +3,15 @@
 use Prim.Native.Nat.{ℕ, zero, suc, _+_, _-_, _≤_, _<_}
 use mathlib.Core.Path.{_≡_}
 use mathlib.Core.Logic.{_⊎_}
-use mathlib.Core.Bool.{Bool, true, cond, _||_}
+use mathlib.Core.Bool.{Bool, true, false, cond, _&&_, _||_}
 use mathlib.Core.List.{List, [], _∷_, _++_, map}
-use lib.Dec.{ltb}
+use lib.Dec.{leb, ltb}
 use lib.IntN.{ℤ}
 use lib.ListN.{length, getD, take, drop}
 use Rattle.counts.specs.Lists.{keep}
 use Rattle.mappings.specs.Limits.{hitLimit, workWords}
 use Rattle.mappings.specs.Score.{Task, lengthOf}
-use Rattle.mappings.specs.Cells.{Cell, Mapping, cellsOf, hitCount, cellCount, isFinalCell, mappingOf}
+use Rattle.mappings.specs.Cells.{Mapping, cellsOf, hitCount, cellCount, isFinalCell, mappingOf}
 use Rattle.mappings.specs.Rule.{reported, ruleAnswer}
 use Rattle.start.specs.WorkWords.{sessionWords}
 use Rattle.mapper.specs.Step.{tooFewWords, badWords}
@@ -45,20 +45,33 @@ pub record Holds (places : List ℕ) (k size a b : ℕ) : Type 0 where
   pub known : b < length places
   pub short : b - a < lenLimit
   pub pattern-small : size ≤ sizeLimit
-  pub some : 1 ≤ k
+  pub some : 1 ≤ getD places b 0 + k
   pub last-small : getD places b 0 + k ≤ wordLimit
+
+-- the same as a test, with what m asks
+unfoldable pub isHeld : List ℕ → ℕ → ℕ → ℕ → ℕ → ℕ → Bool
+isHeld places k size a b m =
+    leb a b
+    && ltb b (length places)
+    && ltb (b - a) lenLimit
+    && leb size sizeLimit
+    && leb 1 (getD places b 0 + k)
+    && leb (getD places b 0 + k) wordLimit
+    && leb m (lengthOf a b)
+    && leb m size
 
 -- what `end_of` answers: 0 where the line's numbers do not hold it
 pub record EndOf (places : List ℕ) (k size a b end : ℕ) : Type 0 where
-  pub inside : 0 < end → (a ≤ b) × (b < length places) × (b - a < lenLimit) × (size ≤ sizeLimit) × (end ≤ wordLimit)
+  pub inside : 0 < end → (a ≤ b) × (b < length places) × (b - a < lenLimit) × (size ≤ sizeLimit) × (end ≤ wordLimit) × (end ≡ getD places b 0 + k)
   pub held : Holds places k size a b → end ≡ getD places b 0 + k
 
--- what `put_mapping` leaves: the mapping's line, where there is room for any line and its numbers hold it
+-- what `put_mapping` leaves: the mapping's line where its numbers hold it, else nothing
 pub record MappingWritten (places : List ℕ) (k size a b : ℕ) (score : ℤ) (m at : ℕ) (before after : List ℕ) (next : ℕ) : Type 0 where
   pub inside : at ≤ length before → next ≤ length before
   pub onward : at ≤ next
   pub past : at ≤ length before → drop next after ≡ drop next before
   pub held : Holds places k size a b → m ≤ lengthOf a b → m ≤ size → at ≤ length before → Written (mappingLine places k size (record { a = a; b = b; score = score; m = m })) at before after next
+  pub none : isHeld places k size a b m ≡ false → (next ≡ at) × (after ≡ before)
 
 -- ---- what is left to print
 
@@ -70,11 +83,6 @@ finalsAfter task q = map (mappingOf task) (keep (isFinalCell task) (drop q (cell
 unfoldable pub restOf : Task → List ℕ → ℕ → ℕ → ℕ → ℕ → List ℕ
 restOf task places k size q found =
     mappingLines places k size (finalsAfter task q) ++ lastLine (found + length (finalsAfter task q)) (length (cellsOf task))
-
--- nothing, where 0 is left; else the rest
-abbrev pub unlessDone : ℕ → List ℕ → List ℕ
-unlessDone zero rest = []
-unlessDone (suc n) rest = rest
 
 -- the cells that remain in these work words and one more; 0 for words that step refuses for h or for the cells passed
 unfoldable pub cellsLeft : List ℕ → ℕ
@@ -95,12 +103,21 @@ pub record Belongs (task : Task) (places : List ℕ) (k size : ℕ) : Type 0 whe
 abbrev pub lineRoom : ℕ
 lineRoom = 64
 
--- how many of these mappings' lines go into so many bytes
-abbrev pub linesIn : List ℕ → ℕ → ℕ → ℕ → List Mapping → ℕ
-linesIn places k size room [] = 0
-linesIn places k size room (mapping ∷ rest) =
-    cond (ltb room lineRoom) 0
-    (suc (linesIn places k size (room - length (mappingLine places k size mapping)) rest))
+-- no session has more cells, and so mappings
+abbrev pub cellLimit : ℕ
+cellLimit = 2098176
+
+-- a mapping's line is written where there is room, if the count holds it and the line's numbers do
+unfoldable pub isPrinted : List ℕ → ℕ → ℕ → ℕ → Mapping → Bool
+isPrinted places k size found mapping = ltb found cellLimit && isHeld places k size (mapping .a) (mapping .b) (mapping .m)
+
+-- how many of these mappings' lines are written into so many bytes, `found` mappings being before them
+abbrev pub linesIn : List ℕ → ℕ → ℕ → ℕ → ℕ → List Mapping → ℕ
+linesIn places k size room found [] = 0
+linesIn places k size room found (mapping ∷ rest) =
+    cond (leb lineRoom room && isPrinted places k size found mapping)
+    (suc (linesIn places k size (room - length (mappingLine places k size mapping)) (found + 1) rest))
+    0
 
 -- the budget of each step: more cells than any session has
 abbrev pub stepBudget : ℕ
@@ -111,30 +128,41 @@ abbrev pub passedFor : Task → ℕ → ℕ → ℕ
 passedFor task q zero = q
 passedFor task q (suc n) = passedFor task (q + reported (ruleAnswer task q stepBudget)) n
 
--- a piece ends behind the last line, for which there was room, and then nothing is left
-pub record Done (task : Task) (room : ℕ) (r : Filled) (q′ : ℕ) : Type 0 where
+-- a piece ends behind the last line, for which there was room: then nothing is left
+pub record Done (task : Task) (places : List ℕ) (k size q found room : ℕ) (r : Filled) (printed : List ℕ) (q′ : ℕ) : Type 0 where
   pub none-left : r .left ≡ 0
-  pub all-passed : q′ ≡ cellCount (hitCount task)
   pub had-room : lineRoom + r .written ≤ room + length (lastLine (r .found) (cellCount (hitCount task)))
+  pub all-passed : q′ ≡ cellCount (hitCount task)
+  pub all-found : r .found ≡ found + length (finalsAfter task q)
+  pub bytes : printed ≡ restOf task places k size q found
 
--- or it ends for want of room, right behind the last mapping written; where it has any bytes, at least one cell was passed
-pub record Full (task : Task) (q lines room : ℕ) (r : Filled) (q′ : ℕ) : Type 0 where
-  pub place : q′ ≡ passedFor task q lines
+-- or for want of room, right behind the last mapping written; where it has any bytes, at least one cell was passed
+pub record Full (task : Task) (places : List ℕ) (k size q found lines room : ℕ) (r : Filled) (printed : List ℕ) (q′ : ℕ) : Type 0 where
   pub left-is : r .left ≡ suc (cellCount (hitCount task) - q′)
   pub no-room : room < lineRoom + r .written
+  pub place : q′ ≡ passedFor task q lines
   pub further : 0 < r .written → q < q′
+  pub bytes : printed ++ restOf task places k size q′ (r .found) ≡ restOf task places k size q found
+
+-- or behind a mapping whose line can't be written, which does not happen where all belongs to the session
+pub record Stuck (task : Task) (places : List ℕ) (k size q found lines room : ℕ) (r : Filled) (printed : List ℕ) (q′ : ℕ) : Type 0 where
+  pub none-left : r .left ≡ 0
+  pub had-room : lineRoom + r .written ≤ room
+  pub place : q′ ≡ passedFor task (passedFor task q lines) 1
+  pub unprinted : (mapping : Mapping) × (finalsAfter task (passedFor task q lines) ≡ mapping ∷ finalsAfter task q′) × (isPrinted places k size (r .found) mapping ≡ false)
+  pub counted : found ≤ q → r .found < q′
+  pub bytes : printed ++ restOf task places k size (passedFor task q lines) (r .found) ≡ restOf task places k size q found
 
 -- a piece of a session's output: from q cells and `found` mappings on, to q′ cells
 pub record Piece (task : Task) (before places : List ℕ) (k size q found : ℕ) (out : List ℕ) (r : Filled) (work′ out′ : List ℕ) (q′ : ℕ) : Type 0 where
   pub onward : q ≤ q′
   pub among : q′ ≤ cellCount (hitCount task)
-  pub counted : r .found ≤ q′
+  pub counted : found ≤ q → r .found ≤ q′
   pub words : work′ ≡ sessionWords task before q′
-  -- as many mappings more as lines fit, which are those among the cells passed
-  pub found-is : r .found ≡ found + linesIn places k size (length out) (finalsAfter task q)
-  pub tally : r .found + length (finalsAfter task q′) ≡ found + length (finalsAfter task q)
-  pub bytes : take (r .written) out′ ++ unlessDone (r .left) (restOf task places k size q′ (r .found)) ≡ restOf task places k size q found
-  pub ends : Done task (length out) r q′ ⊎ Full task q (linesIn places k size (length out) (finalsAfter task q)) (length out) r q′
+  pub found-is : r .found ≡ found + linesIn places k size (length out) found (finalsAfter task q)
+  pub ends : Done task places k size q found (length out) r (take (r .written) out′) q′
+      ⊎ (Full task places k size q found (linesIn places k size (length out) found (finalsAfter task q)) (length out) r (take (r .written) out′) q′
+      ⊎ Stuck task places k size q found (linesIn places k size (length out) found (finalsAfter task q)) (length out) r (take (r .written) out′) q′)
 
 -- ---- words that step refuses
 
@@ -150,13 +178,8 @@ pub record Unmoved (work : List ℕ) (found : ℕ) (out : List ℕ) (r : Filled)
   pub same-work : work′ ≡ work
   pub same-out : out′ ≡ out
 
--- the words of a session after q cells or more
-abbrev pub Later : Task → List ℕ → ℕ → List ℕ → Type 0
-Later task before q work = (q′ : ℕ) × (q ≤ q′) × (q′ ≤ cellCount (hitCount task)) × (work ≡ sessionWords task before q′)
-
--- what `fill` answers and leaves. Open is which bytes it writes for words that no start and steps made, as step's answer is, and how far it
--- comes with positions, k, a size or a count that do not belong to the session. All other bytes, and the words beyond the first 16,384,
--- keep their content in any case, and a session stays one
+-- what `fill` answers and leaves. For words that no start and steps made it is open which bytes it writes and what it answers, as step's
+-- answer is; all other bytes, and the words beyond the first 16,384, keep their content
 pub record Fills (work places : List ℕ) (k size found : ℕ) (out : List ℕ) (r : Filled) (work′ out′ : List ℕ) : Type 0 where
   pub inside : r .written ≤ length out′
   pub long : length out′ ≡ length out
@@ -164,6 +187,5 @@ pub record Fills (work places : List ℕ) (k size found : ℕ) (out : List ℕ) 
   pub number : length work′ ≡ length work
   pub beyond : drop workWords work′ ≡ drop workWords work
   pub refused : refusedWords work ≡ true → Unmoved work found out r work′ out′
-  pub later : (task : Task) (before : List ℕ) (q : ℕ) → Accepts task before → q ≤ cellCount (hitCount task) → work ≡ sessionWords task before q → Later task before q work′
-  pub session : (task : Task) (before : List ℕ) (q : ℕ) → Accepts task before → Belongs task places k size → q ≤ cellCount (hitCount task) → found ≤ q → work ≡ sessionWords task before q
+  pub session : (task : Task) (before : List ℕ) (q : ℕ) → Accepts task before → q ≤ cellCount (hitCount task) → work ≡ sessionWords task before q
       → (q′ : ℕ) × Piece task before places k size q found out r work′ out′ q′

@@ -5,11 +5,11 @@ use native.Mathlib.Omega.{arith}
 use mathlib.Core.Path.{_≡_, refl, subst}
 use mathlib.Core.Logic.{inl, inr}
 use mathlib.Core.List.{[], _∷_}
-use lib.ListN.{length, drop}
+use lib.ListN.{length}
 use types.Run.{OneOf}
 use denote.Enum.Declared.{tagOf}
 use Rattle.mapper.proofs.walk.Stepped.{the-type}
-use Rattle.report.proofs.Going.{Going, Other, going-start, going-found, found-further, found-few, fills-stopped, fills-finished, fills-other, fills-full}
+use Rattle.report.proofs.Going.{Going, Other, going-start, going-found, too-many, not-printed, unheld, fills-stopped, fills-finished, fills-other, fills-full}
 use Rattle.mapper.specs.declared.walk.Stepped.{Stepped}
 use Rattle.mapper.specs.declared.walk.Stepped.the-variants.{Found, Finished, Spent, TooFewWords, BadWords}
 use Rattle.mapper.specs.Promise.{StepPromise}
@@ -69,12 +69,6 @@ module _ (c : tie.After-slice-known4 Inv-loop μ-loop) where
   abbrev stepped : tie.After-slice-known3 Inv-loop μ-loop
   stepped = known .before .before
 
-  -- where the index did not move nothing was written behind it
-  unwritten : c .before .before .put-mapping .result ≤ at-loop stepped .loop .at → drop (at-loop stepped .loop .at) (c .before .before .put-mapping .last .0) ≡ drop (at-loop stepped .loop .at) (at-loop stepped .loop .out)
-  unwritten l =
-      let e : c .before .before .put-mapping .result ≡ at-loop stepped .loop .at = omega (arith, c .before .before .put-mapping .ensures .onward) in
-      subst (λ (n : ℕ). drop n (c .before .before .put-mapping .last .0) ≡ drop n (at-loop stepped .loop .out)) e (c .before .before .put-mapping .ensures .past (at-loop stepped .loop .inv .0))
-
 loop-holds : tie.Need-loop-holds Inv-loop μ-loop
 loop-holds c = (omega arith, refl, refl, going-start _ _ _ _ _ _)
 
@@ -100,8 +94,7 @@ returns : tie.Need-returns Inv-loop μ-loop
 returns c =
     let told = c .before .before in
     let at-turn = at-loop (told .before .before .before) in
-    fills-stopped _ _ _ _ _ _ _ _ _ _ (at-turn .loop .inv .0) (at-turn .loop .inv .2) (roomy (told .before .before .before)) (at-turn .loop .inv .3) (at-turn .loop .inv .1) (c .stopped .result) _ _ _ _ _ _ (promise (told .before .before .before) (told .before .a .given .1)) (c .stopped .ensures .0) _ refl refl
-    (λ task before q p. omega (arith, c .before .if1 .taken, found-few _ _ _ _ _ _ _ _ _ _ (at-turn .loop .inv .0) (at-turn .loop .inv .2) (roomy (told .before .before .before)) (at-turn .loop .inv .3) task before q p _ _ _ _ _ _ (promise (told .before .before .before) (told .before .a .given .1))))
+    fills-stopped _ _ _ _ _ _ _ _ _ _ (at-turn .loop .inv .0) (at-turn .loop .inv .2) (roomy (told .before .before .before)) (at-turn .loop .inv .3) (at-turn .loop .inv .1) (c .stopped .result) _ _ _ _ _ _ (promise (told .before .before .before) (told .before .a .given .1)) (too-many _ _ _ _ _ (c .before .if1 .taken)) _ refl (c .stopped .ensures .0) (c .stopped .ensures .1) (c .stopped .ensures .2)
 
 put-mapping-requires : tie.Need-put-mapping-requires Inv-loop μ-loop
 put-mapping-requires c κs = search needs
@@ -119,8 +112,8 @@ returns-2 : tie.Need-returns-2 Inv-loop μ-loop
 returns-2 c =
     let at = c .before .before in
     let at-turn = at-loop (stepped at) in
-    fills-stopped _ _ _ _ _ _ _ _ _ _ (at-turn .loop .inv .0) (at-turn .loop .inv .2) (roomy (stepped at)) (at-turn .loop .inv .3) (at-turn .loop .inv .1) (c .stopped2 .result) _ _ _ _ _ _ (promise (stepped at) (known at .a .given .1)) (c .stopped2 .ensures .0) _ (at .before .before .put-mapping .kept .0) (unwritten at (c .before .if2 .taken))
-    (λ task before q p. omega (arith, c .before .if2 .taken, found-further _ _ _ _ _ _ _ _ _ _ (at-turn .loop .inv .0) (at-turn .loop .inv .2) (roomy (stepped at)) (at-turn .loop .inv .3) task before q p _ _ _ _ _ _ (promise (stepped at) (known at .a .given .1)) _ _ (rw (toZ-ofZ (sfits-of (told at .known-told .given .1 .1 .0 .1))) at (at .before .before .put-mapping .ensures))))
+    let not-held = unheld _ _ _ _ _ _ _ _ _ _ (at-turn .loop .inv .0) (at-turn .loop .inv .2) (roomy (stepped at)) (at-turn .loop .inv .3) _ _ _ _ _ _ (at .before .before .put-mapping .ensures) (c .before .if2 .taken) in
+    fills-stopped _ _ _ _ _ _ _ _ _ _ (at-turn .loop .inv .0) (at-turn .loop .inv .2) (roomy (stepped at)) (at-turn .loop .inv .3) (at-turn .loop .inv .1) (c .stopped2 .result) _ _ _ _ _ _ (promise (stepped at) (known at .a .given .1)) (not-printed _ _ _ _ _ (at .before .before .before .before .if1 .left) not-held) _ (at .before .before .put-mapping .ensures .none not-held .1) (c .stopped2 .ensures .0) (c .stopped2 .ensures .1) (c .stopped2 .ensures .2)
 
 add-count : tie.Need-add-count Inv-loop μ-loop
 add-count c = search needs
@@ -135,7 +128,7 @@ loop-again c =
       omega (arith, at .before .before .put-mapping .ensures .inside (at-turn .loop .inv .0), at .before .before .put-mapping .kept .0),
       omega (arith, at-step (stepped at) .step .kept .0, at-turn .loop .inv .1),
       omega (arith, at .before .before .put-mapping .kept .0, at-turn .loop .inv .2),
-      going-found _ _ _ _ _ _ _ _ _ _ (at-turn .loop .inv .0) (at-turn .loop .inv .2) (roomy (stepped at)) (at-turn .loop .inv .3) _ _ _ _ _ _ _ _ (promise (stepped at) (known at .a .given .1)) (rw (toZ-ofZ (sfits-of (told at .known-told .given .1 .1 .0 .1))) at (at .before .before .put-mapping .ensures)),
+      going-found _ _ _ _ _ _ _ _ _ _ (at-turn .loop .inv .0) (at-turn .loop .inv .2) (roomy (stepped at)) (at-turn .loop .inv .3) _ _ _ _ _ _ _ _ (promise (stepped at) (known at .a .given .1)) (rw (toZ-ofZ (sfits-of (told at .known-told .given .1 .1 .0 .1))) at (at .before .before .put-mapping .ensures)) (at .before .before .before .before .if1 .left) (c .if2 .left),
     )
 
 enum-told : tie.Need-enum-told Inv-loop μ-loop

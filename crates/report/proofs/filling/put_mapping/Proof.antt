@@ -4,6 +4,7 @@ use Prim.Native.Nat.{ℕ, _+_, _-_, _≤_, _<_}
 use native.Mathlib.Nat.{le-refl}
 use native.Mathlib.Omega.{arith}
 use mathlib.Core.Path.{_≡_, refl, sym, ap, _∙_, subst}
+use mathlib.Core.Bool.{false≢true}
 use mathlib.Core.List.{List}
 use lib.IntN.{pos}
 use lib.ListN.{length, getD, take, drop}
@@ -13,7 +14,7 @@ use mir.Facts.{toZ-ofZ}
 use Rattle.mappings.specs.Score.{lengthOf}
 use Rattle.listing.specs.PerMille.{perMille}
 use Rattle.listing.specs.Writing.{LineWritten}
-use Rattle.report.proofs.Mapping.{not-held, last-is, per-mille-is, not-below, cast-fits, abs-is, line-is}
+use Rattle.report.proofs.Mapping.{held-true, not-held, holds-of, last-is, per-mille-back, per-mille-is, not-below, cast-fits, abs-is, line-is}
 use Rattle.listing.proofs.Buffers.{same-bytes}
 use Rattle.report.proofs.Writers.{part-written, written-inside, written-onward, written-past}
 use borrow.Author.Needs.{needs, sfits-of}
@@ -37,7 +38,7 @@ module _ (c : tie.After-end-of) where
   abbrev to : ℕ
   to = c .before .wide2 .result
 
-  bounds : 1 ≤ c .end-of .result → (from ≤ to) × (to < length (start .args .positions .now)) × (to - from < lenLimit) × (start .args .size ≤ sizeLimit) × (c .end-of .result ≤ wordLimit)
+  bounds : 1 ≤ c .end-of .result → (from ≤ to) × (to < length (start .args .positions .now)) × (to - from < lenLimit) × (start .args .size ≤ sizeLimit) × (c .end-of .result ≤ wordLimit) × (c .end-of .result ≡ getD (start .args .positions .now) to 0 + start .args .k)
   bounds l = c .end-of .ensures .inside (omega arith)
 
 -- the answer of per mille
@@ -64,11 +65,11 @@ end-of-requires c κs = search needs
 
 -- src/filling.rt:109:9
 returns : tie.Need-returns
-returns c = let e = c .before in record { inside = λ h. h; onward = le-refl _; past = λ h. refl; held = λ h l s i. absurd (not-held (start e .args .positions .now) (start e .args .k) (start e .args .size) (start e .args .a) (start e .args .b) (from e) (to e) (e .end-of .result) (e .before .before .wide .ensures .0) (e .before .wide2 .ensures .0) (e .end-of .ensures) (c .if1 .taken) h) }
+returns c = let e = c .before in record { inside = λ h. h; onward = le-refl _; past = λ h. refl; none = λ e. (refl, refl); held = λ h l s i. absurd (not-held (start e .args .positions .now) (start e .args .k) (start e .args .size) (start e .args .a) (start e .args .b) (from e) (to e) (e .end-of .result) (e .before .before .wide .ensures .0) (e .before .wide2 .ensures .0) (e .end-of .ensures) (c .if1 .taken) h) }
 
 -- src/filling.rt:112:9
 returns-2 : tie.Need-returns-2
-returns-2 c = record { inside = λ h. h; onward = le-refl _; past = λ h. refl; held = λ h l s i. absurd (omega (arith, c .if2 .taken)) }
+returns-2 c = record { inside = λ h. h; onward = le-refl _; past = λ h. refl; none = λ e. (refl, refl); held = λ h l s i. absurd (omega (arith, c .if2 .taken)) }
 
 -- src/filling.rt:114:46
 sub-huddlewool-per-mille : tie.Need-sub-huddlewool-per-mille
@@ -92,7 +93,7 @@ huddlewool-per-mille-requires c κs = search needs
 
 -- src/filling.rt:116:9
 returns-3 : tie.Need-returns-3
-returns-3 c = let at = c .before in record { inside = λ h. h; onward = le-refl _; past = λ h. refl; held = λ h l s i. absurd (not-below (at .huddlewool-per-mille .result) (sfits-of (at .huddlewool-per-mille .ok)) _ (per-mille-known at h l s) (c .if3 .taken)) }
+returns-3 c = let at = c .before in record { inside = λ h. h; onward = le-refl _; past = λ h. refl; none = λ e. (refl, refl); held = λ h l s i. absurd (not-below (at .huddlewool-per-mille .result) (sfits-of (at .huddlewool-per-mille .ok)) _ (per-mille-known at h l s) (c .if3 .taken)) }
 
 -- src/filling.rt:118:17
 mul-first : tie.Need-mul-first
@@ -142,6 +143,10 @@ returns-4 c = let at-line = c .before .before in let at-else = at-line .before .
       inside = λ h. written-inside wrote h;
       onward = written-onward wrote;
       past = λ h. written-past wrote h;
+      none = λ t.
+          let h = holds-of (start e .args .positions .now) (start e .args .k) (start e .args .size) (start e .args .a) (start e .args .b) (from e) (to e) (e .end-of .result) (e .before .before .wide .ensures .0) (e .before .wide2 .ensures .0) (e .end-of .ensures) (at-else .before .before .before .if1 .left) in
+          let s = per-mille-back (at-else .before .huddlewool-per-mille .result) (sfits-of (at-else .before .huddlewool-per-mille .ok)) (start e .args .m) (start e .args .a) (start e .args .b) (from e) (to e) (start e .args .size) (e .before .before .wide .ensures .0) (e .before .wide2 .ensures .0) (h .ordered) (at-else .before .huddlewool-per-mille .ensures) (at-else .if3 .left) in
+          absurd (false≢true (sym t ∙ held-true (start e .args .positions .now) (start e .args .k) (start e .args .size) (start e .args .a) (start e .args .b) (start e .args .m) h (s .0) (s .1)));
       held = λ h l s i.
           same-bytes
           (line-is (start e .args .positions .now) (start e .args .k) (start e .args .size) (start e .args .a) (start e .args .b) (start e .args .score) _ (start e .args .m) _ _ _
