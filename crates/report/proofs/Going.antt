@@ -3,8 +3,8 @@
 use Prim.Native.Nat.{ℕ, suc, _+_, _-_, _≤_, _<_}
 use native.Mathlib.Nat.{le-refl, sub-zero}
 use native.Mathlib.Omega.{arith}
-use mathlib.Core.Path.{_≡_, refl, sym, ap, ap₂, _∙_, subst}
-use mathlib.Core.Logic.{_⊎_, inl, inr}
+use mathlib.Core.Path.{_≡_, refl, sym, ap, ap₂, _∙_}
+use mathlib.Core.Logic.{inl, inr}
 use mathlib.Core.Bool.{Bool, true, false}
 use mathlib.Core.List.{List, [], _∷_, _++_, append-assoc}
 use lib.IntN.{ℤ}
@@ -12,7 +12,7 @@ use lib.ListN.{length, getD, take, drop, length-append}
 use borrow.Author.Tests.{le-ltb, lt-ltb, le-leb, lt-leb}
 use Rattle.mappings.specs.Limits.{workWords}
 use Rattle.mappings.specs.Score.{Task}
-use Rattle.mappings.specs.Cells.{Mapping, hitCount, cellCount}
+use Rattle.mappings.specs.Cells.{Mapping, hitCount}
 use Rattle.mappings.specs.Rule.{Answer, found, finished, refused, reported, ruleAnswer}
 use Rattle.mappings.proofs.Rule.{total}
 use Rattle.start.specs.WorkWords.{sessionWords}
@@ -136,7 +136,7 @@ printed places k size count mapping h e = rw (lt-ltb count 2098176 h, e)
 fills : (work₀ places : List ℕ) (k size found₀ : ℕ) (out₀ out work : List ℕ) (at count : ℕ) → Going work₀ places k size found₀ out₀ out work at count → length out ≡ length out₀ → length work ≡ length work₀ → (r : Filled) (work′ out′ : List ℕ)
     → length work′ ≡ length work → drop workWords work′ ≡ drop workWords work → length out′ ≡ length out → at ≤ r .written → r .written ≤ length out → drop (r .written) out′ ≡ drop (r .written) out
     → (refusedWords work₀ ≡ true → Unmoved work₀ found₀ out₀ r work′ out′)
-    → ((task : Task) (before : List ℕ) (q₀ : ℕ) → InPiece task before work₀ q₀ → (q′ : ℕ) × Piece task before places k size q₀ found₀ out₀ r work′ out′ q′)
+    → ((task : Task) (before : List ℕ) (q₀ : ℕ) → InPiece task before work₀ q₀ → (q′ : ℕ) × Piece task places k size q₀ found₀ out₀ r out′ q′ before work′)
     → Fills work₀ places k size found₀ out₀ r work′ out′
 fills work₀ places k size found₀ out₀ out work at count going same-out same-work r work′ out′ number beyond long onward inside past unmoved piece = record {
   inside = omega arith;
@@ -258,12 +258,10 @@ module _ (work₀ places : List ℕ) (k size found₀ : ℕ) (out₀ out work : 
         )
 
       -- the line is not written
-      stuck-piece : isPrinted places k size count mapping ≡ false → (out′ : List ℕ) → out′ ≡ out → (r : Filled) → r .written ≡ at → r .found ≡ count → r .left ≡ 0 → (q′ : ℕ) × Piece task before places k size q₀ found₀ out₀ r work′ out′ q′
+      stuck-piece : isPrinted places k size count mapping ≡ false → (out′ : List ℕ) → out′ ≡ out → (r : Filled) → r .written ≡ at → r .found ≡ count → r .left ≡ 0 → (q′ : ℕ) × Piece task places k size q₀ found₀ out₀ r out′ q′ before work′
       stuck-piece unprinted out′ eo r ew ef el =
-          let lines₀ : ℕ = linesIn places k size (length out₀) found₀ (finalsAfter task q₀) in
           let none-more : linesIn places k size (length out₀ - at) count (finalsAfter task q) ≡ 0 =
           ap (linesIn places k size (length out₀ - at) count) finals ∙ lines-stuck places k size (length out₀ - at) count mapping (finalsAfter task (q + cells)) (omega arith) unprinted in
-          let here : q ≡ passedFor task q₀ lines₀ = sym (ap (passedFor task q) none-more) ∙ on .place in
           let w = within in (
             q + cells,
             record {
@@ -278,10 +276,14 @@ module _ (work₀ places : List ℕ) (k size found₀ : ℕ) (out₀ out work : 
                   (record {
                     none-left = el;
                     had-room = omega arith;
-                    place = ap (λ (x : Answer). q + reported x) (sym rule) ∙ ap (λ (x : ℕ). passedFor task x 1) here;
-                    unprinted = (mapping, ap (finalsAfter task) (sym here) ∙ finals, rw ef unprinted);
+                    from = q;
+                    from-is = sym (ap (passedFor task q) none-more) ∙ on .place;
+                    place = ap (λ (x : Answer). q + reported x) (sym rule);
+                    mapping = mapping;
+                    next = finals;
+                    unprinted = rw ef unprinted;
                     counted = λ h. let c = on .counted h in omega arith;
-                    bytes = rw (ew, ef, eo) (ap (λ (x : ℕ). take at out ++ restOf task places k size x count) (sym here) ∙ on .bytes);
+                    bytes = rw (ew, ef, eo) (on .bytes);
                   }));
             },
           )
@@ -298,7 +300,7 @@ module _ (work₀ places : List ℕ) (k size found₀ : ℕ) (out₀ out work : 
           ∙ ap (λ (x : List ℕ). take at out ++ x) (sym (rest-finished task places k size q count (f .0)))
           ∙ on .bytes
 
-      finished-piece : (r : Filled) → r .written ≡ next → r .found ≡ count → r .left ≡ 0 → (q′ : ℕ) × Piece task before places k size q₀ found₀ out₀ r work′ out′ q′
+      finished-piece : (r : Filled) → r .written ≡ next → r .found ≡ count → r .left ≡ 0 → (q′ : ℕ) × Piece task places k size q₀ found₀ out₀ r out′ q′ before work′
       finished-piece r ew ef el =
           let f = finished-next task q stepBudget (on .among) cells (ruled (Finished cells) work′ promise .0) in
           let words : work′ ≡ sessionWords task before (q + cells) = ruled (Finished cells) work′ promise .1 in
@@ -394,7 +396,7 @@ session-left task before q work a l e =
     rw (s .held .held .h-word, s .held .passed-word, le-ltb (length work) 16384 (s .number), le-ltb 2048 (hitCount task) (s .limits .few-hits), le-ltb (total task) q l)
 
 module _ (work₀ places : List ℕ) (k size found₀ : ℕ) (out₀ out work : List ℕ) (at count : ℕ) (going : Going work₀ places k size found₀ out₀ out work at count) (none : length out - at < 64) (same : length out ≡ length out₀) (r : Filled) (ew : r .written ≡ at) (ef : r .found ≡ count) (el : r .left ≡ cellsLeft work) where
-  full-piece : (task : Task) (before : List ℕ) (q₀ : ℕ) → InPiece task before work₀ q₀ → (q′ : ℕ) × Piece task before places k size q₀ found₀ out₀ r work out q′
+  full-piece : (task : Task) (before : List ℕ) (q₀ : ℕ) → InPiece task before work₀ q₀ → (q′ : ℕ) × Piece task places k size q₀ found₀ out₀ r out q′ before work
   full-piece task before q₀ p =
       let q = going .on task before q₀ p .0 in
       let on = going .on task before q₀ p .1 in

@@ -4,7 +4,7 @@ use Prim.Native.Nat.{ℕ, zero, suc, _+_, _-_, _≤_, _<_, zero-le}
 use native.Mathlib.Omega.{arith}
 use mathlib.Core.Path.{_≡_, refl, sym, ap, _∙_, subst}
 use mathlib.Core.Logic.{_⊎_, inl, inr}
-use mathlib.Core.List.{List, [], _∷_, _++_, append-assoc, append-nil}
+use mathlib.Core.List.{List, _++_, append-assoc}
 use lib.ListN.{length, take, length-append}
 use Rattle.counts.specs.Replies.{Reply, accepted, refused, over}
 use Rattle.sketch.specs.Kmers.{positions}
@@ -23,7 +23,7 @@ use Rattle.opening.specs.Opening.{openedBy, openedOf, positionsAfter, workAfter
 use Rattle.opening.specs.declared.opening.Opened.{Opened}
 use Rattle.opening.specs.declared.opening.Opened.the-variants.{Malformed, Refused, Session}
 use Rattle.report.specs.Output.{headerLine, malformedLine, refusedLine, unlessRefused, listOf, printed, printedFor, outputOf}
-use Rattle.report.specs.Pieces.{restOf, finalsAfter, linesIn, Done, Full, Piece, Fills}
+use Rattle.report.specs.Pieces.{restOf, Done, Full, Piece, Fills}
 use Rattle.report.specs.Beginning.{firstLine, leftOf, BeginsWith, Begins}
 use Rattle.report.specs.Whole.{Printing}
 use Rattle.report.specs.declared.beginning.Begun.{Begun}
@@ -107,8 +107,8 @@ fill-prints bytes places work k size found left done p out r work′ out′ long
     let s = f .session (p .task) (p .before) (p .q) (p .accepts) (p .among) (p .words) in
     go (s .0) (s .1) (belonging (p .task) (p .before) places k size (p .q) found (p .accepts) (p .belongs) (p .counted) (s .1))
   where
-    go : (q′ : ℕ) (piece : Piece (p .task) (p .before) places k size (p .q) found out r work′ out′ q′)
-        → Done (p .task) places k size (p .q) found (length out) r (take (r .written) out′) q′ ⊎ Full (p .task) places k size (p .q) found (linesIn places k size (length out) found (finalsAfter (p .task) (p .q))) (length out) r (take (r .written) out′) q′
+    go : (q′ : ℕ) (piece : Piece (p .task) places k size (p .q) found out r out′ q′ (p .before) work′)
+        → Done (p .task) places k size (p .q) found out r out′ q′ ⊎ Full (p .task) places k size (p .q) found out r out′ q′
         → (r .left < left) × After bytes places work′ k size (r .found) (r .left) (done ++ take (r .written) out′)
     go q′ piece (inl all) = (omega (arith, p .remaining, all .none-left), inl (all .none-left, ap (λ (x : List ℕ). done ++ x) (all .bytes) ∙ p .rest))
     go q′ piece (inr full) =

@@ -128,41 +128,48 @@ abbrev pub passedFor : Task → ℕ → ℕ → ℕ
 passedFor task q zero = q
 passedFor task q (suc n) = passedFor task (q + reported (ruleAnswer task q stepBudget)) n
 
--- a piece ends behind the last line, for which there was room: then nothing is left
-pub record Done (task : Task) (places : List ℕ) (k size q found room : ℕ) (r : Filled) (printed : List ℕ) (q′ : ℕ) : Type 0 where
-  pub none-left : r .left ≡ 0
-  pub had-room : lineRoom + r .written ≤ room + length (lastLine (r .found) (cellCount (hitCount task)))
-  pub all-passed : q′ ≡ cellCount (hitCount task)
-  pub all-found : r .found ≡ found + length (finalsAfter task q)
-  pub bytes : printed ≡ restOf task places k size q found
-
--- or for want of room, right behind the last mapping written; where it has any bytes, at least one cell was passed
-pub record Full (task : Task) (places : List ℕ) (k size q found lines room : ℕ) (r : Filled) (printed : List ℕ) (q′ : ℕ) : Type 0 where
-  pub left-is : r .left ≡ suc (cellCount (hitCount task) - q′)
-  pub no-room : room < lineRoom + r .written
-  pub place : q′ ≡ passedFor task q lines
-  pub further : 0 < r .written → q < q′
-  pub bytes : printed ++ restOf task places k size q′ (r .found) ≡ restOf task places k size q found
-
--- or behind a mapping whose line can't be written, which does not happen where all belongs to the session
-pub record Stuck (task : Task) (places : List ℕ) (k size q found lines room : ℕ) (r : Filled) (printed : List ℕ) (q′ : ℕ) : Type 0 where
-  pub none-left : r .left ≡ 0
-  pub had-room : lineRoom + r .written ≤ room
-  pub place : q′ ≡ passedFor task (passedFor task q lines) 1
-  pub unprinted : (mapping : Mapping) × (finalsAfter task (passedFor task q lines) ≡ mapping ∷ finalsAfter task q′) × (isPrinted places k size (r .found) mapping ≡ false)
-  pub counted : found ≤ q → r .found < q′
-  pub bytes : printed ++ restOf task places k size (passedFor task q lines) (r .found) ≡ restOf task places k size q found
+-- the cells passed with the last line that is written into so many bytes
+abbrev pub placeIn : Task → List ℕ → ℕ → ℕ → ℕ → ℕ → ℕ → ℕ
+placeIn task places k size room found q = passedFor task q (linesIn places k size room found (finalsAfter task q))
 
 -- a piece of a session's output: from q cells and `found` mappings on, to q′ cells
-pub record Piece (task : Task) (before places : List ℕ) (k size q found : ℕ) (out : List ℕ) (r : Filled) (work′ out′ : List ℕ) (q′ : ℕ) : Type 0 where
-  pub onward : q ≤ q′
-  pub among : q′ ≤ cellCount (hitCount task)
-  pub counted : found ≤ q → r .found ≤ q′
-  pub words : work′ ≡ sessionWords task before q′
-  pub found-is : r .found ≡ found + linesIn places k size (length out) found (finalsAfter task q)
-  pub ends : Done task places k size q found (length out) r (take (r .written) out′) q′
-      ⊎ (Full task places k size q found (linesIn places k size (length out) found (finalsAfter task q)) (length out) r (take (r .written) out′) q′
-      ⊎ Stuck task places k size q found (linesIn places k size (length out) found (finalsAfter task q)) (length out) r (take (r .written) out′) q′)
+module _ (task : Task) (places : List ℕ) (k size q found : ℕ) (out : List ℕ) (r : Filled) (out′ : List ℕ) (q′ : ℕ) where
+  -- it ends behind the last line, for which there was room: then nothing is left
+  pub record Done : Type 0 where
+    pub none-left : r .left ≡ 0
+    pub had-room : lineRoom + r .written ≤ length out + length (lastLine (r .found) (cellCount (hitCount task)))
+    pub all-passed : q′ ≡ cellCount (hitCount task)
+    pub all-found : r .found ≡ found + length (finalsAfter task q)
+    pub bytes : take (r .written) out′ ≡ restOf task places k size q found
+
+  -- or for want of room, right behind the last mapping written; where it has any bytes, at least one cell was passed
+  pub record Full : Type 0 where
+    pub left-is : r .left ≡ suc (cellCount (hitCount task) - q′)
+    pub no-room : length out < lineRoom + r .written
+    pub place : q′ ≡ placeIn task places k size (length out) found q
+    pub further : 0 < r .written → q < q′
+    pub bytes : take (r .written) out′ ++ restOf task places k size q′ (r .found) ≡ restOf task places k size q found
+
+  -- or behind a mapping whose line can't be written, which does not happen where all belongs to the session
+  pub record Stuck : Type 0 where
+    pub none-left : r .left ≡ 0
+    pub had-room : lineRoom + r .written ≤ length out
+    pub from : ℕ
+    pub from-is : from ≡ placeIn task places k size (length out) found q
+    pub place : q′ ≡ passedFor task from 1
+    pub mapping : Mapping
+    pub next : finalsAfter task from ≡ mapping ∷ finalsAfter task q′
+    pub unprinted : isPrinted places k size (r .found) mapping ≡ false
+    pub counted : found ≤ q → r .found < q′
+    pub bytes : take (r .written) out′ ++ restOf task places k size from (r .found) ≡ restOf task places k size q found
+
+  pub record Piece (before work′ : List ℕ) : Type 0 where
+    pub onward : q ≤ q′
+    pub among : q′ ≤ cellCount (hitCount task)
+    pub counted : found ≤ q → r .found ≤ q′
+    pub words : work′ ≡ sessionWords task before q′
+    pub found-is : r .found ≡ found + linesIn places k size (length out) found (finalsAfter task q)
+    pub ends : Done ⊎ (Full ⊎ Stuck)
 
 -- ---- words that step refuses
 
@@ -188,4 +195,4 @@ pub record Fills (work places : List ℕ) (k size found : ℕ) (out : List ℕ) 
   pub beyond : drop workWords work′ ≡ drop workWords work
   pub refused : refusedWords work ≡ true → Unmoved work found out r work′ out′
   pub session : (task : Task) (before : List ℕ) (q : ℕ) → Accepts task before → q ≤ cellCount (hitCount task) → work ≡ sessionWords task before q
-      → (q′ : ℕ) × Piece task before places k size q found out r work′ out′ q′
+      → (q′ : ℕ) × Piece task places k size q found out r out′ q′ before work′

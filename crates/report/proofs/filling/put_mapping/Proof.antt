@@ -3,17 +3,15 @@
 use Prim.Native.Nat.{ℕ, _+_, _-_, _≤_, _<_}
 use native.Mathlib.Nat.{le-refl}
 use native.Mathlib.Omega.{arith}
-use mathlib.Core.Path.{_≡_, refl, sym, ap, _∙_, subst}
+use mathlib.Core.Path.{_≡_, refl, sym, ap, _∙_}
 use mathlib.Core.Bool.{false≢true}
-use mathlib.Core.List.{List}
 use lib.IntN.{pos}
-use lib.ListN.{length, getD, take, drop}
+use lib.ListN.{length, getD}
 use Rattle.listing.specs.Limits.{lenLimit, sizeLimit, wordLimit}
-use Rattle.report.specs.Pieces.{Holds, EndOf, mappingLine}
+use Rattle.report.specs.Pieces.{Holds}
 use mir.Facts.{toZ-ofZ}
 use Rattle.mappings.specs.Score.{lengthOf}
 use Rattle.listing.specs.PerMille.{perMille}
-use Rattle.listing.specs.Writing.{LineWritten}
 use Rattle.report.proofs.Mapping.{held-true, not-held, holds-of, last-is, per-mille-back, per-mille-is, not-below, cast-fits, abs-is, line-is}
 use Rattle.listing.proofs.Buffers.{same-bytes}
 use Rattle.report.proofs.Writers.{part-written, written-inside, written-onward, written-past}
