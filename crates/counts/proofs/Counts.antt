@@ -37,10 +37,6 @@ occ-le-length x (y ∷ ys) =
     let b : bit (eqb x y) ≤ 1 = bit-le-one (eqb x y) in
     omega arith
 
--- counting from an index on, one word further
-pub occ-drop-suc : (x i : ℕ) (l : List ℕ) → i < length l → occ x (drop i l) ≡ bit (eqb x (getD l i 0)) + occ x (drop (suc i) l)
-occ-drop-suc x i l h = ap (occ x) (drop-cons l i 0 h)
-
 -- counting up to an index, one word further
 pub occ-take-suc : (x i : ℕ) (l : List ℕ) → i < length l → occ x (take (suc i) l) ≡ occ x (take i l) + bit (eqb x (getD l i 0))
 occ-take-suc x i l h =

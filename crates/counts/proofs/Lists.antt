@@ -100,13 +100,6 @@ module _ {A : Type 0} (f : A → Bool) where
   any-mem {a} {l = x ∷ xs} (List·Memᴰ·head e) p = or-left (any f xs) (ap f (sym e) ∙ p)
   any-mem {a} {l = x ∷ xs} (List·Memᴰ·tail m) p = or-right (f x) (any-mem m p)
 
-  pub any-none : {l : List A} → any f l ≡ false → {a : A} → List·Memᴰ a l → f a ≡ false
-  any-none {l} h {a} m = go (f a) refl
-    where
-      go : (b : Bool) → f a ≡ b → f a ≡ false
-      go true e = absurd (true≢false (sym (any-mem m e) ∙ h))
-      go false e = e
-
   pub any-some : (l : List A) → any f l ≡ true → (a : A) × List·Memᴰ a l × (f a ≡ true)
   any-some [] h = absurd (false≢true h)
   any-some (x ∷ xs) h = go (any-some xs) (or-either (f x) (any f xs) h)

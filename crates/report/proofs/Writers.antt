@@ -26,9 +26,6 @@ module _ {bytes : List ℕ} {at : ℕ} {old new : List ℕ} {next : ℕ} (w : Wr
   pub written-inside : next ≤ length old
   written-inside = let e : next ≡ at + length (fitting (length old - at) bytes) = w .index in let l = fitting-short (length old - at) bytes in omega arith
 
-  pub written-same : length new ≡ length old
-  written-same = let l = fitting-short (length old - at) bytes in ap length (w .buffer) ∙ length-overFrom at old (fitting (length old - at) bytes) (omega arith)
-
 -- the first bytes of a buffer after a writer with room for its bytes
 pub take-written : {bytes : List ℕ} {at : ℕ} {old new : List ℕ} {next : ℕ} → Written bytes at old new next → at + length bytes ≤ length old → take next new ≡ take at old ++ bytes
 unfolding overFrom
