@@ -30,6 +30,11 @@ settled-within work columns row m = go (ltb row columns)
     go true = (le-refl columns, le-refl row)
     go false = (omega arith, zero-le)
 
+-- the base of a column's score words stays within its limit
+pub base-within : (terms : Terms) (work : List ℕ) (j : ℕ) → lineOf work terms j .base ≤ 17594333528064
+unfolding lineOf
+base-within terms work j = omega arith
+
 -- ---- a walk unrolled by one column
 
 suc-pred : (n : ℕ) → 0 < n → n ≡ suc (n - 1)
@@ -60,6 +65,7 @@ pub record ColumnPassed (terms : Terms) (columns row m left : ℕ) (work : List 
   pub within : answer .row ≤ columns
   pub spends : answer .row - row ≤ left
   pub moved : answer .found ≡ true → suc row ≤ answer .row
+  pub whole : answer .found ≡ false → answer .row ≡ row + min left (columns - row)
   pub size : length part ≡ length (partOf work)
 
 module _ (terms : Terms) (columns row m left : ℕ) (work : List ℕ) (line : Line) (n : ℕ) (answer : Passed) (part : List ℕ) where
@@ -76,6 +82,7 @@ module _ (terms : Terms) (columns row m left : ℕ) (work : List ℕ) (line : Li
     within = omega (arith, b .to, k);
     spends = omega (arith, b .to, k);
     moved = b .moved;
+    whole = λ f. rw (← k) (b .whole f);
     size = b .size;
   }
     where
@@ -92,3 +99,19 @@ module _ (terms : Terms) (columns row m left : ℕ) (work : List ℕ) (line : Li
 
       b : Bounded row n (take 6144 (drop 4096 work)) (record { answer = answer; part = part })
       b = subst (Bounded row n (take 6144 (drop 4096 work))) (sym same) (bounded line n row m (seenBefore (take 6144 (drop 4096 work)) row) (take 6144 (drop 4096 work)))
+
+-- ---- the walk of one cell, in a column that has a further row
+
+module _ (terms : Terms) (columns row m : ℕ) (work : List ℕ) (answer : Passed) (part : List ℕ) (h : row + 1 < columns) (p : ColumnPassed terms columns row m 1 work answer part) where
+  some : _≢_ {A = ℕ} 1 0
+  some e = omega arith
+
+  pub one-found : answer .found ≡ true → walkOn terms 1 columns row m 1 work ≡ foundWalk (withPart work part) columns answer 1
+  one-found f =
+      let one : 1 - (1 - (answer .row - row)) ≡ 1 = omega (arith, p .moved f) in
+      rw one at (walk-found terms 1 columns row m 1 work (omega arith) some (record { answer = answer; part = part }) (p .update) f)
+
+  pub one-spent : answer .found ≡ false → walkOn terms 1 columns row m 1 work ≡ spentWalk (withPart work part) (record { columns = columns; row = answer .row; m = answer .m }) 1
+  one-spent f =
+      let one : 1 - (1 - (answer .row - row)) ≡ 1 = omega (arith, p .whole f) in
+      rw one at (walk-part terms 1 columns row m 1 work (omega arith) some (record { answer = answer; part = part }) (p .update) f (omega (arith, p .spends)))

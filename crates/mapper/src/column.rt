@@ -6,7 +6,7 @@ use crate::score::score_word;
 use start::words::BEST;
 use start::words::REACH;
 ghost use mathlib.Core.Path.{_≡_};
-ghost use Prim.Native.Nat.{ℕ, _-_, _≤_};
+ghost use Prim.Native.Nat.{ℕ, _-_, _≤_, _<_};
 ghost use lib.ListN.{length};
 ghost use Rattle.mapper.specs.Passing.{seenBefore, finalTest, passRows};
 
@@ -86,6 +86,44 @@ pub fn pass(part: &mut [u32], line: Line, from: usize, to: usize, m0: u32) -> Pa
         found: false,
         row: i,
         m,
+        score: 0,
+    }
+}
+
+// Passes the one cell of this row, whose m is this. No loop, and the threshold first: steps of one cell pass here.
+pub fn pass_one(part: &mut [u32], line: Line, row: usize, m: u32) -> Passed
+    requires { ⌜ (length (now part) ≡ 6144) × (row < 2048) ⌝ }
+    requires { ⌜ (line .gain ≤ 3000) × (line .v ≤ 1000) × (line .base ≤ 17594333528064) ⌝ }
+    ensures { λ r. ⌜ r ≡ passRows line 1 row m (seenBefore (now (part .entry)) row) (now (part .entry)) .answer ⌝ }
+    ensures { λ r. ⌜ now (part .exit) ≡ passRows line 1 row m (seenBefore (now (part .entry)) row) (now (part .entry)) .part ⌝ }
+{
+    let before = best_before(part, row);
+    let s = score_word(line.gain, m, line.v, part[row], line.base);
+    let one = below(line.column, part[REACH + row]);
+    let best = greater(before, greater(part[BEST + row], s));
+    part[BEST + row] = best;
+    let next = row + 1;
+    let rest = lowered(m, one);
+    if s < line.threshold {
+        return Passed {
+            found: false,
+            row: next,
+            m: rest,
+            score: 0,
+        };
+    }
+    if is_final(line.threshold, s, best, one, line.back, row) {
+        return Passed {
+            found: true,
+            row: next,
+            m,
+            score: s,
+        };
+    }
+    Passed {
+        found: false,
+        row: next,
+        m: rest,
         score: 0,
     }
 }

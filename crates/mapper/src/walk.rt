@@ -2,6 +2,7 @@
 use crate::column::Line;
 use crate::column::Passed;
 use crate::column::pass;
+use crate::column::pass_one;
 use crate::place::Place;
 use crate::place::save;
 use crate::place::settled;
@@ -14,7 +15,7 @@ use start::words::PART_END;
 use start::words::wide;
 use start::words::wider;
 ghost use mathlib.Core.Path.{_≡_};
-ghost use Prim.Native.Nat.{ℕ, _≤_, _<_, min};
+ghost use Prim.Native.Nat.{ℕ, _+_, _≤_, _<_, min};
 ghost use lib.ListN.{length};
 ghost use Rattle.mapper.specs.Walking.{lineOf, spentWalk, finishedWalk, foundWalk, walkOn};
 
@@ -146,4 +147,29 @@ pub fn walk(work: &mut [u32], terms: Terms, start: Place, budget: usize) -> Step
         m = top_shared(work, columns);
     }
     finished(work, Place { columns: 0, row, m }, budget - left)
+}
+
+// The walk of one cell in a column that has a further row.
+pub fn walk_one(work: &mut [u32], terms: Terms, start: Place) -> Stepped
+    requires { ⌜ (16384 ≤ length (now work)) × (start .columns ≤ 2048) × (start .row + 1 < start .columns) ⌝ }
+    requires { ⌜ (terms .gain ≤ 3000) × (terms .v ≤ 1000) × (terms .size ≤ 4294967295) ⌝ }
+    ensures { λ r. ⌜ r ≡ walkOn terms 1 (start .columns) (start .row) (start .m) 1 (now (work .entry)) .answer ⌝ }
+    ensures { λ r. ⌜ now (work .exit) ≡ walkOn terms 1 (start .columns) (start .row) (start .m) 1 (now (work .entry)) .words ⌝ }
+{
+    let columns = start.columns;
+    let row = start.row;
+    let line = line_of(work, terms, columns - 1);
+    let p = pass_one(&mut work[INDEX..PART_END], line, row, start.m);
+    if p.found {
+        return found(work, columns, p, 1);
+    }
+    spent(
+        work,
+        Place {
+            columns,
+            row: p.row,
+            m: p.m,
+        },
+        1,
+    )
 }
