@@ -8,12 +8,13 @@ use mathlib.Core.Path.{_≡_, refl, sym, ap, _∙_}
 use mathlib.Core.Bool.{Bool, true, false, cond, true≢false, false≢true}
 use mathlib.Core.List.{List}
 use borrow.Author.Tests.{lt-leb}
+use lib.Dec.{leb}
 use lib.ListN.{length, getD, set, length-set}
 use Rattle.mapper.specs.declared.column.Line.{Line}
 use Rattle.mapper.specs.declared.column.Passed.{Passed}
 use Rattle.mapper.specs.Passing.{lowered, lineScore, bestWith, inReach, finalTest, Update, passRows}
 
-left-suc : (to i : ℕ) → i < to → to - i ≡ suc (to - (i + 1))
+pub left-suc : (to i : ℕ) → i < to → to - i ≡ suc (to - (i + 1))
 left-suc to i h = omega arith
 
 -- what the code has computed at a cell of row i: its score word, whether its left end is reasonable, the best so far
@@ -24,7 +25,7 @@ pub record AtCell (line : Line) (i m before : ℕ) (part : List ℕ) (s one grea
   pub best-is : best ≡ max before greatest
 
 module _ (line : Line) (to i m before : ℕ) (part : List ℕ) (s one greatest best : ℕ) (h : i < to) (at : AtCell line i m before part s one greatest best) where
-  best-with : bestWith part i before (lineScore line m (getD part i 0)) ≡ best
+  pub best-with : bestWith part i before (lineScore line m (getD part i 0)) ≡ best
   unfolding bestWith
   best-with = sym (at .best-is ∙ ap (max before) (at .greatest-is ∙ ap (max (getD part (4096 + i) 0)) (at .score)))
 
@@ -38,9 +39,12 @@ module _ (line : Line) (to i m before : ℕ) (part : List ℕ) (s one greatest b
   pass-on m′ t e = unrolled ∙ rw (t, e, add-one)
 
 -- a score word below the threshold: not final, whatever the other tests say
-pub below-threshold : (threshold s best one back i : ℕ) → s < threshold → finalTest threshold s best one back i ≡ false
+pub low-score : (threshold s best one back i : ℕ) → leb threshold s ≡ false → finalTest threshold s best one back i ≡ false
 unfolding finalTest
-below-threshold threshold s best one back i h = rw (lt-leb threshold s h)
+low-score threshold s best one back i t = rw t
+
+pub below-threshold : (threshold s best one back i : ℕ) → s < threshold → finalTest threshold s best one back i ≡ false
+below-threshold threshold s best one back i h = low-score threshold s best one back i (lt-leb threshold s h)
 
 -- one cell: the update ends behind it
 module _ (line : Line) (i m before : ℕ) (part : List ℕ) (s one greatest best : ℕ) (at : AtCell line i m before part s one greatest best) where
