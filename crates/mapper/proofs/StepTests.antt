@@ -66,6 +66,6 @@ good-words work e =
     }
 
 -- a budget of one cell, and a further row in its column
-pub one-inside : (budget row columns : ℕ) → (eqb budget 1 && ltb (row + 1) columns) ≡ true → (budget ≡ 1) × (row + 1 < columns)
+pub one-inside : (budget row columns : ℕ) → (ltb (row + 1) columns && eqb budget 1) ≡ true → (budget ≡ 1) × (row + 1 < columns)
 one-inside budget row columns e =
-    (eqb-true budget 1 (and-left (eqb budget 1) (ltb (row + 1) columns) e), ltb-true (row + 1) columns (and-right (eqb budget 1) (ltb (row + 1) columns) e))
+    (eqb-true budget 1 (and-right (ltb (row + 1) columns) (eqb budget 1) e), ltb-true (row + 1) columns (and-left (ltb (row + 1) columns) (eqb budget 1) e))

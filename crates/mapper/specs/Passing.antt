@@ -43,7 +43,7 @@ pub record Pause : Type 0 where
 
 -- the next n cells of the line from row i on, up to the first whose score word reaches the threshold
 abbrev pub quietRows : Line → ℕ → ℕ → ℕ → ℕ → List ℕ → Pause
-quietRows line zero i m before part = record { answer = record { row = i; m = m; best = before; score = 0; one = 0 }; part = part }
+quietRows line zero i m before part = record { answer = record { row = i; m = m; best = before; score = 0; reach = 0 }; part = part }
 quietRows line (suc n) i m before part =
     let s = lineScore line m (getD part i 0) in
     let best = bestWith part i before s in
@@ -51,7 +51,7 @@ quietRows line (suc n) i m before part =
     let updated = set part (4096 + i) best in
     let later = quietRows line n (suc i) (lowered m one) best updated in
     cond (leb (line .threshold) s)
-    (record { answer = record { row = suc i; m = lowered m one; best = best; score = s; one = one }; part = updated })
+    (record { answer = record { row = suc i; m = lowered m one; best = best; score = s; reach = getD part (2048 + i) 0 }; part = updated })
     later
 
 -- a column's update: what it answers, and the part of the work words afterwards

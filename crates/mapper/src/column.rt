@@ -31,13 +31,13 @@ pub struct Passed {
 }
 
 // Where cells were passed up to one at the threshold: the row of the next cell and its m, the greatest score word so far, and of the
-// cell at the threshold its score word and whether its left end is reasonable, both 0 where there was none.
+// cell at the threshold its score word and its left end's reach, both 0 where there was none.
 pub struct Paused {
     pub row: usize,
     pub m: u32,
     pub best: u32,
     pub score: u32,
-    pub one: u32,
+    pub reach: u32,
 }
 
 // The greatest score word that the rows before this one have seen.
@@ -80,10 +80,10 @@ fn quiet(part: &mut [u32], line: Line, from: usize, to: usize, m0: u32, best0: u
     let mut i = from;
     while i < to {
         let s = score_word(line.gain, m, line.v, part[i], line.base);
-        let one = below(line.column, part[REACH + i]);
+        let reach = part[REACH + i];
         best = greater(best, greater(part[BEST + i], s));
         part[BEST + i] = best;
-        m = lowered(m, one);
+        m = lowered(m, below(line.column, reach));
         i += 1;
         if line.threshold <= s {
             return Paused {
@@ -91,7 +91,7 @@ fn quiet(part: &mut [u32], line: Line, from: usize, to: usize, m0: u32, best0: u
                 m,
                 best,
                 score: s,
-                one,
+                reach,
             };
         }
     }
@@ -100,7 +100,7 @@ fn quiet(part: &mut [u32], line: Line, from: usize, to: usize, m0: u32, best0: u
         m,
         best,
         score: 0,
-        one: 0,
+        reach: 0,
     }
 }
 
@@ -119,7 +119,14 @@ pub fn pass(part: &mut [u32], line: Line, from: usize, to: usize, m0: u32) -> Pa
         i = q.row;
         m = q.m;
         best = q.best;
-        if is_final(line.threshold, q.score, best, q.one, line.back, i - 1) {
+        if is_final(
+            line.threshold,
+            q.score,
+            best,
+            below(line.column, q.reach),
+            line.back,
+            i - 1,
+        ) {
             return Passed {
                 found: true,
                 row: i,

@@ -77,12 +77,12 @@ fn terms_of(work: &[u32]) -> Terms
 // The budget is one cell, and the column of that cell has a further row.
 fn one_inside(budget: u32, row: usize, columns: usize) -> bool
     requires { ⌜ row ≤ 4294967295 ⌝ }
-    ensures { λ r. ⌜ r ≡ (eqb budget 1 && ltb (row + 1) columns) ⌝ }
+    ensures { λ r. ⌜ r ≡ (ltb (row + 1) columns && eqb budget 1) ⌝ }
 {
-    if budget != 1 {
+    if columns <= row + 1 {
         return false;
     }
-    row + 1 < columns
+    budget == 1
 }
 
 // Passes cells until one is final, none remains or the budget's are passed. Words that no start and no step made, and whose place
@@ -101,13 +101,13 @@ pub fn step(work: &mut [u32], budget: u32) -> Stepped
     if wide(work[HITS]) < columns {
         return Stepped::Spent(0);
     }
-    if columns < row {
-        return Stepped::Spent(0);
-    }
     let terms = terms_of(work);
     let m = work[SHARED];
     if one_inside(budget, row, columns) {
         return walk_one(work, terms, Place { columns, row, m });
+    }
+    if columns < row {
+        return Stepped::Spent(0);
     }
     walk(work, terms, Place { columns, row, m }, wide(budget))
 }

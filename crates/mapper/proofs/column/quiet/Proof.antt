@@ -30,17 +30,14 @@ slice-read-score-word c = search needs
 score-word-requires : tie.Need-score-word-requires Inv-loop μ-loop
 score-word-requires c κs = search needs
 
-add-below : tie.Need-add-below Inv-loop μ-loop
-add-below c = search needs
+add-reach : tie.Need-add-reach Inv-loop μ-loop
+add-reach c = search needs
 
-mul-below : tie.Need-mul-below Inv-loop μ-loop
-mul-below c = search needs
+mul-reach : tie.Need-mul-reach Inv-loop μ-loop
+mul-reach c = search needs
 
-slice-read-below : tie.Need-slice-read-below Inv-loop μ-loop
-slice-read-below c = search needs
-
-below-requires : tie.Need-below-requires Inv-loop μ-loop
-below-requires c κs = search needs
+slice-read-reach : tie.Need-slice-read-reach Inv-loop μ-loop
+slice-read-reach c = search needs
 
 add-greater : tie.Need-add-greater Inv-loop μ-loop
 add-greater c = search needs
@@ -66,6 +63,9 @@ mul-part c = search needs
 slice-write-part : tie.Need-slice-write-part Inv-loop μ-loop
 slice-write-part c = search needs
 
+below-requires : tie.Need-below-requires Inv-loop μ-loop
+below-requires c κs = search needs
+
 lowered-requires : tie.Need-lowered-requires Inv-loop μ-loop
 lowered-requires c κs = search needs
 
@@ -76,19 +76,19 @@ same-length : tie.Need-same-length Inv-loop μ-loop
 same-length c = simp length-set (search needs)
 
 -- what is known at a cell once it is passed
-at-cell : (d : tie.After-lowered Inv-loop μ-loop) → AtCell (d .before .before .before .before .before .before .before .before .before .before .before .args .line) (d .before .before .before .before .before .before .before .before .before .loop .i) (d .before .before .before .before .before .before .before .before .before .loop .m) (d .before .before .before .before .before .before .before .before .before .loop .best) (d .before .before .before .before .before .before .before .before .before .loop .part) (d .before .before .before .before .before .before .score-word .result) (d .before .before .before .before .below .result) (d .before .before .greater .result) (d .before .greater2 .result)
+at-cell : (d : tie.After-lowered Inv-loop μ-loop) → AtCell (d .before .before .before .before .before .before .before .before .before .before .before .args .line) (d .before .before .before .before .before .before .before .before .before .loop .i) (d .before .before .before .before .before .before .before .before .before .loop .m) (d .before .before .before .before .before .before .before .before .before .loop .best) (d .before .before .before .before .before .before .before .before .before .loop .part) (d .before .before .before .before .before .before .score-word .result) (d .before .below .result) (d .before .before .before .greater .result) (d .before .before .greater2 .result)
 unfolding lineScore inReach
 at-cell d = record {
   score = d .before .before .before .before .before .before .score-word .ensures;
-  reach = d .before .before .before .before .below .ensures;
-  greatest-is = d .before .before .greater .ensures;
-  best-is = d .before .greater2 .ensures;
+  reach = d .before .below .ensures;
+  greatest-is = d .before .before .before .greater .ensures;
+  best-is = d .before .before .greater2 .ensures;
 }
 
 returns : tie.Need-returns Inv-loop μ-loop
 returns c =
     let d = c .before .before in
-    let e = sym (quiet-stop (d .before .before .before .before .before .before .before .before .before .before .before .args .line) (d .before .before .before .before .before .before .before .before .before .before .before .args .to) (d .before .before .before .before .before .before .before .before .before .loop .i) (d .before .before .before .before .before .before .before .before .before .loop .m) (d .before .before .before .before .before .before .before .before .before .loop .best) (d .before .before .before .before .before .before .before .before .before .loop .part) (d .before .before .before .before .before .before .score-word .result) (d .before .before .before .before .below .result) (d .before .before .greater .result) (d .before .greater2 .result) (d .before .before .before .before .before .before .before .before .loop-test .taken) (at-cell d) (d .lowered .result) (c .if1 .taken) (d .lowered .ensures)) ∙ d .before .before .before .before .before .before .before .before .before .loop .inv .2 in
+    let e = sym (quiet-stop (d .before .before .before .before .before .before .before .before .before .before .before .args .line) (d .before .before .before .before .before .before .before .before .before .before .before .args .to) (d .before .before .before .before .before .before .before .before .before .loop .i) (d .before .before .before .before .before .before .before .before .before .loop .m) (d .before .before .before .before .before .before .before .before .before .loop .best) (d .before .before .before .before .before .before .before .before .before .loop .part) (d .before .before .before .before .before .before .score-word .result) (d .before .below .result) (d .before .before .before .greater .result) (d .before .before .greater2 .result) (d .before .before .before .before .before .before .before .before .loop-test .taken) (at-cell d) (d .lowered .result) (c .if1 .taken) (d .lowered .ensures)) ∙ d .before .before .before .before .before .before .before .before .before .loop .inv .2 in
     (ap (λ (u : Pause). u .answer) e, ap (λ (u : Pause). u .part) e)
 
 loop-less : tie.Need-loop-less Inv-loop μ-loop
@@ -97,7 +97,7 @@ loop-less c = search needs
 loop-again : tie.Need-loop-again Inv-loop μ-loop
 loop-again c =
     let d = c .before .before in
-    (search needs, simp length-set (search needs), sym (quiet-on (d .before .before .before .before .before .before .before .before .before .before .before .args .line) (d .before .before .before .before .before .before .before .before .before .before .before .args .to) (d .before .before .before .before .before .before .before .before .before .loop .i) (d .before .before .before .before .before .before .before .before .before .loop .m) (d .before .before .before .before .before .before .before .before .before .loop .best) (d .before .before .before .before .before .before .before .before .before .loop .part) (d .before .before .before .before .before .before .score-word .result) (d .before .before .before .before .below .result) (d .before .before .greater .result) (d .before .greater2 .result) (d .before .before .before .before .before .before .before .before .loop-test .taken) (at-cell d) (d .lowered .result) (c .if1 .left) (d .lowered .ensures)) ∙ d .before .before .before .before .before .before .before .before .before .loop .inv .2)
+    (search needs, simp length-set (search needs), sym (quiet-on (d .before .before .before .before .before .before .before .before .before .before .before .args .line) (d .before .before .before .before .before .before .before .before .before .before .before .args .to) (d .before .before .before .before .before .before .before .before .before .loop .i) (d .before .before .before .before .before .before .before .before .before .loop .m) (d .before .before .before .before .before .before .before .before .before .loop .best) (d .before .before .before .before .before .before .before .before .before .loop .part) (d .before .before .before .before .before .before .score-word .result) (d .before .below .result) (d .before .before .before .greater .result) (d .before .before .greater2 .result) (d .before .before .before .before .before .before .before .before .loop-test .taken) (at-cell d) (d .lowered .result) (c .if1 .left) (d .lowered .ensures)) ∙ d .before .before .before .before .before .before .before .before .before .loop .inv .2)
 
 same-length-2 : tie.Need-same-length-2 Inv-loop μ-loop
 same-length-2 c = search needs
@@ -118,10 +118,9 @@ quiet-spec =
     mul-score-word
     slice-read-score-word
     score-word-requires
-    add-below
-    mul-below
-    slice-read-below
-    below-requires
+    add-reach
+    mul-reach
+    slice-read-reach
     add-greater
     mul-greater
     slice-read-greater
@@ -130,6 +129,7 @@ quiet-spec =
     add-part
     mul-part
     slice-write-part
+    below-requires
     lowered-requires
     add-i
     same-length

@@ -1,13 +1,14 @@
 -- `walk::walk_one` meets its contract: what it passes is the update of the column with a budget of one cell. Assumes nothing.
-use Prim.Native.Nat.{ℕ, _+_, _-_, _≤_, min}
+use Prim.Native.Nat.{ℕ, _+_, _-_, _≤_, _<_}
 use native.Mathlib.Omega.{arith}
 use mathlib.Core.Path.{_≡_, refl, sym, ap, _∙_}
-use mathlib.Core.List.{List}
+use mir.Syntax.{w32}
+use mir.ValLaws.{toZ-ofZ}
 use borrow.Author.Needs.{needs}
 use borrow.Rule.Slice.PartMut.{putMid, mid-len, same-len-mid}
 use lib.ListN.{length}
-use Rattle.mapper.specs.declared.walk.Terms.{Terms}
-use Rattle.mapper.specs.Walking.{Walk, withPart, partOf, lineOf}
+use Rattle.mapper.specs.Passing.{lowered}
+use Rattle.mapper.specs.Walking.{Walk, saved, spentWalk, withPart, partOf, lineOf}
 use Rattle.mapper.proofs.Walking.{ColumnPassed, column-passed, base-within, one-found, one-spent}
 use Rattle.mapper.proofs.walk.walk_one.Statement.{statement}
 use Rattle.mapper.proofs.walk.walk_one.Tie as tie
@@ -45,40 +46,78 @@ same-number : (d : tie.After-slice-known2) → length (putMid 4096 6144 (d .befo
 unfolding partOf
 same-number d = same-len-mid 4096 6144 (d .before .before .before .before .before .before .before .args .work .now) (d .before .before .pass-one .last .0) (at-column d .size)
 
-found-requires : tie.Need-found-requires
-found-requires c κs =
+-- the row behind lies in a table
+row-within : (d : tie.After-slice-known2) → d .before .before .pass-one .result .row ≤ 2048
+row-within d = omega (arith, at-column d .within, d .before .before .before .before .before .before .before .pre .0 .1)
+
+behind-requires : tie.Need-behind-requires
+behind-requires c κs = search needs
+
+save-requires : tie.Need-save-requires
+save-requires c κs =
     let d = c .before .before in
-    let p = at-column d in
-    let moved = p .moved (c .before .if1 .taken) in
     let n = same-number d in
-    (omega (arith, d .before .before .before .before .before .before .before .pre .0 .0), search needs, search needs, omega arith, omega (arith, p .within), search needs)
+    (omega (arith, d .before .before .before .before .before .before .before .pre .0 .0), search needs, omega (arith, row-within d), search needs)
+
+add-a : tie.Need-add-a
+add-a c = let r = row-within (c .before .before .before .before .before .before) in omega arith
+
+sub-a : tie.Need-sub-a
+sub-a c = search needs
+
+mul-a : tie.Need-mul-a
+mul-a c = let r = row-within (c .before .before .before .before .before .before) in omega arith
+
+in-table : (row words before : ℕ) → row ≤ 2048 → 16384 ≤ before → words ≡ before → 4096 + row - 1 < words
+in-table row words before r l e = omega arith
+
+slice-read-a : tie.Need-slice-read-a
+slice-read-a c =
+    let d = c .before .before .before .before .before .before .before in
+    in-table (d .before .before .pass-one .result .row) (length (c .before .before .before .before .save .last .0)) (length (d .before .before .before .before .before .before .before .args .work .now)) (row-within d) (d .before .before .before .before .before .before .before .pre .0 .0) (c .before .before .before .before .save .kept .0 ∙ same-number d)
+
+add-b : tie.Need-add-b
+add-b c = search needs
+
+sub-b : tie.Need-sub-b
+sub-b c = search needs
+
+mul-b : tie.Need-mul-b
+mul-b c = search needs
+
+slice-read-b : tie.Need-slice-read-b
+slice-read-b c = search needs
+
+unbiased-requires : tie.Need-unbiased-requires
+unbiased-requires c κs = search needs
 
 same-length : tie.Need-same-length
-same-length c = let d = c .before .before .before .before .before in c .before .before .found .kept .0 ∙ same-number d
+same-length c = c .before .before .before .before .before .before .save .kept .0 ∙ same-number (c .before .before .before .before .before .before .before .before .before)
 
 returns : tie.Need-returns
 unfolding withPart
 returns c =
-    let d = c .before .before .before .before .before in
-    let e = sym (one-found (d .before .before .before .before .before .before .before .args .terms) (d .before .before .before .before .before .before .before .args .start .columns) (d .before .before .before .before .before .before .before .args .start .row) (d .before .before .before .before .before .before .before .args .start .m) (d .before .before .before .before .before .before .before .args .work .now) (d .before .before .pass-one .result) (d .before .before .pass-one .last .0) (d .before .before .before .before .before .before .before .pre .0 .2) (at-column d) (c .before .before .before .before .if1 .taken)) in
-    (c .before .before .found .ensures .0 ∙ ap (λ (w : Walk). w .answer) e, c .before .before .found .ensures .1 ∙ ap (λ (w : Walk). w .words) e)
-
-spent-requires : tie.Need-spent-requires
-spent-requires c κs =
-    let d = c .before .before in
-    let p = at-column d in
-    let n = same-number d in
-    (omega (arith, d .before .before .before .before .before .before .before .pre .0 .0), search needs, omega (arith, p .within, d .before .before .before .before .before .before .before .pre .0 .1), search needs)
+    let d = c .before .before .before .before .before .before .before .before .before in
+    let p = d .before .before .pass-one .result in
+    let columns = d .before .before .before .before .before .before .before .args .start .columns in
+    let m : c .before .before .before .before .before .before .before .before .behind .result ≡ lowered (p .m) 1 = c .before .before .before .before .before .before .before .before .behind .ensures ∙ rw (c .before .before .before .if1 .taken) in
+    let after = c .before .before .before .before .before .before .save .ensures ∙ ap (λ (n : ℕ). saved (withPart (d .before .before .before .before .before .before .before .args .work .now) (d .before .before .pass-one .last .0)) (record { columns = columns; row = p .row; m = n }) 1) m in
+    let e = sym (one-found (d .before .before .before .before .before .before .before .args .terms) columns (d .before .before .before .before .before .before .before .args .start .row) (d .before .before .before .before .before .before .before .args .start .m) (d .before .before .before .before .before .before .before .args .work .now) p (d .before .before .pass-one .last .0) (d .before .before .before .before .before .before .before .pre .0 .2) (at-column d) (c .before .before .before .if1 .taken) (c .before .before .before .before .before .before .save .last .0) after) in
+    (rw (toZ-ofZ w32 (c .unbiased .result) (record { sfits = c .unbiased .ok }), c .unbiased .ensures) (ap (λ (w : Walk). w .answer) e), ap (λ (w : Walk). w .words) e)
 
 same-length-2 : tie.Need-same-length-2
-same-length-2 c = let d = c .before .before .before .before .before in c .before .before .spent .kept .0 ∙ same-number d
+same-length-2 c = c .before .before .before .save .kept .0 ∙ same-number (c .before .before .before .before .before .before)
 
 returns-2 : tie.Need-returns-2
-unfolding withPart
+unfolding withPart spentWalk
 returns-2 c =
-    let d = c .before .before .before .before .before in
-    let e = sym (one-spent (d .before .before .before .before .before .before .before .args .terms) (d .before .before .before .before .before .before .before .args .start .columns) (d .before .before .before .before .before .before .before .args .start .row) (d .before .before .before .before .before .before .before .args .start .m) (d .before .before .before .before .before .before .before .args .work .now) (d .before .before .pass-one .result) (d .before .before .pass-one .last .0) (d .before .before .before .before .before .before .before .pre .0 .2) (at-column d) (c .before .before .before .before .if1 .left)) in
-    (c .before .before .spent .ensures .0 ∙ ap (λ (w : Walk). w .answer) e, c .before .before .spent .ensures .1 ∙ ap (λ (w : Walk). w .words) e)
+    let d = c .before .before .before .before .before .before in
+    let p = d .before .before .pass-one .result in
+    let columns = d .before .before .before .before .before .before .before .args .start .columns in
+    let m : c .before .before .before .before .before .behind .result ≡ p .m = c .before .before .before .before .before .behind .ensures ∙ rw (c .if1 .left) in
+    let after = c .before .before .before .save .ensures ∙ ap (λ (n : ℕ). saved (withPart (d .before .before .before .before .before .before .before .args .work .now) (d .before .before .pass-one .last .0)) (record { columns = columns; row = p .row; m = n }) 1) m in
+    let e = sym (one-spent (d .before .before .before .before .before .before .before .args .terms) columns (d .before .before .before .before .before .before .before .args .start .row) (d .before .before .before .before .before .before .before .args .start .m) (d .before .before .before .before .before .before .before .args .work .now) p (d .before .before .pass-one .last .0) (d .before .before .before .before .before .before .before .pre .0 .2) (at-column d) (c .if1 .left)) in
+    (ap (λ (w : Walk). w .answer) e, after ∙ ap (λ (w : Walk). w .words) e)
 
 pub walk-one-spec : {M : Type 1} → statement M
 walk-one-spec =
@@ -90,9 +129,18 @@ walk-one-spec =
     part-pass-one-start
     part-pass-one-end
     pass-one-requires
-    found-requires
+    behind-requires
+    save-requires
+    add-a
+    sub-a
+    mul-a
+    slice-read-a
+    add-b
+    sub-b
+    mul-b
+    slice-read-b
+    unbiased-requires
     same-length
     returns
-    spent-requires
     same-length-2
     returns-2)
