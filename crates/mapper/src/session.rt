@@ -101,13 +101,15 @@ pub fn step(work: &mut [u32], budget: u32) -> Stepped
     if wide(work[HITS]) < columns {
         return Stepped::Spent(0);
     }
-    let terms = terms_of(work);
-    let m = work[SHARED];
     if one_inside(budget, row, columns) {
+        let terms = terms_of(work);
+        let m = work[SHARED];
         return walk_one(work, terms, Place { columns, row, m });
     }
     if columns < row {
         return Stepped::Spent(0);
     }
+    let terms = terms_of(work);
+    let m = work[SHARED];
     walk(work, terms, Place { columns, row, m }, wide(budget))
 }
