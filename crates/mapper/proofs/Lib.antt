@@ -1,6 +1,7 @@
 -- Laws about the work words, the column's update and sessions.
 pub mod Bias
 pub mod Passing
+pub mod Quiet
 pub mod Walking
 pub mod Places
 pub mod Best
