@@ -1,10 +1,12 @@
 //! The lines of the speed table: each job with its inputs, its checksum and who runs it.
 //! Assumes nothing.
 
-use crate::ours::{COUNT, OURS};
-use crate::plain::work::{Answer, WORK_WORDS};
+use host::calls::{self, Stepped};
+
+use crate::ours;
+use crate::plain::work::WORK_WORDS;
 use crate::plain::{fastest_sketch, fastest_start, fastest_step, sketch, start, step, strike};
-use crate::signatures::{Count, Sketch, Start, Step, Strike};
+use crate::signatures::{Count, Sketch, Start, Strike};
 use crate::table::Line;
 use crate::timing::{ROUNDS, Run, checksum, race, timed};
 
@@ -16,7 +18,7 @@ const V: u32 = 2;
 /// Races plain Rust with the same algorithm, the fastest and, where there is one, ours.
 fn line(job: String, goal: &'static str, mut runs: Vec<Run>) -> Line {
     let best = race(&mut runs, ROUNDS);
-    Line { job, goal, plain: best[0], fastest: best[1], ours: best.get(2).copied() }
+    Line { job, goal, plain: best[0], fastest: best[1], ours: best[2] }
 }
 
 pub fn count_line(letters: &[u8], w: u32) -> Line {
@@ -26,7 +28,7 @@ pub fn count_line(letters: &[u8], w: u32) -> Line {
             (time, checksum([number as u32]))
         })
     };
-    let runs = vec![run(sketch::count), run(fastest_sketch::count), run(COUNT)];
+    let runs = vec![run(sketch::count), run(fastest_sketch::count), run(ours::COUNT)];
     line(format!("count, {} letters, w {w}", letters.len()), "1.2", runs)
 }
 
@@ -39,8 +41,8 @@ pub fn sketch_line(letters: &[u8], w: u32) -> Line {
             (time, checksum(codes[..n].iter().chain(&positions[..n]).copied()))
         })
     };
-    let runs = [Some(sketch::sketch as Sketch), Some(fastest_sketch::sketch), OURS.map(|ours| ours.sketch)];
-    line(format!("sketch, {} letters, w {w}", letters.len()), "1.2", runs.into_iter().flatten().map(run).collect())
+    let runs = [sketch::sketch as Sketch, fastest_sketch::sketch, ours::sketch];
+    line(format!("sketch, {} letters, w {w}", letters.len()), "1.2", runs.into_iter().map(run).collect())
 }
 
 pub fn strike_line(kind: &str, codes: &[u32], fastest: Strike) -> Line {
@@ -54,8 +56,8 @@ pub fn strike_line(kind: &str, codes: &[u32], fastest: Strike) -> Line {
             (time, checksum(out_codes[..n].iter().chain(&out_positions[..n]).copied()))
         })
     };
-    let runs = [Some(strike::strike as Strike), Some(fastest), OURS.map(|ours| ours.strike)];
-    line(format!("strike, {} entries, {kind}", codes.len()), "1.5", runs.into_iter().flatten().map(run).collect())
+    let runs = [strike::strike as Strike, fastest, ours::strike];
+    line(format!("strike, {} entries, {kind}", codes.len()), "1.5", runs.into_iter().map(run).collect())
 }
 
 pub fn start_line(text: &[u32], pattern: &[u32]) -> Line {
@@ -66,36 +68,45 @@ pub fn start_line(text: &[u32], pattern: &[u32]) -> Line {
             (time, checksum([h as u32, work[0], work[1], work[2], work[3]]))
         })
     };
-    let runs = [Some(start::start as Start), Some(fastest_start::start), OURS.map(|ours| ours.start)];
+    let runs = [start::start as Start, fastest_start::start, ours::start];
     let job = format!("start, {} text and {} pattern entries", text.len(), pattern.len());
-    line(job, "1.5", runs.into_iter().flatten().map(run).collect())
+    line(job, "1.5", runs.into_iter().map(run).collect())
 }
 
-/// Passes all cells by steps of this budget, and returns how many there were.
-fn pass_all(step: Step, work: &mut [u32], budget: u32) -> u32 {
+/// Passes all cells by steps of this budget, and returns how many there were. The step is a type of its own, not a pointer, so that a
+/// call of it is one as in any Rust program.
+fn pass_all(step: impl Fn(&mut [u32], u32) -> Stepped, work: &mut [u32], budget: u32) -> u32 {
     let mut passed = 0;
     loop {
         match step(work, budget) {
-            Answer::Found { cells, .. } | Answer::Spent(cells) => passed += cells,
-            Answer::Finished(cells) => return passed + cells,
-            Answer::Refused(number) => panic!("refused {number}"),
+            Stepped::Found { cells, .. } | Stepped::Spent(cells) => passed += cells,
+            Stepped::Finished(cells) => return passed + cells,
+            Stepped::Refused(number) => panic!("refused {number}"),
         }
     }
 }
 
+/// A run of steps of this budget from a fresh session.
+fn step_run(fresh: Vec<u32>, step: impl Fn(&mut [u32], u32) -> Stepped + Copy + 'static, budget: u32) -> Run<'static> {
+    let mut work = fresh.clone();
+    Box::new(move || {
+        work.copy_from_slice(&fresh);
+        let (time, cells) = timed(|| pass_all(step, &mut work, budget));
+        (time, checksum([cells, work[3]]))
+    })
+}
+
 /// The threshold is out of reach, so that no cell is found and one step can pass all.
 pub fn step_line(text: &[u32], pattern: &[u32], budget: u32, job: &str, goal: &'static str) -> Line {
-    let run = |(start, step): (Start, Step)| -> Run {
-        let mut fresh = vec![1; WORK_WORDS];
-        start(text, pattern, U, V, i32::MAX, &mut fresh);
-        let mut work = fresh.clone();
-        Box::new(move || {
-            work.copy_from_slice(&fresh);
-            let (time, cells) = timed(|| pass_all(step, &mut work, budget));
-            (time, checksum([cells, work[3]]))
-        })
+    let fresh = |start: Start| {
+        let mut work = vec![1; WORK_WORDS];
+        start(text, pattern, U, V, i32::MAX, &mut work);
+        work
     };
-    let plain: (Start, Step) = (start::start, step::step);
-    let runs = [Some(plain), Some((fastest_start::start, fastest_step::step)), OURS.map(|ours| (ours.start, ours.step))];
-    line(job.to_string(), goal, runs.into_iter().flatten().map(run).collect())
+    let runs = vec![
+        step_run(fresh(start::start), step::step, budget),
+        step_run(fresh(fastest_start::start), fastest_step::step, budget),
+        step_run(fresh(ours::start), calls::step, budget),
+    ];
+    line(job.to_string(), goal, runs)
 }

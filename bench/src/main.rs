@@ -3,14 +3,13 @@
 
 use bench::jobs;
 use bench::lines::{count_line, sketch_line, start_line, step_line, strike_line};
-use bench::ours::OURS;
 use bench::plain::{fastest_strike, hash_strike};
 use bench::table::{Line, print, print_head, ratio};
 use bench::timing::ROUNDS;
 
 /// Says how often the single step goes into the steps of budget 1, for each of the three.
 fn print_single(single: &Line, ones: &Line) {
-    let ours = single.ours.zip(ones.ours).map_or("-".to_string(), |(single, ones)| ratio(ones, single));
+    let ours = ratio(ones.ours, single.ours);
     let (plain, fastest) = (ratio(ones.plain, single.plain), ratio(ones.fastest, single.fastest));
     println!("\nSteps of budget 1 over the single step: same algorithm {plain}, fastest {fastest}, proved {ours} (goal 5).");
 }
@@ -19,9 +18,6 @@ fn main() {
     println!("Best processor time of {ROUNDS} runs, taken in turn, all built for release.");
     println!("Buffers are warm and not cleared between runs.");
     println!("Letters are random, in one run, k 15. 'fastest' is the fastest plain Rust known to us.");
-    if OURS.is_none() {
-        println!("libspeed.a is missing, so the wrappers are not linked: of the proved functions only count is timed.");
-    }
     println!();
     print_head();
     let letters = jobs::long_text();

@@ -9,7 +9,7 @@ pub struct Line {
     pub goal: &'static str,
     pub plain: Timed,
     pub fastest: Timed,
-    pub ours: Option<Timed>,
+    pub ours: Timed,
 }
 
 fn milliseconds(timed: Timed) -> String {
@@ -29,9 +29,8 @@ pub fn print_head() {
 
 /// Prints one line.
 pub fn print(line: &Line) {
-    let missing = || ["-".to_string(), "-".to_string(), "-".to_string()];
-    let [ours, over_plain, over_fastest] =
-        line.ours.map_or_else(missing, |ours| [milliseconds(ours), ratio(ours, line.plain), ratio(ours, line.fastest)]);
+    let ours = line.ours;
+    let [ours, over_plain, over_fastest] = [milliseconds(ours), ratio(ours, line.plain), ratio(ours, line.fastest)];
     println!(
         "| {} | {} | {} | {ours} | {over_plain} | {over_fastest} | {} | {:016x} |",
         line.job,
