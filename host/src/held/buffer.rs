@@ -7,6 +7,7 @@ use crate::random::Random;
 /// Words that are never lent.
 const BEHIND: usize = 16;
 
+#[derive(Clone)]
 pub struct Buffer {
     before: Vec<u32>,
     words: Vec<u32>,
@@ -32,15 +33,16 @@ impl Buffer {
 
     /// Asks that these words stand first, and that the rest is as before.
     pub fn holds(&self, what: &str, first: &[u32]) -> Result<(), Difference> {
-        let (written, rest) = self.words.split_at(first.len());
-        for (at, (given, expected)) in written.iter().zip(first).enumerate() {
-            if given != expected {
-                return Err(format!("{what}: word {at} holds {given} in place of {expected}"));
-            }
-        }
-        match rest.iter().zip(&self.before[first.len()..]).position(|(now, before)| now != before) {
-            None => Ok(()),
-            Some(at) => Err(format!("{what}: word {} was changed", first.len() + at)),
-        }
+        same(what, 0, &self.words[..first.len()], first)?;
+        same(what, first.len(), &self.words[first.len()..], &self.before[first.len()..])
     }
+}
+
+/// Asks that words, of which the first has this index, are the expected ones.
+fn same(what: &str, begin: usize, given: &[u32], expected: &[u32]) -> Result<(), Difference> {
+    if given == expected {
+        return Ok(());
+    }
+    let at = given.iter().zip(expected).position(|(given, expected)| given != expected).expect("as many words");
+    Err(format!("{what}: word {} holds {} in place of {}", begin + at, given[at], expected[at]))
 }

@@ -13,6 +13,7 @@ use crate::reference::steps::{Answer, Rule, Step};
 use crate::reference::work_words::WorkWords;
 
 /// A proved session and the rule's, at the same cell.
+#[derive(Clone)]
 pub struct Session {
     work: Buffer,
     rule: Rule,

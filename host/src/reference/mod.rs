@@ -1,4 +1,5 @@
-//! Document 01 word for word, as a brute force, one subject a file. It shares nothing with the proved crates.
+//! Document 01 word for word, as a brute force, one subject a file, and faster forms for the limits that are held to it. It shares
+//! nothing with the proved crates.
 //! Assumes nothing.
 
 pub mod by_hits;

@@ -1,8 +1,6 @@
 //! The rule of a step, and of a list of steps from a fresh session.
 //! Assumes that start accepts the task.
 
-use std::collections::BTreeMap;
-
 use super::cells::cells;
 use super::definition1::{Mapping, finals};
 use super::score::Task;
@@ -23,17 +21,30 @@ pub enum Answer {
     Refused(u32),
 }
 
-/// A session by the rule: its cells in their order, those that are final, and the number q of the last cell passed.
+/// A session by the rule: how many cells it has, which of them are final, and the number q of the last cell passed.
+#[derive(Clone)]
 pub struct Rule {
-    cells: Vec<(usize, usize)>,
-    finals: BTreeMap<(usize, usize), Mapping>,
+    last: usize,
+    /// the number of each final cell, rising, and its mapping
+    finals: Vec<(usize, Mapping)>,
     pub q: usize,
 }
 
 impl Rule {
-    /// A fresh session of this task, whose final mappings are these: "cells are numbered from 1 in their order", "q is 0 at first".
+    /// A fresh session of this task, whose final mappings are these, in the order of the list: "cells are numbered from 1 in their
+    /// order", "q is 0 at first".
     pub fn new(task: &Task, finals: &[Mapping]) -> Rule {
-        Rule { cells: cells(task), finals: finals.iter().map(|&f| ((f.a, f.b), f)).collect(), q: 0 }
+        let cells = cells(task);
+        let mut numbered = Vec::new();
+        for (at, &cell) in cells.iter().enumerate() {
+            if let Some(&next) = finals.get(numbered.len())
+                && (next.a, next.b) == cell
+            {
+                numbered.push((at + 1, next));
+            }
+        }
+        assert_eq!(numbered.len(), finals.len(), "each final mapping is a cell, and they are in the order of the cells");
+        Rule { last: cells.len(), finals: numbered, q: 0 }
     }
 
     /// "An accepted step with budget B looks at the next B cells after number q, or at all that remain if they are fewer."
@@ -41,15 +52,18 @@ impl Rule {
         if step.lent < WORK_WORDS {
             return Answer::Refused(10);
         }
-        let last = self.cells.len();
-        let looked_at = (step.budget as usize).min(last - self.q);
-        let ahead = &self.cells[self.q..self.q + looked_at];
-        let first = ahead.iter().enumerate().find_map(|(at, cell)| self.finals.get(cell).map(|&mapping| (at + 1, mapping)));
-        self.q += first.map_or(looked_at, |(cells, _)| cells);
-        match first {
-            Some((cells, mapping)) => Answer::Found(mapping, cells),
-            None if self.q == last => Answer::Finished(looked_at),
-            None => Answer::Spent(looked_at),
+        let before = self.q;
+        let looked_at = (step.budget as usize).min(self.last - before);
+        let next = self.finals.partition_point(|&(number, _)| number <= before);
+        match self.finals.get(next) {
+            Some(&(number, mapping)) if number <= before + looked_at => {
+                self.q = number;
+                Answer::Found(mapping, number - before)
+            }
+            _ => {
+                self.q += looked_at;
+                if self.q == self.last { Answer::Finished(looked_at) } else { Answer::Spent(looked_at) }
+            }
         }
     }
 }

@@ -12,10 +12,13 @@ const BEST: usize = 8_192;
 const WHOLE: usize = 10_240;
 
 /// The words of a session, and what is needed to pass its cells.
+#[derive(Clone)]
 pub struct WorkWords {
     words: Vec<u32>,
-    h: usize,
     q: usize,
+    /// the columns left, and the row of the next cell; both 0 where none is left
+    columns: usize,
+    row: usize,
     /// m and the score, plus 2^31, of each cell in the order of passing
     cells: Vec<(u32, u32)>,
 }
@@ -70,38 +73,26 @@ impl WorkWords {
             // the first cell of column j: the columns after it have the cells before it
             words[WHOLE + j] = cells[cell_count(h) - cell_count(j + 1)].0;
         }
-        let mut made = WorkWords { words, h, q: 0, cells };
+        let mut made = WorkWords { words, q: 0, columns: h, row: 0, cells };
         made.write_place();
         made
     }
 
-    /// The columns left, and the row of the next cell; both 0 where none is left.
-    fn place(&self) -> (usize, usize) {
-        let mut columns = self.h;
-        let mut rest = self.q;
-        while columns > 0 && rest >= columns {
-            rest -= columns;
-            columns -= 1;
-        }
-        (columns, rest)
-    }
-
     fn write_place(&mut self) {
-        let (columns, row) = self.place();
         let m = self.cells.get(self.q).map_or(0, |cell| cell.0);
         self.words[3] = self.q as u32;
-        self.words[7..10].copy_from_slice(&[columns as u32, row as u32, m]);
+        self.words[7..10].copy_from_slice(&[self.columns as u32, self.row as u32, m]);
     }
 
     /// The words after q cells. q does not fall from call to call.
     pub fn after(&mut self, q: usize) -> &[u32] {
-        let (mut columns, mut i) = self.place();
         for number in self.q..q {
+            let i = self.row;
             let before = if i == 0 { 0 } else { self.words[BEST + i - 1] };
             self.words[BEST + i] = self.words[BEST + i].max(before).max(self.cells[number].1);
-            i += 1;
-            if i == columns {
-                (columns, i) = (columns - 1, 0);
+            self.row += 1;
+            if self.row == self.columns {
+                (self.columns, self.row) = (self.columns - 1, 0);
             }
         }
         self.q = q;

@@ -1,0 +1,91 @@
+//! What was compared, what differs, and which refusals were met.
+//! Assumes nothing.
+
+use std::collections::BTreeMap;
+
+use crate::held::{Answered, Difference};
+use crate::reference::refusal::Refusal;
+
+/// How many differences of a part are printed in words.
+const SHOWN: usize = 5;
+
+/// What has been met: for each refusal number, how often by which call; and how many mappings were listed in the part in hand.
+#[derive(Default)]
+pub struct Met {
+    numbers: BTreeMap<u32, BTreeMap<&'static str, usize>>,
+    mappings: usize,
+}
+
+impl Met {
+    pub fn refusal(&mut self, call: &'static str, refusal: Refusal) {
+        *self.numbers.entry(refusal.number).or_default().entry(call).or_default() += 1;
+    }
+
+    /// Takes note of a list with this many mappings.
+    pub fn list(&mut self, mappings: usize) {
+        self.mappings += mappings;
+    }
+
+    /// Takes note of what a call answered.
+    pub fn answer(&mut self, call: &'static str, answered: Answered) {
+        if let Err(refusal) = answered {
+            self.refusal(call, refusal);
+        }
+    }
+}
+
+pub struct Tally {
+    met: Met,
+    compared: usize,
+    differ: usize,
+    part_compared: usize,
+    part_differ: usize,
+}
+
+impl Tally {
+    pub fn new() -> Tally {
+        Tally { met: Met::default(), compared: 0, differ: 0, part_compared: 0, part_differ: 0 }
+    }
+
+    /// Compares one case of the part in hand. `case` names it where it differs.
+    pub fn compare(&mut self, case: impl Fn() -> String, run: impl FnOnce(&mut Met) -> Result<(), Difference>) {
+        self.part_compared += 1;
+        if let Err(difference) = run(&mut self.met) {
+            self.part_differ += 1;
+            if self.part_differ <= SHOWN {
+                println!("  DIFFERS, {}: {difference}", case());
+            }
+        }
+    }
+
+    /// Compares one call.
+    pub fn call(&mut self, call: &'static str, case: impl Fn() -> String, held: Result<Answered, Difference>) {
+        self.compare(case, |met| held.map(|answered| met.answer(call, answered)));
+    }
+
+    /// Ends the part in hand and prints its line.
+    pub fn end_part(&mut self, name: &str) {
+        let mappings = std::mem::take(&mut self.met.mappings);
+        let listed = if mappings > 0 { format!(", {mappings} mappings listed") } else { String::new() };
+        println!("  {name}: {} compared, {} differ{listed}", self.part_compared, self.part_differ);
+        self.compared += self.part_compared;
+        self.differ += self.part_differ;
+        (self.part_compared, self.part_differ) = (0, 0);
+    }
+
+    /// Prints the refusals met and the sums. Whether nothing differs and each number from 1 to 16 was met.
+    pub fn print_end(&self) -> bool {
+        println!("\nRefusal numbers met, each with its second value where it has one");
+        for (number, calls) in &self.met.numbers {
+            let calls: Vec<String> = calls.iter().map(|(call, times)| format!("{call} {times}")).collect();
+            println!("  {number}: {}", calls.join(", "));
+        }
+        let missing: Vec<String> =
+            (1..=16).filter(|number| !self.met.numbers.contains_key(number)).map(|n: u32| n.to_string()).collect();
+        if !missing.is_empty() {
+            println!("  NOT MET: {}", missing.join(", "));
+        }
+        println!("\n{} compared, {} differ", self.compared, self.differ);
+        self.differ == 0 && missing.is_empty()
+    }
+}
