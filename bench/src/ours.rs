@@ -4,10 +4,9 @@
 use host::calls;
 use host::reference::refusal::Refusal;
 
-use crate::signatures::{Count, Step};
+use crate::signatures::Count;
 
 pub const COUNT: Count = host::count;
-pub const STEP: Step = calls::step;
 
 /// The value, or the refusal number negated.
 fn signed(answer: Result<usize, Refusal>) -> i32 {
