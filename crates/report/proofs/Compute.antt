@@ -2,8 +2,9 @@
 use Rattle.mappings.proofs.Compute.{mappings-compute}
 use Rattle.listing.proofs.Compute.{listing-computes}
 use Rattle.start.specs.Start.{badWeights, startReply}
-use Rattle.report.specs.Output.{textOf, taskOf, lineOf, finalCells, lastLine, listOf, printed, outputOf}
+use Rattle.opening.specs.Calls.{textOf, patternOf, taskOf, sketchesReply, strikingReply, callsReply}
+use Rattle.report.specs.Output.{lineOf, finalCells, lastLine, listOf, printed, outputOf}
 
 unfoldable pub report-computes : Unit {0}
-unfolding mappings-compute listing-computes badWeights startReply textOf taskOf lineOf finalCells lastLine listOf printed outputOf
+unfolding mappings-compute listing-computes badWeights startReply textOf patternOf taskOf sketchesReply strikingReply callsReply lineOf finalCells lastLine listOf printed outputOf
 report-computes = tt

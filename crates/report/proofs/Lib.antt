@@ -3,5 +3,9 @@ pub mod Writers
 pub mod Mapping
 pub mod Rest
 pub mod Going
+pub mod FirstPiece
+pub mod Threshold
+pub mod OpenedSession
+pub mod Whole
 pub mod Compute
 pub mod Table

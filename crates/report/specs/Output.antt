@@ -5,17 +5,15 @@ use mathlib.Core.List.{List, [], _∷_, _++_}
 use lib.ListN.{length, getD}
 use Rattle.counts.specs.Lists.{keep}
 use Rattle.counts.specs.Replies.{Reply, accepted, refused}
-use Rattle.sketch.specs.Kmers.{Entry, codes, positions}
-use Rattle.sketch.specs.Sketch.{sketch, sketchReply}
-use Rattle.strike.specs.Strike.{struck, strikeReply}
+use Rattle.sketch.specs.Kmers.{positions}
 use Rattle.mappings.specs.Limits.{workWords}
 use Rattle.mappings.specs.Score.{Task, lengthOf}
 use Rattle.mappings.specs.Cells.{Cell, Mapping, cellsOf, isFinalCell, mappingOf}
-use Rattle.start.specs.Start.{startReply}
 use Rattle.listing.specs.Limits.{lineLimit}
 use Rattle.listing.specs.PerMille.{perMille}
 use Rattle.listing.specs.Line.{decimal, line, space, lineFeed}
 use Rattle.listing.specs.Input.{Settings, Input, malformed, given, inputOf}
+use Rattle.opening.specs.Calls.{textOf, patternOf, taskOf, callsReply}
 
 -- `refused`, `input`, `found`, `cells` and the header `first last score shared permille`, as bytes
 abbrev pub refusedWord : List ℕ
@@ -38,23 +36,16 @@ headerLine =
     ++ (115 ∷ 104 ∷ 97 ∷ 114 ∷ 101 ∷ 100 ∷ space ∷ [])
     ++ (112 ∷ 101 ∷ 114 ∷ 109 ∷ 105 ∷ 108 ∷ 108 ∷ 101 ∷ lineFeed ∷ [])
 
--- the struck text and the pattern, as entries
-unfoldable pub textOf : Settings → List ℕ → List Entry
-textOf s letters = struck (s .c) (sketch (s .k) (s .w) letters)
+abbrev pub malformedLine : List ℕ
+malformedLine = refusedWord ++ space ∷ inputWord ++ lineFeed ∷ []
 
-unfoldable pub taskOf : Settings → List ℕ → List ℕ → Task
-taskOf s text read = record {
-  text = codes (textOf s text);
-  pattern = codes (sketch (s .k) (s .w) read);
-  u = s .u;
-  v = s .v;
-  threshold = s .threshold;
-}
+abbrev pub refusedLine : ℕ → List ℕ
+refusedLine number = refusedWord ++ space ∷ decimal number ++ lineFeed ∷ []
 
 -- the first refusal's number; where none refuses, the rest
 abbrev pub unlessRefused : Reply → List ℕ → List ℕ
 unlessRefused (accepted values) rest = rest
-unlessRefused (refused number values) rest = refusedWord ++ space ∷ decimal number ++ lineFeed ∷ []
+unlessRefused (refused number values) rest = refusedLine number
 
 -- the line of a mapping: first letter, last letter (position of entry b, + k − 1), score, m, per mille
 unfoldable pub lineOf : Settings → List ℕ → List ℕ → Mapping → List ℕ
@@ -64,7 +55,7 @@ lineOf s text read mapping =
     (getD (positions (textOf s text)) (mapping .b) 0 + s .k - 1)
     (mapping .score)
     (mapping .m)
-    (perMille (mapping .m) (lengthOf (mapping .a) (mapping .b)) (length (sketch (s .k) (s .w) read)))
+    (perMille (mapping .m) (lengthOf (mapping .a) (mapping .b)) (length (patternOf s read)))
 
 abbrev pub linesOf : Settings → List ℕ → List ℕ → List Cell → List ℕ
 linesOf s text read [] = []
@@ -85,17 +76,12 @@ listOf s text read =
     ++ linesOf s text read (finalCells (taskOf s text read))
     ++ lastLine (length (finalCells (taskOf s text read))) (length (cellsOf (taskOf s text read)))
 
--- the calls in their order: sketch of the text, sketch of the read, strike, start; each buffer has a place for each letter
+-- the calls in their order, each with a place for each letter, and 16,384 work words; then the list
 unfoldable pub printed : Settings → List ℕ → List ℕ → List ℕ
-printed s text read =
-    unlessRefused (sketchReply (s .k) (s .w) text lineLimit lineLimit)
-    (unlessRefused (sketchReply (s .k) (s .w) read lineLimit lineLimit)
-    (unlessRefused (strikeReply (codes (sketch (s .k) (s .w) text)) (positions (sketch (s .k) (s .w) text)) (s .c) lineLimit lineLimit)
-    (unlessRefused (startReply (taskOf s text read) workWords)
-    (listOf s text read))))
+printed s text read = unlessRefused (callsReply s text read lineLimit workWords) (listOf s text read)
 
 abbrev pub printedFor : Input → List ℕ
-printedFor malformed = refusedWord ++ space ∷ inputWord ++ lineFeed ∷ []
+printedFor malformed = malformedLine
 printedFor (given s text read) = printed s text read
 
 -- what `maplist` prints, given the bytes of its standard input

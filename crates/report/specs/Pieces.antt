@@ -16,18 +16,12 @@ use Rattle.start.specs.WorkWords.{sessionWords}
 use Rattle.mapper.specs.Promise.{Accepts}
 use Rattle.listing.specs.Limits.{lenLimit, sizeLimit, wordLimit}
 use Rattle.listing.specs.PerMille.{perMille}
-use Rattle.listing.specs.Line.{decimal, line, space, lineFeed}
+use Rattle.listing.specs.Line.{line}
 use Rattle.listing.specs.Writing.{Written}
-use Rattle.report.specs.Output.{refusedWord, inputWord, lastLine}
+use Rattle.report.specs.Output.{lastLine}
 use Rattle.report.specs.declared.filling.Filled.{Filled}
 
 -- ---- lines
-
-abbrev pub malformedLine : List ℕ
-malformedLine = refusedWord ++ space ∷ inputWord ++ lineFeed ∷ []
-
-abbrev pub refusedLine : ℕ → List ℕ
-refusedLine number = refusedWord ++ space ∷ decimal number ++ lineFeed ∷ []
 
 -- the line of a mapping, from the positions of the text's entries, k and the number of entries of the pattern
 unfoldable pub mappingLine : List ℕ → ℕ → ℕ → Mapping → List ℕ

@@ -1,4 +1,5 @@
-// What `maplist` prints, in pieces: `fill` writes the lines of a session's mappings and the last line, as many at a time as a lent buffer
-// holds; the header and the lines of refusals have writers of their own.
+// What `maplist` prints, in pieces: `begin` reads the input, opens the session and writes the first line; `fill` writes the lines of the
+// session's mappings and the last line, as many at a time as a lent buffer holds.
+pub mod beginning;
 pub mod filling;
 pub mod lines;

@@ -4,8 +4,7 @@ use listing::writing::put_byte;
 use listing::writing::put_bytes;
 use listing::writing::put_decimal;
 ghost use Rattle.listing.specs.Writing.{Written};
-ghost use Rattle.report.specs.Output.{headerLine, lastLine};
-ghost use Rattle.report.specs.Pieces.{malformedLine, refusedLine};
+ghost use Rattle.report.specs.Output.{headerLine, lastLine, malformedLine, refusedLine};
 
 const LINE_FEED: u8 = 10;
 

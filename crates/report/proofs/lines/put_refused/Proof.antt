@@ -10,7 +10,7 @@ use Rattle.listing.specs.Line.{lineFeed, decimal}
 use Rattle.listing.specs.Writing.{Written}
 use Rattle.listing.proofs.Buffers.{joined, same-bytes, start-index, start-part, start-length}
 use Rattle.listing.proofs.Decimal.{length-decimal}
-use Rattle.report.specs.Pieces.{refusedLine}
+use Rattle.report.specs.Output.{refusedLine}
 use borrow.Author.Needs.{needs}
 use Rattle.report.proofs.lines.put_refused.Statement.{statement}
 use Rattle.report.proofs.lines.put_refused.Tie as tie

@@ -1,0 +1,3 @@
+-- What the exported calls hand out: the numbers of a reply, and those of a step.
+pub mod Numbers
+pub mod Steps

@@ -1,0 +1,205 @@
+-- `main` ends, and keeps what `report` asks of it: before each piece, what is printed and what is left make up the output.
+-- Assumes nothing.
+use Prim.Native.Nat.{ℕ, _≤_, _<_, zero-le}
+use native.Mathlib.Omega.{arith}
+use mathlib.Core.Path.{_≡_, refl, sym, _∙_}
+use mathlib.Core.List.{List, _++_}
+use lib.ListN.{length, take, length-replicate}
+use lib.Seq.{length-take-le}
+use borrow.Author.Needs.{needs}
+use Rattle.report.specs.Whole.{Printing}
+use Rattle.report.proofs.Writers.{written-inside}
+use Rattle.report.proofs.Whole.{After, begin-prints, next-prints}
+use Rattle.maplist.proofs.main.Statement.{statement}
+use Rattle.maplist.proofs.main.Tie as tie
+use Rattle.maplist.proofs.main.Reads as reads
+use Rattle.maplist.proofs.main.Lts as lts
+use Rattle.io.proofs.large_buffer.Reads as large-buffer-reads
+use Rattle.io.proofs.read_full.Reads as read-full-reads
+use Rattle.io.proofs.write_all.Reads as write-all-reads
+use Rattle.maplist.proofs.input_bytes.Reads as input-bytes-reads
+use Rattle.report.proofs.beginning.begin.Reads as begin-reads
+use Rattle.report.proofs.filling.fill.Reads as fill-reads
+
+abbrev Inv-loop : tie.InvT-loop
+Inv-loop n positions work₀ out₀ begun left₀ found₀ work out left found =
+    (length positions ≡ 4096) × (length work ≡ 16384) × (length out ≡ 65536) × ((bytes : List ℕ) × (done : List ℕ) × After bytes positions work (begun .k) (begun .size) found left done)
+
+abbrev μ-loop : tie.MeasureT-loop
+μ-loop n positions work₀ out₀ begun left₀ found₀ work out left found = left
+
+-- the first piece
+module _ (c : tie.After-begin Inv-loop μ-loop) where
+  abbrev out₁ : List ℕ
+  out₁ = c .begin .last .1 .1 .1 .0
+
+  long : length (c .before .before .before .before .before .large-buffer .result) ≡ 65536
+  long = sym (c .before .before .before .before .before .large-buffer .ensures)
+
+  same-out : length out₁ ≡ 65536
+  same-out = let l : length out₁ ≡ length (c .before .before .before .before .before .large-buffer .result) = c .begin .kept .1 .1 .1 .0 in l ∙ long
+
+  first-inside : c .begin .result .written ≤ length out₁
+  first-inside =
+      let l : c .begin .result .written ≤ length (c .before .before .before .before .before .large-buffer .result) = written-inside (c .begin .ensures .begun .first) zero-le in
+      omega (arith, same-out, long)
+
+-- a further piece
+module _ (c : tie.After-fill Inv-loop μ-loop) where
+  abbrev at-loop : tie.At-loop Inv-loop μ-loop
+  at-loop = c .before .before .before .before .before
+
+  abbrev out₂ : List ℕ
+  out₂ = c .fill .last .1 .1 .1 .1 .1 .0
+
+  same-out₂ : length out₂ ≡ 65536
+  same-out₂ = let l : length out₂ ≡ length (at-loop .loop .out) = c .fill .kept .1 .1 .1 .1 .1 .0 in l ∙ at-loop .loop .inv .2
+
+-- src/main.rt:12:21
+input-bytes-requires : tie.Need-input-bytes-requires Inv-loop μ-loop
+input-bytes-requires c κs = search needs
+
+-- src/main.rt:13:30
+slice-aggregate-read-full : tie.Need-slice-aggregate-read-full Inv-loop μ-loop
+slice-aggregate-read-full c = search needs
+
+-- src/main.rt:13:9
+read-full-requires : tie.Need-read-full-requires Inv-loop μ-loop
+read-full-requires c κs = search needs
+
+-- src/main.rt:16:19
+large-buffer-requires : tie.Need-large-buffer-requires Inv-loop μ-loop
+large-buffer-requires c κs = search needs
+
+-- src/main.rt:17:23
+array-share-prefix-input : tie.Need-array-share-prefix-input Inv-loop μ-loop
+array-share-prefix-input c = search needs
+
+-- src/main.rt:17:23
+slice-aggregate-begin : tie.Need-slice-aggregate-begin Inv-loop μ-loop
+slice-aggregate-begin c = search needs
+
+-- src/main.rt:17:36
+slice-aggregate-begin-2 : tie.Need-slice-aggregate-begin-2 Inv-loop μ-loop
+slice-aggregate-begin-2 c = search needs
+
+-- src/main.rt:17:52
+slice-aggregate-begin-3 : tie.Need-slice-aggregate-begin-3 Inv-loop μ-loop
+slice-aggregate-begin-3 c = search needs
+
+-- src/main.rt:17:63
+slice-aggregate-begin-4 : tie.Need-slice-aggregate-begin-4 Inv-loop μ-loop
+slice-aggregate-begin-4 c = search needs
+
+-- src/main.rt:17:9
+begin-requires : tie.Need-begin-requires Inv-loop μ-loop
+begin-requires c κs = search needs
+
+-- src/main.rt:18:26
+array-share-prefix-out : tie.Need-array-share-prefix-out Inv-loop μ-loop
+array-share-prefix-out c = first-inside (c .before .before .before)
+
+-- src/main.rt:18:26
+slice-aggregate-write-all : tie.Need-slice-aggregate-write-all Inv-loop μ-loop
+slice-aggregate-write-all c = let at-begin = c .before .before .before .before in sym (length-take-le (at-begin .begin .result .written) (out₁ at-begin) (first-inside at-begin))
+
+-- src/main.rt:18:9
+write-all-requires : tie.Need-write-all-requires Inv-loop μ-loop
+write-all-requires c κs = search needs
+
+-- src/main.rt:19:9
+returns : tie.Need-returns Inv-loop μ-loop
+returns c = search needs
+
+-- src/main.rt:23:5
+loop-holds : tie.Need-loop-holds Inv-loop μ-loop
+loop-holds c =
+    let at-begin = c .before .before .before .before .before .before in (
+      at-begin .begin .kept .1 .0 ∙ length-replicate {A = ℕ} 4096 0,
+      at-begin .begin .kept .1 .1 .0 ∙ length-replicate {A = ℕ} 16384 0,
+      same-out at-begin,
+      (_, _, begin-prints _ _ _ _ (length-replicate {A = ℕ} 4096 0) (length-replicate {A = ℕ} 16384 0) (omega (arith, long at-begin)) (at-begin .begin .result) (out₁ at-begin) _ _ (at-begin .begin .ensures)),
+    )
+
+-- src/main.rt:24:27
+slice-aggregate-fill : tie.Need-slice-aggregate-fill Inv-loop μ-loop
+slice-aggregate-fill c = search needs
+
+-- src/main.rt:24:38
+slice-aggregate-fill-2 : tie.Need-slice-aggregate-fill-2 Inv-loop μ-loop
+slice-aggregate-fill-2 c = search needs
+
+-- src/main.rt:24:78
+slice-aggregate-fill-3 : tie.Need-slice-aggregate-fill-3 Inv-loop μ-loop
+slice-aggregate-fill-3 c = search needs
+
+-- src/main.rt:24:13
+fill-requires : tie.Need-fill-requires Inv-loop μ-loop
+fill-requires c κs = search needs
+
+-- src/main.rt:25:30
+array-share-prefix-out-2 : tie.Need-array-share-prefix-out-2 Inv-loop μ-loop
+array-share-prefix-out-2 c = search needs
+
+-- src/main.rt:25:30
+slice-aggregate-write-all-2 : tie.Need-slice-aggregate-write-all-2 Inv-loop μ-loop
+slice-aggregate-write-all-2 c = let at-fill = c .before .before .before in sym (length-take-le (at-fill .fill .result .written) (out₂ at-fill) (at-fill .fill .ensures .inside))
+
+-- src/main.rt:25:13
+write-all-requires-2 : tie.Need-write-all-requires-2 Inv-loop μ-loop
+write-all-requires-2 c κs = search needs
+
+-- src/main.rt:26:13
+returns-2 : tie.Need-returns-2 Inv-loop μ-loop
+returns-2 c = search needs
+
+-- src/main.rt:23:5
+loop-less : tie.Need-loop-less Inv-loop μ-loop
+loop-less c = let at-fill = c .before .before .before .before .before in next-prints _ _ _ _ _ _ _ _ (at-loop at-fill .loop .inv .3 .2) (at-fill .before .before .before .before .loop-test .taken) _ (at-fill .fill .result) _ _ (omega (arith, at-loop at-fill .loop .inv .2)) (at-fill .fill .ensures) .0
+
+-- src/main.rt:23:5
+loop-again : tie.Need-loop-again Inv-loop μ-loop
+loop-again c =
+    let at-fill = c .before .before .before .before .before in (
+      at-loop at-fill .loop .inv .0,
+      at-fill .fill .kept .0 ∙ at-loop at-fill .loop .inv .1,
+      same-out₂ at-fill,
+      (_, _, next-prints _ _ _ _ _ _ _ _ (at-loop at-fill .loop .inv .3 .2) (at-fill .before .before .before .before .loop-test .taken) _ (at-fill .fill .result) _ _ (omega (arith, at-loop at-fill .loop .inv .2)) (at-fill .fill .ensures) .1),
+    )
+
+-- src/main.rt:11:1
+returns-3 : tie.Need-returns-3 Inv-loop μ-loop
+returns-3 c = search needs
+
+pub main-spec : {M : Type 1} → statement M
+main-spec =
+    tie.close
+    (tie.spec
+    Inv-loop
+    μ-loop
+    input-bytes-requires
+    slice-aggregate-read-full
+    read-full-requires
+    large-buffer-requires
+    array-share-prefix-input
+    slice-aggregate-begin
+    slice-aggregate-begin-2
+    slice-aggregate-begin-3
+    slice-aggregate-begin-4
+    begin-requires
+    array-share-prefix-out
+    slice-aggregate-write-all
+    write-all-requires
+    returns
+    loop-holds
+    slice-aggregate-fill
+    slice-aggregate-fill-2
+    slice-aggregate-fill-3
+    fill-requires
+    array-share-prefix-out-2
+    slice-aggregate-write-all-2
+    write-all-requires-2
+    returns-2
+    loop-less
+    loop-again
+    returns-3)

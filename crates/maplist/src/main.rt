@@ -1,0 +1,35 @@
+// The program `maplist`: from standard input a line of numbers, a text and a read; to standard output every final mapping of the read's
+// sketch in the text's. What it prints is decided in `report`. It assumes what the C library's read and write do.
+use report::beginning::begin;
+use report::filling::fill;
+ghost use mathlib.Core.Path.{_≡_};
+ghost use lib.ListN.{length};
+
+// So many bytes of the input decide.
+fn input_bytes() -> [u8; 8261]
+    ensures { λ r. ⌜ 8261 ≡ length r ⌝ }
+{
+    [0; 8261]
+}
+
+fn main() {
+    let mut input = input_bytes();
+    let n = io::read_full(0, &mut input);
+    let mut positions = [0u32; 4096];
+    let mut work = [0u32; 16384];
+    let mut out = io::large_buffer();
+    let begun = begin(&input[..n], &mut positions, &mut work, &mut out);
+    if !io::write_all(1, &out[..begun.written]) {
+        return;
+    }
+    let mut left = begun.left;
+    let mut found = 0;
+    while 0 < left {
+        let filled = fill(&mut work, &positions, begun.k, begun.size, found, &mut out);
+        if !io::write_all(1, &out[..filled.written]) {
+            return;
+        }
+        left = filled.left;
+        found = filled.found;
+    }
+}

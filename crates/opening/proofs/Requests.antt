@@ -1,0 +1,30 @@
+-- What the reading of the input says of the bytes, by the cases of its answer.
+-- Assumes nothing.
+use Prim.Native.Nat.{ℕ}
+use mathlib.Core.Path.{_≡_, refl, sym, ap, _∙_, subst}
+use mathlib.Core.List.{List}
+use lib.IntN.{ℤ}
+use Rattle.listing.specs.Input.{Input, malformed, given, inputOf}
+use Rattle.listing.specs.Answers.{part, requestInput, LinesInside, Inside, InputRead}
+use Rattle.listing.specs.declared.input.Request.{Request}
+use Rattle.listing.specs.declared.input.Request.the-variants.{Malformed as noRequest, Given as request}
+use Rattle.opening.specs.Opening.{settings, openedOf, positionsAfter, workAfter, Opens}
+use Rattle.opening.specs.declared.opening.Opened.{Opened}
+use Rattle.opening.specs.declared.opening.Opened.the-variants.{Malformed}
+
+module _ (bytes : List ℕ) (answer : Request) (read : InputRead bytes answer) where
+  pub opens-malformed : answer ≡ noRequest → (places work : List ℕ) → Opens (inputOf bytes) places work Malformed places work
+  unfolding openedOf positionsAfter workAfter
+  opens-malformed e places work =
+      let input : malformed ≡ inputOf bytes = subst (λ (a : Request). requestInput a bytes ≡ inputOf bytes) e (read .input) in
+      subst (λ (i : Input). Opens i places work Malformed places work) input (record { answer = refl; positions-after = refl; work-after = refl })
+
+  module _ (k w c u v : ℕ) (threshold : ℤ) (text text-end line line-end : ℕ) (e : answer ≡ request k w c u v threshold text text-end line line-end) where
+    pub lines-inside : LinesInside text text-end line line-end bytes
+    lines-inside = subst (λ (a : Request). Inside a bytes) e (read .inside)
+
+    pub opens-given : (z : ℤ) → z ≡ threshold → (places work : List ℕ) (r : Opened) (places′ work′ : List ℕ) → Opens (given (settings k w c u v z) (part text text-end bytes) (part line line-end bytes)) places work r places′ work′ → Opens (inputOf bytes) places work r places′ work′
+    opens-given z same places work r places′ work′ o =
+        let input : given (settings k w c u v threshold) (part text text-end bytes) (part line line-end bytes) ≡ inputOf bytes =
+        subst (λ (a : Request). requestInput a bytes ≡ inputOf bytes) e (read .input) in
+        subst (λ (i : Input). Opens i places work r places′ work′) (ap (λ (t : ℤ). given (settings k w c u v t) (part text text-end bytes) (part line line-end bytes)) same ∙ input) o

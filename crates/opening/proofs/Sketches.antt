@@ -1,0 +1,99 @@
+-- From the two sketches to the session: what strike and start, one after the other, answer and leave.
+-- Assumes nothing.
+use Prim.Native.Nat.{ℕ, _≤_}
+use native.Mathlib.Omega.{arith}
+use mathlib.Core.Path.{_≡_, refl, sym, ap, _∙_}
+use mathlib.Core.Logic.{_≢_}
+use mathlib.Core.List.{List, [], _∷_, _++_}
+use lib.IntN.{ℤ}
+use lib.ListN.{length, take, drop, length-append}
+use Rattle.counts.specs.Replies.{Reply, accepted, refused, over, after}
+use Rattle.sketch.specs.Kmers.{Entry, codes, positions, entries}
+use Rattle.strike.specs.Strike.{struck, strikeReply, strikeCodes, strikePositions}
+use Rattle.strike.specs.Answers.{replyOf as struckReply}
+use Rattle.strike.specs.declared.Struck.{Struck}
+use Rattle.strike.proofs.Laws.{length-codes}
+use Rattle.mappings.specs.Score.{Task}
+use Rattle.start.specs.Start.{startReply, startWords}
+use Rattle.start.specs.Answers.{startedReply, taskOf}
+use Rattle.start.specs.declared.Started.{Started}
+use Rattle.opening.specs.Calls.{andThen, numberOf, countOf}
+use Rattle.opening.specs.Opening.{openedBy, whereAccepted, OpensSketches}
+use Rattle.opening.specs.declared.opening.Opened.the-variants.{Refused, Session}
+use Rattle.opening.proofs.Replies.{Held, strike-held, struck-counted, started-counted, refused-opened, refused-only, refused-where, front-over}
+
+module _ (cs ps pattern places room : List ℕ) (k c u v : ℕ) (threshold : ℤ) (work : List ℕ) (long : length room ≡ 4096) where
+  es : List Entry
+  es = struck c (entries cs ps)
+
+  abbrev reply : Reply
+  reply = strikeReply cs ps c 4096 (length places)
+
+  abbrev task : Task
+  task = taskOf (codes (struck c (entries cs ps))) pattern u v threshold
+
+  module _ (r : Struck) (answer : struckReply r ≡ strikeReply cs ps c (length room) (length places)) (written places′ : List ℕ) (codes-are : written ≡ strikeCodes cs ps c room places) (positions-are : places′ ≡ strikePositions cs ps c room places) (n m : ℕ) (number : n ≡ numberOf (struckReply r)) (count : m ≡ countOf (struckReply r)) where
+    replied : struckReply r ≡ reply
+    replied = rw long at answer
+
+    numbered : n ≡ numberOf reply
+    numbered = number ∙ ap numberOf replied
+
+    left : places′ ≡ after reply (positions (struck c (entries cs ps))) places
+    unfolding strikePositions
+    left = rw long at positions-are
+
+    pub strike-refused : n ≢ 0 → OpensSketches cs ps pattern k c u v threshold places work (Refused n) places′ work
+    strike-refused h =
+        let not-zero : numberOf reply ≢ 0 = λ e. h (numbered ∙ e) in
+        record {
+          answer = ap Refused numbered ∙ refused-opened reply (startReply task (length work)) k (length pattern) not-zero;
+          positions-after = left;
+          work-after = refused-where reply (startWords task work) work not-zero;
+        }
+
+    module _ (zero : n ≡ 0) where
+      accepts : reply ≡ accepted (m ∷ [])
+      accepts = sym replied ∙ struck-counted r (sym number ∙ zero) ∙ ap (λ (i : ℕ). accepted (i ∷ [])) (sym count)
+
+      held : Held (length (struck c (entries cs ps))) 4096 (length places) m
+      held = strike-held cs ps c 4096 (length places) m accepts
+
+      written-is : written ≡ over (codes (struck c (entries cs ps))) room
+      unfolding strikeCodes
+      written-is = let e : written ≡ after reply (codes (struck c (entries cs ps))) room = rw long at codes-are in e ∙ ap (λ (a : Reply). after a (codes (struck c (entries cs ps))) room) accepts
+
+      front : take m written ≡ codes (struck c (entries cs ps))
+      front = ap (take m) written-is ∙ front-over (codes (struck c (entries cs ps))) room m (held .number ∙ sym (length-codes (struck c (entries cs ps))))
+
+      -- the struck codes lie within their buffer
+      pub inside : m ≤ 4096
+      inside = held .in-codes
+
+      module _ (s : Started) (work′ : List ℕ) (started : startedReply s ≡ startReply (taskOf (take m written) pattern u v threshold) (length work)) (words : work′ ≡ startWords (taskOf (take m written) pattern u v threshold) work) (n′ : ℕ) (number′ : n′ ≡ numberOf (startedReply s)) where
+        starts : startedReply s ≡ startReply task (length work)
+        starts = started ∙ ap (λ (l : List ℕ). startReply (taskOf l pattern u v threshold) (length work)) front
+
+        work-is : work′ ≡ whereAccepted reply (startWords task work) work
+        work-is = words ∙ ap (λ (l : List ℕ). startWords (taskOf l pattern u v threshold) work) front ∙ sym (ap (λ (a : Reply). whereAccepted a (startWords task work) work) accepts)
+
+        opened : openedBy (startReply task (length work)) k (length pattern) ≡ openedBy (andThen reply (startReply task (length work))) k (length pattern)
+        opened = sym (ap (λ (a : Reply). openedBy (andThen a (startReply task (length work))) k (length pattern)) accepts)
+
+        pub start-refused : n′ ≢ 0 → OpensSketches cs ps pattern k c u v threshold places work (Refused n′) places′ work′
+        start-refused h =
+            let e : n′ ≡ numberOf (startReply task (length work)) = number′ ∙ ap numberOf starts in
+            record {
+              answer = ap Refused e ∙ refused-only (startReply task (length work)) k (length pattern) (λ z. h (e ∙ z)) ∙ opened;
+              positions-after = left;
+              work-after = work-is;
+            }
+
+        pub start-accepted : n′ ≡ 0 → OpensSketches cs ps pattern k c u v threshold places work (Session k (length pattern)) places′ work′
+        start-accepted z =
+            let e : startReply task (length work) ≡ accepted (countOf (startedReply s) ∷ []) = sym starts ∙ started-counted s (sym number′ ∙ z) in
+            record {
+              answer = sym (ap (λ (a : Reply). openedBy a k (length pattern)) e) ∙ opened;
+              positions-after = left;
+              work-after = work-is;
+            }

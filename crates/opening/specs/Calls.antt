@@ -1,0 +1,58 @@
+-- The task that an input asks for, the replies of the calls in their order, and a reply as numbers.
+-- Assumes nothing.
+use Prim.Native.Nat.{ℕ}
+use mathlib.Core.List.{List, [], _∷_}
+use lib.IntN.{ℤ}
+use Rattle.counts.specs.Replies.{Reply, accepted, refused}
+use Rattle.sketch.specs.Kmers.{Entry, codes, positions}
+use Rattle.sketch.specs.Sketch.{sketch, sketchReply}
+use Rattle.strike.specs.Strike.{struck, strikeReply}
+use Rattle.mappings.specs.Score.{Task}
+use Rattle.start.specs.Start.{startReply}
+use Rattle.listing.specs.Limits.{lineLimit}
+use Rattle.listing.specs.Input.{Settings}
+
+-- the struck text and the pattern, as entries
+unfoldable pub textOf : Settings → List ℕ → List Entry
+textOf s letters = struck (s .c) (sketch (s .k) (s .w) letters)
+
+unfoldable pub patternOf : Settings → List ℕ → List Entry
+patternOf s letters = sketch (s .k) (s .w) letters
+
+unfoldable pub taskOf : Settings → List ℕ → List ℕ → Task
+taskOf s text read = record {
+  text = codes (textOf s text);
+  pattern = codes (patternOf s read);
+  u = s .u;
+  v = s .v;
+  threshold = s .threshold;
+}
+
+-- the first call's refusal; where it accepts, what the next one answers
+abbrev pub andThen : Reply → Reply → Reply
+andThen (accepted values) next = next
+andThen (refused number values) next = refused number values
+
+-- the calls run in this order: sketch of the text, sketch of the read, strike, start. Each buffer of `maplist` has a place for each
+-- letter; `room` is that of the buffer for the struck text's positions, `lent` the number of work words
+unfoldable pub sketchesReply : Settings → List ℕ → List ℕ → Reply
+sketchesReply s text read = andThen (sketchReply (s .k) (s .w) text lineLimit lineLimit) (sketchReply (s .k) (s .w) read lineLimit lineLimit)
+
+unfoldable pub strikingReply : Settings → List ℕ → List ℕ → ℕ → Reply
+strikingReply s text read room =
+    andThen (sketchesReply s text read)
+    (strikeReply (codes (sketch (s .k) (s .w) text)) (positions (sketch (s .k) (s .w) text)) (s .c) lineLimit room)
+
+unfoldable pub callsReply : Settings → List ℕ → List ℕ → ℕ → ℕ → Reply
+callsReply s text read room lent = andThen (strikingReply s text read room) (startReply (taskOf s text read) lent)
+
+-- a reply as numbers: the refusal number, or 0
+abbrev pub numberOf : Reply → ℕ
+numberOf (accepted values) = 0
+numberOf (refused number values) = number
+
+-- and the entries or hits that an accepted call answers
+abbrev pub countOf : Reply → ℕ
+countOf (accepted []) = 0
+countOf (accepted (n ∷ values)) = n
+countOf (refused number values) = 0

@@ -1,0 +1,3 @@
+-- The calls that `maplist` makes before its steps.
+pub mod Calls
+pub mod Opening

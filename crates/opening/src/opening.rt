@@ -1,0 +1,129 @@
+// The calls from the bytes of the input up to start.
+// Assumes nothing.
+use crate::calls::sketch_call;
+use crate::calls::start_call;
+use crate::calls::strike_call;
+use listing::input::Request;
+use listing::input::read_input;
+ghost use mathlib.Core.Path.{_≡_};
+ghost use lib.ListN.{length};
+ghost use Rattle.counts.specs.Keys.{zeros};
+ghost use Rattle.listing.specs.Input.{given, inputOf};
+ghost use Rattle.opening.specs.Opening.{Opens, OpensSketches, settings};
+
+// A session in the work words, with k and the number of entries of the read's sketch; or why there is none: what is malformed, or
+// the number of the first call that refuses.
+pub enum Opened {
+    Malformed,
+    Refused(u32),
+    Session { k: u32, size: usize },
+}
+
+fn zeros_4096() -> [u32; 4096]
+    ensures { λ r. ⌜ (4096 ≡ length r) × (r ≡ zeros 4096) ⌝ }
+{
+    [0u32; 4096]
+}
+
+// Strikes the text's sketch and starts the session. The struck text's positions stay in `positions`.
+fn open_sketches(
+    codes: &[u32],
+    places: &[u32],
+    pattern: &[u32],
+    k: u32,
+    c: u32,
+    u: u32,
+    v: u32,
+    threshold: i32,
+    positions: &mut [u32],
+    work: &mut [u32],
+) -> Opened
+    ensures { λ r. ⌜ OpensSketches (now (codes .entry)) (now (places .entry)) (now (pattern .entry)) k c u v threshold (now (positions .entry)) (now (work .entry)) r (now (positions .exit)) (now (work .exit)) ⌝ }
+{
+    let mut text = zeros_4096();
+    let struck = strike_call(strike::strike(codes, places, c, &mut text, positions));
+    if struck.number != 0 {
+        return Opened::Refused(struck.number);
+    }
+    let started = start_call(start::start(&text[..struck.count], pattern, u, v, threshold, work));
+    if started.number != 0 {
+        return Opened::Refused(started.number);
+    }
+    Opened::Session {
+        k,
+        size: pattern.len(),
+    }
+}
+
+// Sketches the text and the read, and goes on with the sketches.
+fn open_lines(
+    text: &[u8],
+    read: &[u8],
+    k: u32,
+    w: u32,
+    c: u32,
+    u: u32,
+    v: u32,
+    threshold: i32,
+    positions: &mut [u32],
+    work: &mut [u32],
+) -> Opened
+    ensures { λ r. ⌜ Opens (given (settings k w c u v threshold) (now (text .entry)) (now (read .entry))) (now (positions .entry)) (now (work .entry)) r (now (positions .exit)) (now (work .exit)) ⌝ }
+{
+    let mut codes = zeros_4096();
+    let mut places = zeros_4096();
+    let of_text = sketch_call(sketch::sketch(text, k, w, &mut codes, &mut places));
+    if of_text.number != 0 {
+        return Opened::Refused(of_text.number);
+    }
+    let mut pattern = zeros_4096();
+    let mut unused = zeros_4096();
+    let of_read = sketch_call(sketch::sketch(read, k, w, &mut pattern, &mut unused));
+    if of_read.number != 0 {
+        return Opened::Refused(of_read.number);
+    }
+    open_sketches(
+        &codes[..of_text.count],
+        &places[..of_text.count],
+        &pattern[..of_read.count],
+        k,
+        c,
+        u,
+        v,
+        threshold,
+        positions,
+        work,
+    )
+}
+
+// Reads the input and makes the calls in their order.
+pub fn open(bytes: &[u8], positions: &mut [u32], work: &mut [u32]) -> Opened
+    ensures { λ r. ⌜ Opens (inputOf (now (bytes .entry))) (now (positions .entry)) (now (work .entry)) r (now (positions .exit)) (now (work .exit)) ⌝ }
+{
+    match read_input(bytes) {
+        Request::Malformed => Opened::Malformed,
+        Request::Given {
+            k,
+            w,
+            c,
+            u,
+            v,
+            threshold,
+            text,
+            text_end,
+            read,
+            read_end,
+        } => open_lines(
+            &bytes[text..text_end],
+            &bytes[read..read_end],
+            k,
+            w,
+            c,
+            u,
+            v,
+            threshold,
+            positions,
+            work,
+        ),
+    }
+}
