@@ -1,5 +1,5 @@
 //! Prints how many cases were compared with the brute force and how many differ. Ends with status 1 where one differs, or where a
-//! refusal number was not met.
+//! refusal of document 01's table was not met.
 //! Assumes nothing.
 
 use std::process::ExitCode;

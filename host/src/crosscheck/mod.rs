@@ -14,7 +14,7 @@ mod tally;
 
 use tally::Tally;
 
-/// Runs all parts and prints what was compared. Whether nothing differs and every refusal number was met.
+/// Runs all parts and prints what was compared. Whether nothing differs and the whole table of refusals was met.
 pub fn run() -> bool {
     let mut tally = Tally::new();
     println!("Random cases, small, each beside the brute force");

@@ -26,7 +26,7 @@ enum Places {
     Ends,
 }
 
-/// Which hits stand at these many places of the text, in order.
+/// The 2,048 indices of the text at which hits stand.
 fn places(random: &mut Random, kind: Places) -> Vec<usize> {
     let half = MAX_HITS / 2;
     match kind {

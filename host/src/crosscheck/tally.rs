@@ -9,6 +9,26 @@ use crate::reference::refusal::Refusal;
 /// How many differences of a part are printed in words.
 const SHOWN: usize = 5;
 
+/// Document 01's table of refusals: each number, and the calls that return it, by name.
+const REFUSALS: [(u32, &[&str]); 16] = [
+    (1, &["count", "save", "sketch"]),
+    (2, &["count", "save", "sketch"]),
+    (3, &["count", "sketch"]),
+    (4, &["load", "save", "sketch", "strike"]),
+    (5, &["save", "strike"]),
+    (6, &["strike"]),
+    (7, &["start"]),
+    (8, &["start", "strike"]),
+    (9, &["start"]),
+    (10, &["start", "step"]),
+    (11, &["start"]),
+    (12, &["load"]),
+    (13, &["load"]),
+    (14, &["load"]),
+    (15, &["step"]),
+    (16, &["per mille"]),
+];
+
 /// What has been met: for each refusal number, how often by which call; and how many mappings were listed in the part in hand.
 #[derive(Default)]
 pub struct Met {
@@ -73,19 +93,24 @@ impl Tally {
         (self.part_compared, self.part_differ) = (0, 0);
     }
 
-    /// Prints the refusals met and the sums. Whether nothing differs and each number from 1 to 16 was met.
-    pub fn print_end(&self) -> bool {
+    /// Prints the refusals met. Whether each number of the table was met by exactly the calls that return it.
+    fn print_refusals(&self) -> bool {
         println!("\nRefusal numbers met, each with its second value where it has one");
         for (number, calls) in &self.met.numbers {
             let calls: Vec<String> = calls.iter().map(|(call, times)| format!("{call} {times}")).collect();
             println!("  {number}: {}", calls.join(", "));
         }
-        let missing: Vec<String> =
-            (1..=16).filter(|number| !self.met.numbers.contains_key(number)).map(|n: u32| n.to_string()).collect();
-        if !missing.is_empty() {
-            println!("  NOT MET: {}", missing.join(", "));
-        }
+        let met: Vec<(u32, Vec<&str>)> =
+            self.met.numbers.iter().map(|(&number, calls)| (number, calls.keys().copied().collect())).collect();
+        let all = met.iter().map(|(number, calls)| (*number, calls.as_slice())).eq(REFUSALS);
+        println!("  {}", if all { "all of document 01's table, by each call" } else { "NOT THE WHOLE TABLE" });
+        all
+    }
+
+    /// Prints the refusals met and the sums. Whether nothing differs and the whole table of refusals was met.
+    pub fn print_end(&self) -> bool {
+        let all = self.print_refusals();
         println!("\n{} compared, {} differ", self.compared, self.differ);
-        self.differ == 0 && missing.is_empty()
+        all && self.differ == 0
     }
 }

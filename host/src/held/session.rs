@@ -61,7 +61,7 @@ impl Session {
         self.rule.q
     }
 
-    /// Holds one step, lent the first words only where it says so, and returns its answer.
+    /// Holds one step, which is lent the first `step.lent` words, and returns its answer.
     pub fn step(&mut self, step: Step) -> Result<Answer, Difference> {
         let answer = self.rule.step(step);
         let before = StepWords { a: 1, b: 2, score: -3, m: 4, cells: UNWRITTEN };
