@@ -7,7 +7,7 @@ use crate::jobs::{self, HITS, K, LETTERS, PATTERN, TEXT};
 use crate::ours;
 use crate::runs::{count_run, sketch_run, start_run, step_run, strike_run};
 use crate::table::{each, milliseconds, ratio};
-use crate::timing::{Run, Timed, checksum, race, timed};
+use crate::timing::{Run, best_times, checksum, timed};
 
 const ROUNDS: usize = 20;
 
@@ -17,13 +17,10 @@ fn print_head() {
     println!("|---|---|---|---|---|---|---|---|");
 }
 
-fn best(mut run: Run) -> Timed {
-    race(std::slice::from_mut(&mut run), ROUNDS)[0]
-}
-
-/// Prints a job at two sizes, whose costs are counted in these items.
+/// Prints a job at two sizes, whose costs are counted in these items. The two take turns.
 fn print(job: &str, (from, small): (usize, Run), (to, large): (usize, Run)) {
-    let (small, large) = (best(small), best(large));
+    let best = best_times(&mut [small, large], ROUNDS);
+    let (small, large) = (best[0], best[1]);
     let grows = format!("{:.1} for {:.1}", ratio(large, small), to as f64 / from as f64);
     let (few, many) = (milliseconds(small), milliseconds(large));
     println!("| {job} | {from} | {to} | {few} | {many} | {grows} | {} | {} |", each(small, from), each(large, to));
