@@ -87,7 +87,7 @@ fn start_rows() {
 fn step_rows() {
     let run = |h: usize, budget| {
         let (text, pattern) = jobs::session(TEXT, PATTERN, h);
-        (h * (h + 1) / 2, step_run(ours::start, calls::step, &text, &pattern, budget))
+        (h * (h + 1) / 2, step_run(ours::start, ours::step(), &text, &pattern, budget))
     };
     print("one step over all cells, h 1024 to 2048", run(HITS / 2, u32::MAX), run(HITS, u32::MAX));
     print("steps of budget 1 over all cells, h 1024 to 2048", run(HITS / 2, 1), run(HITS, 1));

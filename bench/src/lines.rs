@@ -1,8 +1,6 @@
 //! The lines of the speed table: each job with its inputs, its checksum and who runs it.
 //! Assumes nothing.
 
-use host::calls;
-
 use crate::jobs::K;
 use crate::ours;
 use crate::plain::{fastest_sketch, fastest_start, fastest_step, sketch, start, step, strike};
@@ -39,12 +37,22 @@ pub fn start_line(text: &[u32], pattern: &[u32]) -> Line {
     line(job, text.len(), Some(1.5), runs)
 }
 
-/// All cells of h hits, by steps of this budget.
-pub fn step_line(text: &[u32], pattern: &[u32], h: usize, budget: u32, job: &str, goal: Option<f64>) -> Line {
-    let runs = [
-        step_run(ours::start, calls::step, text, pattern, budget),
-        step_run(start::start, step::step, text, pattern, budget),
-        step_run(fastest_start::start, fastest_step::step, text, pattern, budget),
-    ];
-    line(job.to_string(), h * (h + 1) / 2, goal, runs)
+/// All cells of h hits by one step, and the same cells by steps of budget 1. All six runs take turns, since the two lines are compared.
+pub fn step_lines(text: &[u32], pattern: &[u32], h: usize) -> [Line; 2] {
+    let runs = |budget| {
+        [
+            step_run(ours::start, ours::step(), text, pattern, budget),
+            step_run(start::start, step::step, text, pattern, budget),
+            step_run(fastest_start::start, fastest_step::step, text, pattern, budget),
+        ]
+    };
+    let mut all: Vec<Run> = runs(u32::MAX).into_iter().chain(runs(1)).collect();
+    let best = race(&mut all, ROUNDS);
+    let items = h * (h + 1) / 2;
+    let line =
+        |job: String, goal, at: usize| Line { job, items, goal, ours: best[at], plain: best[at + 1], fastest: best[at + 2] };
+    [
+        line(format!("one step over all {items} cells of h {h}"), Some(1.1), 0),
+        line("the same cells by steps of budget 1".to_string(), None, 3),
+    ]
 }

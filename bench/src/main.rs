@@ -3,7 +3,7 @@
 
 use bench::growth;
 use bench::jobs::{self, HITS, LETTERS, PATTERN, TEXT};
-use bench::lines::{count_line, sketch_line, start_line, step_line, strike_line};
+use bench::lines::{count_line, sketch_line, start_line, step_lines, strike_line};
 use bench::plain::{fastest_strike, hash_strike};
 use bench::table::{print, print_head, print_singles};
 use bench::timing::ROUNDS;
@@ -26,9 +26,8 @@ fn print_speed() {
     }
     let (text, pattern) = jobs::session(TEXT, PATTERN, HITS);
     print(&start_line(&text, &pattern));
-    let single = step_line(&text, &pattern, HITS, u32::MAX, "one step over all 2098176 cells of h 2048", Some(1.1));
+    let [single, ones] = step_lines(&text, &pattern, HITS);
     print(&single);
-    let ones = step_line(&text, &pattern, HITS, 1, "the same cells by steps of budget 1", None);
     print(&ones);
     print_singles(&single, &ones, 5.0);
 }

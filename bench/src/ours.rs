@@ -1,7 +1,8 @@
 //! The proved functions that the table times, in the shapes that plain Rust has too.
 //! Assumes nothing.
 
-use host::calls;
+use host::calls::{self, Stepped};
+use host::exported::{self, StepWords};
 use host::reference::refusal::Refusal;
 
 use crate::signatures::Count;
@@ -26,4 +27,13 @@ pub fn strike(codes: &[u32], positions: &[u32], c: u32, codes_out: &mut [u32], p
 
 pub fn start(text: &[u32], pattern: &[u32], u: u32, v: u32, threshold: i32, work: &mut [u32]) -> i32 {
     signed(calls::start(text, pattern, u, v, threshold, work))
+}
+
+/// A step whose answer's words are lent anew with each call, and not made anew.
+pub fn step() -> impl FnMut(&mut [u32], u32) -> Stepped {
+    let mut words = StepWords::default();
+    move |work, budget| {
+        let kind = exported::step(work, budget, &mut words);
+        calls::stepped(kind, words)
+    }
 }

@@ -47,7 +47,7 @@ pub fn start_run<'a>(start: Start, text: &'a [u32], pattern: &'a [u32]) -> Run<'
 
 /// Passes all cells by steps of this budget, and returns how many there were. The step is a type of its own, not a pointer, so that a
 /// call of it is one as in any Rust program.
-fn pass_all(step: impl Fn(&mut [u32], u32) -> Stepped, work: &mut [u32], budget: u32) -> u32 {
+fn pass_all(step: &mut impl FnMut(&mut [u32], u32) -> Stepped, work: &mut [u32], budget: u32) -> u32 {
     let mut passed = 0;
     loop {
         match step(work, budget) {
@@ -62,7 +62,7 @@ fn pass_all(step: impl Fn(&mut [u32], u32) -> Stepped, work: &mut [u32], budget:
 /// pass all.
 pub fn step_run(
     start: Start,
-    step: impl Fn(&mut [u32], u32) -> Stepped + Copy + 'static,
+    mut step: impl FnMut(&mut [u32], u32) -> Stepped + 'static,
     text: &[u32],
     pattern: &[u32],
     budget: u32,
@@ -72,7 +72,7 @@ pub fn step_run(
     let mut work = fresh.clone();
     Box::new(move || {
         work.copy_from_slice(&fresh);
-        let (time, cells) = timed(|| pass_all(step, &mut work, budget));
+        let (time, cells) = timed(|| pass_all(&mut step, &mut work, budget));
         (time, checksum([cells, work[3]]))
     })
 }

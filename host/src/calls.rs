@@ -70,9 +70,8 @@ pub enum Stepped {
     Refused(u32),
 }
 
-pub fn step(work: &mut [u32], budget: u32) -> Stepped {
-    let mut words = StepWords::default();
-    let kind = exported::step(work, budget, &mut words);
+/// The answer of a step with this kind and these words.
+pub fn stepped(kind: u32, words: StepWords) -> Stepped {
     let StepWords { a, b, score, m, cells } = words;
     match kind {
         0 => Stepped::Found { a, b, score, m, cells },
@@ -80,4 +79,10 @@ pub fn step(work: &mut [u32], budget: u32) -> Stepped {
         2 => Stepped::Spent(cells),
         number => Stepped::Refused(number),
     }
+}
+
+pub fn step(work: &mut [u32], budget: u32) -> Stepped {
+    let mut words = StepWords::default();
+    let kind = exported::step(work, budget, &mut words);
+    stepped(kind, words)
 }
