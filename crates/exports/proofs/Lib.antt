@@ -1,3 +1,2 @@
--- What the numbers of an exported call tell.
-pub mod Accepted
+-- What the numbers of an exported step tell.
 pub mod Stepping

@@ -1,3 +1,2 @@
--- What the exported calls hand out: the numbers of a reply, and those of a step.
-pub mod Numbers
+-- What a step hands out through the C boundary.
 pub mod Steps

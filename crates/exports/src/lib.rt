@@ -1,20 +1,19 @@
 // The calls of document 01 for programs in other languages: numbers and slices only, since an enum does not cross the C boundary.
 // `number` becomes 0 where the call is accepted, else 01's refusal number; the result is the value answered, or the second value.
 // A caller passes each slice as two arguments, a pointer and a length, and not as one of 16 bytes. Assumes nothing.
-mod numbers;
 mod steps;
 
-use crate::numbers::k_after;
-use crate::numbers::of_load;
-use crate::numbers::of_save;
-use crate::numbers::of_sketch;
-use crate::numbers::of_start;
-use crate::numbers::of_strike;
-use crate::numbers::w_after;
 use crate::steps::Mapping;
 use crate::steps::cells_of;
 use crate::steps::kind_of;
 use crate::steps::mapping_after;
+use answers::k_after;
+use answers::of_load;
+use answers::of_save;
+use answers::of_sketch;
+use answers::of_start;
+use answers::of_strike;
+use answers::w_after;
 use mapper::session::step;
 ghost use mathlib.Core.Path.{_≡_};
 ghost use lib.ListN.{length};
@@ -24,7 +23,7 @@ ghost use Rattle.store.specs.Save.{saveReply, saveWords};
 ghost use Rattle.store.specs.Load.{loadReply, loadCodes, loadPositions};
 ghost use Rattle.start.specs.Answers.{taskOf};
 ghost use Rattle.start.specs.Start.{startReply, startWords};
-ghost use Rattle.exports.specs.Numbers.{numberOf, valueOf, kAfter, wAfter};
+ghost use Rattle.answers.specs.Numbers.{numberOf, valueOf, kAfter, wAfter};
 ghost use Rattle.exports.specs.Steps.{lentMapping, Steps};
 
 #[no_mangle]

@@ -16,15 +16,17 @@ use Rattle.strike.proofs.Laws.{length-codes, length-positions}
 use Rattle.start.specs.Start.{startReply, startWords}
 use Rattle.start.specs.Answers.{taskOf as taskWith}
 use Rattle.listing.specs.Input.{Settings, given}
-use Rattle.opening.specs.Calls.{textOf, patternOf, taskOf, andThen, sketchesReply, strikingReply, callsReply, numberOf, countOf}
+use Rattle.answers.specs.Numbers.{numberOf, valueOf}
+use Rattle.answers.proofs.Accepted.{Tells, sketch-tells}
+use Rattle.opening.specs.Calls.{textOf, patternOf, taskOf, andThen, sketchesReply, strikingReply, callsReply}
 use Rattle.opening.specs.Opening.{openedBy, openedOf, positionsAfter, whereAccepted, workAfter, Opens, OpensSketches}
 use Rattle.opening.specs.declared.opening.Opened.{Opened}
 use Rattle.opening.specs.declared.opening.Opened.the-variants.{Refused}
-use Rattle.opening.proofs.Replies.{Held, sketch-held, sketched-counted, refused-opened, refused-after, refused-where, front-over}
+use Rattle.opening.proofs.Replies.{Held, sketch-held, refused-opened, refused-after, refused-where, front-over}
 
 -- ---- one sketch in two buffers of 4,096 words, and its answer as numbers
 
-module _ (k w : ℕ) (letters codes₀ places₀ codes₁ places₁ : List ℕ) (r : Sketched) (made : Sketches k w letters codes₀ places₀ r codes₁ places₁) (long : length codes₀ ≡ 4096) (long′ : length places₀ ≡ 4096) (n m : ℕ) (number : n ≡ numberOf (replyOf r)) (count : m ≡ countOf (replyOf r)) where
+module _ (k w : ℕ) (letters codes₀ places₀ codes₁ places₁ : List ℕ) (r : Sketched) (made : Sketches k w letters codes₀ places₀ r codes₁ places₁) (long : length codes₀ ≡ 4096) (long′ : length places₀ ≡ 4096) (n m : ℕ) (number : n ≡ numberOf (replyOf r)) (count : m ≡ valueOf (replyOf r)) where
   abbrev reply : Reply
   reply = sketchReply k w letters 4096 4096
 
@@ -36,7 +38,7 @@ module _ (k w : ℕ) (letters codes₀ places₀ codes₁ places₁ : List ℕ) 
 
   module _ (zero : n ≡ 0) where
     pub sketch-accepts : reply ≡ accepted (m ∷ [])
-    sketch-accepts = sym replied ∙ sketched-counted r (sym number ∙ zero) ∙ ap (λ (i : ℕ). accepted (i ∷ [])) (sym count)
+    sketch-accepts = sketch-tells k w letters 4096 4096 .tells (sym sketch-number ∙ zero) ∙ ap (λ (i : ℕ). accepted (i ∷ [])) (sym (count ∙ ap valueOf replied))
 
     held : Held (length (sketch k w letters)) 4096 4096 m
     held = sketch-held k w letters 4096 4096 m sketch-accepts

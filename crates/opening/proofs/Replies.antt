@@ -1,4 +1,4 @@
--- What an accepted call says of its buffers, and the answers of sketch, strike and start as numbers.
+-- What an accepted call says of its buffers, and what a refused one leaves.
 -- Assumes nothing.
 use Prim.Native.Nat.{ℕ, _≤_}
 use native.Mathlib.Omega.{arith}
@@ -15,17 +15,9 @@ use Rattle.counts.proofs.Lists.{or-neither}
 use Rattle.sketch.specs.Limits.{kLimit, wLimit, letterLimit, textLimit, outside}
 use Rattle.sketch.specs.Kmers.{Entry, codes, positions, entries}
 use Rattle.sketch.specs.Sketch.{sketch, checkedLetters, roomFor, sketchReply}
-use Rattle.sketch.specs.Answers.{replyOf as sketchedReply}
-use Rattle.sketch.specs.declared.Sketched.{Sketched}
-use Rattle.sketch.specs.declared.Sketched.the-variants as sketched
 use Rattle.strike.specs.Strike.{strikeLimit, struck, strikeReply}
-use Rattle.strike.specs.Answers.{replyOf as struckReply}
-use Rattle.strike.specs.declared.Struck.{Struck}
-use Rattle.strike.specs.declared.Struck.the-variants as strikes
-use Rattle.start.specs.Answers.{startedReply}
-use Rattle.start.specs.declared.Started.{Started}
-use Rattle.start.specs.declared.Started.the-variants as starts
-use Rattle.opening.specs.Calls.{andThen, numberOf, countOf}
+use Rattle.answers.specs.Numbers.{numberOf}
+use Rattle.opening.specs.Calls.{andThen}
 use Rattle.opening.specs.Opening.{openedBy, whereAccepted}
 use Rattle.opening.specs.declared.opening.Opened.{Opened}
 use Rattle.opening.specs.declared.opening.Opened.the-variants.{Refused}
@@ -71,33 +63,6 @@ strike-held cs ps c a b m e =
     let q = passed (ltb textLimit (length cs)) 8 [] _ (m ∷ []) (p .1) in
     let r = passed (outside 1 strikeLimit c) 6 [] _ (m ∷ []) (q .1) in
     room-held (length (struck c (entries cs ps))) a b m (r .1)
-
--- ---- answers as numbers: 0 is the number of the accepted call alone
-
-abbrev pub Counted : Reply → Type 0
-Counted reply = numberOf reply ≡ 0 → reply ≡ accepted (countOf reply ∷ [])
-
-pub sketched-counted : (r : Sketched) → Counted (sketchedReply r)
-sketched-counted (sketched.Entries n) e = refl
-sketched-counted sketched.BadK e = absurd (omega arith)
-sketched-counted sketched.BadW e = absurd (omega arith)
-sketched-counted sketched.TooManyLetters e = absurd (omega arith)
-sketched-counted (sketched.TooShort n) e = absurd (omega arith)
-
-pub struck-counted : (r : Struck) → Counted (struckReply r)
-struck-counted (strikes.Entries n) e = refl
-struck-counted strikes.NotPaired e = absurd (omega arith)
-struck-counted strikes.TooManyEntries e = absurd (omega arith)
-struck-counted strikes.BadLimit e = absurd (omega arith)
-struck-counted (strikes.TooShort n) e = absurd (omega arith)
-
-pub started-counted : (r : Started) → Counted (startedReply r)
-started-counted (starts.Hits h) e = refl
-started-counted starts.BadWeights e = absurd (omega arith)
-started-counted starts.TooManyEntries e = absurd (omega arith)
-started-counted starts.BadPattern e = absurd (omega arith)
-started-counted starts.TooFewWords e = absurd (omega arith)
-started-counted (starts.TooManyHits h) e = absurd (omega arith)
 
 -- ---- a refused call
 

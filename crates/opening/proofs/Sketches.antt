@@ -17,10 +17,12 @@ use Rattle.mappings.specs.Score.{Task}
 use Rattle.start.specs.Start.{startReply, startWords}
 use Rattle.start.specs.Answers.{startedReply, taskOf}
 use Rattle.start.specs.declared.Started.{Started}
-use Rattle.opening.specs.Calls.{andThen, numberOf, countOf}
+use Rattle.answers.specs.Numbers.{numberOf, valueOf}
+use Rattle.answers.proofs.Accepted.{Tells, strike-tells, start-tells}
+use Rattle.opening.specs.Calls.{andThen}
 use Rattle.opening.specs.Opening.{openedBy, whereAccepted, OpensSketches}
 use Rattle.opening.specs.declared.opening.Opened.the-variants.{Refused, Session}
-use Rattle.opening.proofs.Replies.{Held, strike-held, struck-counted, started-counted, refused-opened, refused-only, refused-where, front-over}
+use Rattle.opening.proofs.Replies.{Held, strike-held, refused-opened, refused-only, refused-where, front-over}
 
 module _ (cs ps pattern places room : List ℕ) (k c u v : ℕ) (threshold : ℤ) (work : List ℕ) (long : length room ≡ 4096) where
   es : List Entry
@@ -32,7 +34,7 @@ module _ (cs ps pattern places room : List ℕ) (k c u v : ℕ) (threshold : ℤ
   abbrev task : Task
   task = taskOf (codes (struck c (entries cs ps))) pattern u v threshold
 
-  module _ (r : Struck) (answer : struckReply r ≡ strikeReply cs ps c (length room) (length places)) (written places′ : List ℕ) (codes-are : written ≡ strikeCodes cs ps c room places) (positions-are : places′ ≡ strikePositions cs ps c room places) (n m : ℕ) (number : n ≡ numberOf (struckReply r)) (count : m ≡ countOf (struckReply r)) where
+  module _ (r : Struck) (answer : struckReply r ≡ strikeReply cs ps c (length room) (length places)) (written places′ : List ℕ) (codes-are : written ≡ strikeCodes cs ps c room places) (positions-are : places′ ≡ strikePositions cs ps c room places) (n m : ℕ) (number : n ≡ numberOf (struckReply r)) (count : m ≡ valueOf (struckReply r)) where
     replied : struckReply r ≡ reply
     replied = rw long at answer
 
@@ -54,7 +56,7 @@ module _ (cs ps pattern places room : List ℕ) (k c u v : ℕ) (threshold : ℤ
 
     module _ (zero : n ≡ 0) where
       accepts : reply ≡ accepted (m ∷ [])
-      accepts = sym replied ∙ struck-counted r (sym number ∙ zero) ∙ ap (λ (i : ℕ). accepted (i ∷ [])) (sym count)
+      accepts = strike-tells cs ps c 4096 (length places) .tells (sym numbered ∙ zero) ∙ ap (λ (i : ℕ). accepted (i ∷ [])) (sym (count ∙ ap valueOf replied))
 
       held : Held (length (struck c (entries cs ps))) 4096 (length places) m
       held = strike-held cs ps c 4096 (length places) m accepts
@@ -91,7 +93,7 @@ module _ (cs ps pattern places room : List ℕ) (k c u v : ℕ) (threshold : ℤ
 
         pub start-accepted : n′ ≡ 0 → OpensSketches cs ps pattern k c u v threshold places work (Session k (length pattern)) places′ work′
         start-accepted z =
-            let e : startReply task (length work) ≡ accepted (countOf (startedReply s) ∷ []) = sym starts ∙ started-counted s (sym number′ ∙ z) in
+            let e : startReply task (length work) ≡ accepted (valueOf (startReply task (length work)) ∷ []) = start-tells task (length work) .tells (sym (number′ ∙ ap numberOf starts) ∙ z) in
             record {
               answer = sym (ap (λ (a : Reply). openedBy a k (length pattern)) e) ∙ opened;
               positions-after = left;

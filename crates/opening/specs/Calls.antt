@@ -1,8 +1,7 @@
--- The task that an input asks for, the replies of the calls in their order, and a reply as numbers.
+-- The task that an input asks for, and the replies of the calls in their order.
 -- Assumes nothing.
 use Prim.Native.Nat.{ℕ}
-use mathlib.Core.List.{List, [], _∷_}
-use lib.IntN.{ℤ}
+use mathlib.Core.List.{List}
 use Rattle.counts.specs.Replies.{Reply, accepted, refused}
 use Rattle.sketch.specs.Kmers.{Entry, codes, positions}
 use Rattle.sketch.specs.Sketch.{sketch, sketchReply}
@@ -45,14 +44,3 @@ strikingReply s text read room =
 
 unfoldable pub callsReply : Settings → List ℕ → List ℕ → ℕ → ℕ → Reply
 callsReply s text read room lent = andThen (strikingReply s text read room) (startReply (taskOf s text read) lent)
-
--- a reply as numbers: the refusal number, or 0
-abbrev pub numberOf : Reply → ℕ
-numberOf (accepted values) = 0
-numberOf (refused number values) = number
-
--- and the entries or hits that an accepted call answers
-abbrev pub countOf : Reply → ℕ
-countOf (accepted []) = 0
-countOf (accepted (n ∷ values)) = n
-countOf (refused number values) = 0

@@ -1,8 +1,8 @@
 // The calls from the bytes of the input up to start.
 // Assumes nothing.
-use crate::calls::sketch_call;
-use crate::calls::start_call;
-use crate::calls::strike_call;
+use answers::of_sketch;
+use answers::of_start;
+use answers::of_strike;
 use listing::input::Request;
 use listing::input::read_input;
 ghost use mathlib.Core.Path.{_≡_};
@@ -41,13 +41,13 @@ fn open_sketches(
     ensures { λ r. ⌜ OpensSketches (now (codes .entry)) (now (places .entry)) (now (pattern .entry)) k c u v threshold (now (positions .entry)) (now (work .entry)) r (now (positions .exit)) (now (work .exit)) ⌝ }
 {
     let mut text = zeros_4096();
-    let struck = strike_call(strike::strike(codes, places, c, &mut text, positions));
-    if struck.number != 0 {
-        return Opened::Refused(struck.number);
+    let struck = of_strike(strike::strike(codes, places, c, &mut text, positions));
+    if struck.0 != 0 {
+        return Opened::Refused(struck.0);
     }
-    let started = start_call(start::start(&text[..struck.count], pattern, u, v, threshold, work));
-    if started.number != 0 {
-        return Opened::Refused(started.number);
+    let started = of_start(start::start(&text[..struck.1], pattern, u, v, threshold, work));
+    if started.0 != 0 {
+        return Opened::Refused(started.0);
     }
     Opened::Session {
         k,
@@ -72,20 +72,20 @@ fn open_lines(
 {
     let mut codes = zeros_4096();
     let mut places = zeros_4096();
-    let of_text = sketch_call(sketch::sketch(text, k, w, &mut codes, &mut places));
-    if of_text.number != 0 {
-        return Opened::Refused(of_text.number);
+    let of_text = of_sketch(sketch::sketch(text, k, w, &mut codes, &mut places));
+    if of_text.0 != 0 {
+        return Opened::Refused(of_text.0);
     }
     let mut pattern = zeros_4096();
     let mut unused = zeros_4096();
-    let of_read = sketch_call(sketch::sketch(read, k, w, &mut pattern, &mut unused));
-    if of_read.number != 0 {
-        return Opened::Refused(of_read.number);
+    let of_read = of_sketch(sketch::sketch(read, k, w, &mut pattern, &mut unused));
+    if of_read.0 != 0 {
+        return Opened::Refused(of_read.0);
     }
     open_sketches(
-        &codes[..of_text.count],
-        &places[..of_text.count],
-        &pattern[..of_read.count],
+        &codes[..of_text.1],
+        &places[..of_text.1],
+        &pattern[..of_read.1],
         k,
         c,
         u,

@@ -1,7 +1,7 @@
 -- `huddlewool_load` meets its contract: the numbers are those of what load answers. Assumes nothing.
 use mathlib.Core.Path.{ap, _∙_}
 use Rattle.counts.specs.Replies.{Reply}
-use Rattle.exports.specs.Numbers.{numberOf, valueOf, kAfter, wAfter}
+use Rattle.answers.specs.Numbers.{numberOf, valueOf, kAfter, wAfter}
 use borrow.Author.Needs.{needs}
 use Rattle.exports.proofs.huddlewool_load.Statement.{statement}
 use Rattle.exports.proofs.huddlewool_load.Tie as tie

@@ -1,6 +1,6 @@
 -- `huddlewool_save` meets its contract: the numbers are those of what save answers. Assumes nothing.
 use mathlib.Core.Path.{ap, _∙_}
-use Rattle.exports.specs.Numbers.{numberOf, valueOf}
+use Rattle.answers.specs.Numbers.{numberOf, valueOf}
 use borrow.Author.Needs.{needs}
 use Rattle.exports.proofs.huddlewool_save.Statement.{statement}
 use Rattle.exports.proofs.huddlewool_save.Tie as tie

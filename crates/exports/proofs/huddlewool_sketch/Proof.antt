@@ -1,6 +1,6 @@
 -- `huddlewool_sketch` meets its contract: the numbers are those of what sketch answers. Assumes nothing.
 use mathlib.Core.Path.{ap, _∙_}
-use Rattle.exports.specs.Numbers.{numberOf, valueOf}
+use Rattle.answers.specs.Numbers.{numberOf, valueOf}
 use borrow.Author.Needs.{needs}
 use Rattle.exports.proofs.huddlewool_sketch.Statement.{statement}
 use Rattle.exports.proofs.huddlewool_sketch.Tie as tie

@@ -7,7 +7,7 @@ use mir.ValLaws.{toZ-ofZ}
 use Rattle.mappings.specs.Score.{Task}
 use Rattle.start.specs.Answers.{taskOf}
 use Rattle.start.specs.Start.{startReply, startWords}
-use Rattle.exports.specs.Numbers.{numberOf, valueOf}
+use Rattle.answers.specs.Numbers.{numberOf, valueOf}
 use borrow.Author.Needs.{needs}
 use Rattle.exports.proofs.huddlewool_start.Statement.{statement}
 use Rattle.exports.proofs.huddlewool_start.Tie as tie

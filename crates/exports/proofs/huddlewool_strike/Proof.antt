@@ -1,6 +1,6 @@
 -- `huddlewool_strike` meets its contract: the numbers are those of what strike answers. Assumes nothing.
 use mathlib.Core.Path.{ap, _∙_}
-use Rattle.exports.specs.Numbers.{numberOf, valueOf}
+use Rattle.answers.specs.Numbers.{numberOf, valueOf}
 use borrow.Author.Needs.{needs}
 use Rattle.exports.proofs.huddlewool_strike.Statement.{statement}
 use Rattle.exports.proofs.huddlewool_strike.Tie as tie

@@ -18,13 +18,13 @@ use Rattle.opening.proofs.opening.open_lines.Statement.{statement}
 use Rattle.opening.proofs.opening.open_lines.Tie as tie
 use Rattle.opening.proofs.opening.open_lines.Reads as reads
 use Rattle.opening.proofs.opening.open_lines.Lts as lts
-use Rattle.opening.proofs.calls.sketch_call.Reads as sketch-call-reads
+use Rattle.answers.proofs.of_sketch.Reads as of-sketch-reads
 use Rattle.opening.proofs.opening.open_sketches.Reads as open-sketches-reads
 use Rattle.opening.proofs.opening.zeros_4096.Reads as zeros-4096-reads
 use Rattle.sketch.proofs.sketch.Reads as sketch-reads
 
 -- the text's sketch in its buffers, and its answer as numbers
-module _ (c : tie.After-sketch-call) where
+module _ (c : tie.After-of-sketch) where
   abbrev at-text : tie.After-sketch
   at-text = c .before .before .before
 
@@ -53,14 +53,14 @@ module _ (c : tie.After-sketch-call) where
   text-long′ = sym (at-text .before .before .before .zeros-40962 .ensures .0)
 
   abbrev n : ℕ
-  n = c .sketch-call .result .number
+  n = c .of-sketch .result .0
 
   abbrev m : ℕ
-  m = c .sketch-call .result .count
+  m = c .of-sketch .result .1
 
   module _ (zero : n ≡ 0) where
     text-few : m ≤ 4096
-    text-few = sketch-inside (at-start .args .k) (at-start .args .w) (at-start .args .text .now) text-room text-room′ text-codes text-places (at-text .sketch .result) (at-text .sketch .ensures) text-long text-long′ n m (c .sketch-call .ensures .0) (c .sketch-call .ensures .1) zero
+    text-few = sketch-inside (at-start .args .k) (at-start .args .w) (at-start .args .text .now) text-room text-room′ text-codes text-places (at-text .sketch .result) (at-text .sketch .ensures) text-long text-long′ n m (c .of-sketch .ensures .0) (c .of-sketch .ensures .1) zero
 
     codes-hold : m ≤ length text-codes
     codes-hold = let l : length text-codes ≡ length text-room = at-text .sketch .kept .1 .1 .1 .0 in omega (arith, text-few, text-long)
@@ -69,8 +69,8 @@ module _ (c : tie.After-sketch-call) where
     places-hold = let l : length text-places ≡ length text-room′ = at-text .sketch .kept .1 .1 .1 .1 .0 in omega (arith, text-few, text-long′)
 
 -- the read's sketch
-module _ (c : tie.After-sketch-call2) where
-  abbrev text-call : tie.After-sketch-call
+module _ (c : tie.After-of-sketch2) where
+  abbrev text-call : tie.After-of-sketch
   text-call = c .before .before .before .before .before .before .before .before .before .before
 
   abbrev at-read : tie.After-sketch2
@@ -95,16 +95,16 @@ module _ (c : tie.After-sketch-call2) where
   text-zero = at-read .before .before .before .before .before .if1 .left
 
   abbrev n′ : ℕ
-  n′ = c .sketch-call2 .result .number
+  n′ = c .of-sketch2 .result .0
 
   abbrev m′ : ℕ
-  m′ = c .sketch-call2 .result .count
+  m′ = c .of-sketch2 .result .1
 
   module _ (zero : n′ ≡ 0) where
     read-hold : m′ ≤ length read-codes
     read-hold =
         let args = at-start text-call .args in
-        let few : m′ ≤ 4096 = sketch-inside (args .k) (args .w) (args .read .now) read-room read-room′ read-codes (at-read .sketch2 .last .1 .1 .1 .1 .0) (at-read .sketch2 .result) (at-read .sketch2 .ensures) read-long read-long′ n′ m′ (c .sketch-call2 .ensures .0) (c .sketch-call2 .ensures .1) zero in
+        let few : m′ ≤ 4096 = sketch-inside (args .k) (args .w) (args .read .now) read-room read-room′ read-codes (at-read .sketch2 .last .1 .1 .1 .1 .0) (at-read .sketch2 .result) (at-read .sketch2 .ensures) read-long read-long′ n′ m′ (c .of-sketch2 .ensures .0) (c .of-sketch2 .ensures .1) zero in
         let l : length read-codes ≡ length read-room = at-read .sketch2 .kept .1 .1 .1 .0 in
         omega (arith, read-long)
 
@@ -129,15 +129,15 @@ sketch-requires : tie.Need-sketch-requires
 sketch-requires c κs = search needs
 
 -- src/opening.rt:82:9
-sketch-call-requires : tie.Need-sketch-call-requires
-sketch-call-requires c κs = search needs
+of-sketch-requires : tie.Need-of-sketch-requires
+of-sketch-requires c κs = search needs
 
 -- src/opening.rt:84:9
 returns : tie.Need-returns
 returns c =
     let call = c .before .before in
     let args = at-start call .args in
-    text-refused (given-settings call) (args .text .now) (args .read .now) (args .positions .now) (args .work .now) (n call) (sketch-number (args .k) (args .w) (args .text .now) (text-room call) (text-room′ call) (text-codes call) (text-places call) (at-text call .sketch .result) (at-text call .sketch .ensures) (text-long call) (text-long′ call) (n call) (m call) (call .sketch-call .ensures .0) (call .sketch-call .ensures .1)) (c .if1 .taken)
+    text-refused (given-settings call) (args .text .now) (args .read .now) (args .positions .now) (args .work .now) (n call) (sketch-number (args .k) (args .w) (args .text .now) (text-room call) (text-room′ call) (text-codes call) (text-places call) (at-text call .sketch .result) (at-text call .sketch .ensures) (text-long call) (text-long′ call) (n call) (m call) (call .of-sketch .ensures .0) (call .of-sketch .ensures .1)) (c .if1 .taken)
 
 -- src/opening.rt:86:23
 zeros-4096-requires-3 : tie.Need-zeros-4096-requires-3
@@ -160,8 +160,8 @@ sketch-requires-2 : tie.Need-sketch-requires-2
 sketch-requires-2 c κs = search needs
 
 -- src/opening.rt:88:9
-sketch-call-requires-2 : tie.Need-sketch-call-requires-2
-sketch-call-requires-2 c κs = search needs
+of-sketch-requires-2 : tie.Need-of-sketch-requires-2
+of-sketch-requires-2 c κs = search needs
 
 -- src/opening.rt:90:9
 returns-2 : tie.Need-returns-2
@@ -169,8 +169,8 @@ returns-2 c =
     let c2 = c .before .before in
     let call = text-call c2 in
     let args = at-start call .args in
-    let t = sketch-accepts (args .k) (args .w) (args .text .now) (text-room call) (text-room′ call) (text-codes call) (text-places call) (at-text call .sketch .result) (at-text call .sketch .ensures) (text-long call) (text-long′ call) (n call) (m call) (call .sketch-call .ensures .0) (call .sketch-call .ensures .1) (text-zero c2) in
-    read-refused (given-settings call) (args .text .now) (args .read .now) (args .positions .now) (args .work .now) (m call) t (n′ c2) (sketch-number (args .k) (args .w) (args .read .now) (read-room c2) (read-room′ c2) (read-codes c2) (at-read c2 .sketch2 .last .1 .1 .1 .1 .0) (at-read c2 .sketch2 .result) (at-read c2 .sketch2 .ensures) (read-long c2) (read-long′ c2) (n′ c2) (m′ c2) (c2 .sketch-call2 .ensures .0) (c2 .sketch-call2 .ensures .1)) (c .if2 .taken)
+    let t = sketch-accepts (args .k) (args .w) (args .text .now) (text-room call) (text-room′ call) (text-codes call) (text-places call) (at-text call .sketch .result) (at-text call .sketch .ensures) (text-long call) (text-long′ call) (n call) (m call) (call .of-sketch .ensures .0) (call .of-sketch .ensures .1) (text-zero c2) in
+    read-refused (given-settings call) (args .text .now) (args .read .now) (args .positions .now) (args .work .now) (m call) t (n′ c2) (sketch-number (args .k) (args .w) (args .read .now) (read-room c2) (read-room′ c2) (read-codes c2) (at-read c2 .sketch2 .last .1 .1 .1 .1 .0) (at-read c2 .sketch2 .result) (at-read c2 .sketch2 .ensures) (read-long c2) (read-long′ c2) (n′ c2) (m′ c2) (c2 .of-sketch2 .ensures .0) (c2 .of-sketch2 .ensures .1)) (c .if2 .taken)
 
 -- src/opening.rt:93:9
 array-share-prefix-codes : tie.Need-array-share-prefix-codes
@@ -216,14 +216,14 @@ returns-3 c =
     let c2 = at-else .before .before in
     let call = text-call c2 in
     let args = at-start call .args in
-    let t = sketch-accepts (args .k) (args .w) (args .text .now) (text-room call) (text-room′ call) (text-codes call) (text-places call) (at-text call .sketch .result) (at-text call .sketch .ensures) (text-long call) (text-long′ call) (n call) (m call) (call .sketch-call .ensures .0) (call .sketch-call .ensures .1) (text-zero c2) in
-    let r = sketch-accepts (args .k) (args .w) (args .read .now) (read-room c2) (read-room′ c2) (read-codes c2) (at-read c2 .sketch2 .last .1 .1 .1 .1 .0) (at-read c2 .sketch2 .result) (at-read c2 .sketch2 .ensures) (read-long c2) (read-long′ c2) (n′ c2) (m′ c2) (c2 .sketch-call2 .ensures .0) (c2 .sketch-call2 .ensures .1) (at-else .if2 .left) in
+    let t = sketch-accepts (args .k) (args .w) (args .text .now) (text-room call) (text-room′ call) (text-codes call) (text-places call) (at-text call .sketch .result) (at-text call .sketch .ensures) (text-long call) (text-long′ call) (n call) (m call) (call .of-sketch .ensures .0) (call .of-sketch .ensures .1) (text-zero c2) in
+    let r = sketch-accepts (args .k) (args .w) (args .read .now) (read-room c2) (read-room′ c2) (read-codes c2) (at-read c2 .sketch2 .last .1 .1 .1 .1 .0) (at-read c2 .sketch2 .result) (at-read c2 .sketch2 .ensures) (read-long c2) (read-long′ c2) (n′ c2) (m′ c2) (c2 .of-sketch2 .ensures .0) (c2 .of-sketch2 .ensures .1) (at-else .if2 .left) in
     let same : toZ w32 (ofZ w32 (args .threshold)) ≡ args .threshold = toZ-ofZ w32 (args .threshold) (at-start call .fits .threshold) in
     let places′ = opened .open-sketches .last .1 .1 .1 .1 .1 .1 .1 .1 .0 in
     let work′ = opened .open-sketches .last .1 .1 .1 .1 .1 .1 .1 .1 .1 .0 in
     let o : OpensSketches (take (m call) (text-codes call)) (take (m call) (text-places call)) (take (m′ c2) (read-codes c2)) (args .k) (args .c) (args .u) (args .v) (args .threshold) (args .positions .now) (args .work .now) (opened .open-sketches .result) places′ work′ =
     subst (λ (z : ℤ). OpensSketches (take (m call) (text-codes call)) (take (m call) (text-places call)) (take (m′ c2) (read-codes c2)) (args .k) (args .c) (args .u) (args .v) z (args .positions .now) (args .work .now) (opened .open-sketches .result) places′ work′) same (opened .open-sketches .ensures) in
-    opens-fronts (given-settings call) (args .text .now) (args .read .now) (args .positions .now) (args .work .now) (m call) t (m′ c2) r (take (m call) (text-codes call)) (take (m call) (text-places call)) (take (m′ c2) (read-codes c2)) (codes-front (args .k) (args .w) (args .text .now) (text-room call) (text-room′ call) (text-codes call) (text-places call) (at-text call .sketch .result) (at-text call .sketch .ensures) (text-long call) (text-long′ call) (n call) (m call) (call .sketch-call .ensures .0) (call .sketch-call .ensures .1) (text-zero c2)) (positions-front (args .k) (args .w) (args .text .now) (text-room call) (text-room′ call) (text-codes call) (text-places call) (at-text call .sketch .result) (at-text call .sketch .ensures) (text-long call) (text-long′ call) (n call) (m call) (call .sketch-call .ensures .0) (call .sketch-call .ensures .1) (text-zero c2)) (codes-front (args .k) (args .w) (args .read .now) (read-room c2) (read-room′ c2) (read-codes c2) (at-read c2 .sketch2 .last .1 .1 .1 .1 .0) (at-read c2 .sketch2 .result) (at-read c2 .sketch2 .ensures) (read-long c2) (read-long′ c2) (n′ c2) (m′ c2) (c2 .sketch-call2 .ensures .0) (c2 .sketch-call2 .ensures .1) (at-else .if2 .left)) (opened .open-sketches .result) places′ work′ o
+    opens-fronts (given-settings call) (args .text .now) (args .read .now) (args .positions .now) (args .work .now) (m call) t (m′ c2) r (take (m call) (text-codes call)) (take (m call) (text-places call)) (take (m′ c2) (read-codes c2)) (codes-front (args .k) (args .w) (args .text .now) (text-room call) (text-room′ call) (text-codes call) (text-places call) (at-text call .sketch .result) (at-text call .sketch .ensures) (text-long call) (text-long′ call) (n call) (m call) (call .of-sketch .ensures .0) (call .of-sketch .ensures .1) (text-zero c2)) (positions-front (args .k) (args .w) (args .text .now) (text-room call) (text-room′ call) (text-codes call) (text-places call) (at-text call .sketch .result) (at-text call .sketch .ensures) (text-long call) (text-long′ call) (n call) (m call) (call .of-sketch .ensures .0) (call .of-sketch .ensures .1) (text-zero c2)) (codes-front (args .k) (args .w) (args .read .now) (read-room c2) (read-room′ c2) (read-codes c2) (at-read c2 .sketch2 .last .1 .1 .1 .1 .0) (at-read c2 .sketch2 .result) (at-read c2 .sketch2 .ensures) (read-long c2) (read-long′ c2) (n′ c2) (m′ c2) (c2 .of-sketch2 .ensures .0) (c2 .of-sketch2 .ensures .1) (at-else .if2 .left)) (opened .open-sketches .result) places′ work′ o
 
 pub open-lines-spec : {M : Type 1} → statement M
 open-lines-spec =
@@ -234,14 +234,14 @@ open-lines-spec =
     slice-aggregate-sketch
     slice-aggregate-sketch-2
     sketch-requires
-    sketch-call-requires
+    of-sketch-requires
     returns
     zeros-4096-requires-3
     zeros-4096-requires-4
     slice-aggregate-sketch-3
     slice-aggregate-sketch-4
     sketch-requires-2
-    sketch-call-requires-2
+    of-sketch-requires-2
     returns-2
     array-share-prefix-codes
     slice-aggregate-open-sketches

@@ -23,14 +23,14 @@ use Rattle.opening.proofs.opening.open_sketches.Statement.{statement}
 use Rattle.opening.proofs.opening.open_sketches.Tie as tie
 use Rattle.opening.proofs.opening.open_sketches.Reads as reads
 use Rattle.opening.proofs.opening.open_sketches.Lts as lts
-use Rattle.opening.proofs.calls.start_call.Reads as start-call-reads
-use Rattle.opening.proofs.calls.strike_call.Reads as strike-call-reads
+use Rattle.answers.proofs.of_start.Reads as of-start-reads
+use Rattle.answers.proofs.of_strike.Reads as of-strike-reads
 use Rattle.opening.proofs.opening.zeros_4096.Reads as zeros-4096-reads
 use Rattle.start.proofs.start.Reads as start-reads
 use Rattle.strike.proofs.strike.Reads as strike-reads
 
 -- strike's answer as numbers, and what it says
-module _ (c : tie.After-strike-call) where
+module _ (c : tie.After-of-strike) where
   abbrev at-strike : tie.After-strike
   at-strike = c .before .before .before .before
 
@@ -51,27 +51,27 @@ module _ (c : tie.After-strike-call) where
   long = sym (at-strike .before .before .before .zeros-4096 .ensures .0)
 
   abbrev n : ℕ
-  n = c .strike-call .result .number
+  n = c .of-strike .result .0
 
   abbrev m : ℕ
-  m = c .strike-call .result .count
+  m = c .of-strike .result .1
 
   refused-here : n ≢ 0 → OpensSketches (at-start .args .codes .now) (at-start .args .places .now) (at-start .args .pattern .now) (at-start .args .k) (at-start .args .c) (at-start .args .u) (at-start .args .v) (at-start .args .threshold) (at-start .args .positions .now) (at-start .args .work .now) (Refused n) places′ (at-start .args .work .now)
   refused-here =
       let args = at-start .args in
-      strike-refused (args .codes .now) (args .places .now) (args .pattern .now) (args .positions .now) room (args .k) (args .c) (args .u) (args .v) (args .threshold) (args .work .now) long (at-strike .strike .result) (at-strike .strike .ensures .0) written places′ (at-strike .strike .ensures .1 .0) (at-strike .strike .ensures .1 .1) n m (c .strike-call .ensures .0) (c .strike-call .ensures .1)
+      strike-refused (args .codes .now) (args .places .now) (args .pattern .now) (args .positions .now) room (args .k) (args .c) (args .u) (args .v) (args .threshold) (args .work .now) long (at-strike .strike .result) (at-strike .strike .ensures .0) written places′ (at-strike .strike .ensures .1 .0) (at-strike .strike .ensures .1 .1) n m (c .of-strike .ensures .0) (c .of-strike .ensures .1)
 
   few : n ≡ 0 → m ≤ 4096
   few =
       let args = at-start .args in
-      inside (args .codes .now) (args .places .now) (args .pattern .now) (args .positions .now) room (args .k) (args .c) (args .u) (args .v) (args .threshold) (args .work .now) long (at-strike .strike .result) (at-strike .strike .ensures .0) written places′ (at-strike .strike .ensures .1 .0) (at-strike .strike .ensures .1 .1) n m (c .strike-call .ensures .0) (c .strike-call .ensures .1)
+      inside (args .codes .now) (args .places .now) (args .pattern .now) (args .positions .now) room (args .k) (args .c) (args .u) (args .v) (args .threshold) (args .work .now) long (at-strike .strike .result) (at-strike .strike .ensures .0) written places′ (at-strike .strike .ensures .1 .0) (at-strike .strike .ensures .1 .1) n m (c .of-strike .ensures .0) (c .of-strike .ensures .1)
 
   same-room : length written ≡ 4096
   same-room = let l : length written ≡ length room = at-strike .strike .kept .1 .1 .1 .0 in l ∙ long
 
 -- start's answer as numbers, and what it says
-module _ (c : tie.After-start-call) where
-  abbrev call : tie.After-strike-call
+module _ (c : tie.After-of-start) where
+  abbrev call : tie.After-of-strike
   call = c .before .before .before .before .before .before .before .before
 
   abbrev at-begin : tie.After-start
@@ -80,7 +80,7 @@ module _ (c : tie.After-start-call) where
   abbrev ended : Opened → Type 0
   ended r = OpensSketches (at-start call .args .codes .now) (at-start call .args .places .now) (at-start call .args .pattern .now) (at-start call .args .k) (at-start call .args .c) (at-start call .args .u) (at-start call .args .v) (at-start call .args .threshold) (at-start call .args .positions .now) (at-start call .args .work .now) r (places′ call) (at-begin .start .last .1 .1 .1 .1 .1 .0)
 
-  start-ends : (c .start-call .result .number ≢ 0 → ended (Refused (c .start-call .result .number))) × (c .start-call .result .number ≡ 0 → ended (Session (at-start call .args .k) (length (at-start call .args .pattern .now))))
+  start-ends : (c .of-start .result .0 ≢ 0 → ended (Refused (c .of-start .result .0))) × (c .of-start .result .0 ≡ 0 → ended (Session (at-start call .args .k) (length (at-start call .args .pattern .now))))
   start-ends =
       let args = at-start call .args in
       let same : toZ w32 (ofZ w32 (args .threshold)) ≡ args .threshold = toZ-ofZ w32 (args .threshold) (at-start call .fits .threshold) in
@@ -88,8 +88,8 @@ module _ (c : tie.After-start-call) where
       let task : ℤ → Task = λ z. taskOf (take (m call) (written call)) (args .pattern .now) (args .u) (args .v) z in
       let reply : startedReply (at-begin .start .result) ≡ startReply (task (args .threshold)) (length (args .work .now)) = subst (λ (z : ℤ). startedReply (at-begin .start .result) ≡ startReply (task z) (length (args .work .now))) same (at-begin .start .ensures .0) in
       let words : at-begin .start .last .1 .1 .1 .1 .1 .0 ≡ startWords (task (args .threshold)) (args .work .now) = subst (λ (z : ℤ). at-begin .start .last .1 .1 .1 .1 .1 .0 ≡ startWords (task z) (args .work .now)) same (at-begin .start .ensures .1) in (
-        start-refused (args .codes .now) (args .places .now) (args .pattern .now) (args .positions .now) (room call) (args .k) (args .c) (args .u) (args .v) (args .threshold) (args .work .now) (long call) (at-strike call .strike .result) (at-strike call .strike .ensures .0) (written call) (places′ call) (at-strike call .strike .ensures .1 .0) (at-strike call .strike .ensures .1 .1) (n call) (m call) (call .strike-call .ensures .0) (call .strike-call .ensures .1) zero (at-begin .start .result) (at-begin .start .last .1 .1 .1 .1 .1 .0) reply words (c .start-call .result .number) (c .start-call .ensures .0),
-        start-accepted (args .codes .now) (args .places .now) (args .pattern .now) (args .positions .now) (room call) (args .k) (args .c) (args .u) (args .v) (args .threshold) (args .work .now) (long call) (at-strike call .strike .result) (at-strike call .strike .ensures .0) (written call) (places′ call) (at-strike call .strike .ensures .1 .0) (at-strike call .strike .ensures .1 .1) (n call) (m call) (call .strike-call .ensures .0) (call .strike-call .ensures .1) zero (at-begin .start .result) (at-begin .start .last .1 .1 .1 .1 .1 .0) reply words (c .start-call .result .number) (c .start-call .ensures .0),
+        start-refused (args .codes .now) (args .places .now) (args .pattern .now) (args .positions .now) (room call) (args .k) (args .c) (args .u) (args .v) (args .threshold) (args .work .now) (long call) (at-strike call .strike .result) (at-strike call .strike .ensures .0) (written call) (places′ call) (at-strike call .strike .ensures .1 .0) (at-strike call .strike .ensures .1 .1) (n call) (m call) (call .of-strike .ensures .0) (call .of-strike .ensures .1) zero (at-begin .start .result) (at-begin .start .last .1 .1 .1 .1 .1 .0) reply words (c .of-start .result .0) (c .of-start .ensures .0),
+        start-accepted (args .codes .now) (args .places .now) (args .pattern .now) (args .positions .now) (room call) (args .k) (args .c) (args .u) (args .v) (args .threshold) (args .work .now) (long call) (at-strike call .strike .result) (at-strike call .strike .ensures .0) (written call) (places′ call) (at-strike call .strike .ensures .1 .0) (at-strike call .strike .ensures .1 .1) (n call) (m call) (call .of-strike .ensures .0) (call .of-strike .ensures .1) zero (at-begin .start .result) (at-begin .start .last .1 .1 .1 .1 .1 .0) reply words (c .of-start .result .0) (c .of-start .ensures .0),
       )
 
 -- src/opening.rt:43:20
@@ -105,8 +105,8 @@ strike-requires : tie.Need-strike-requires
 strike-requires c κs = search needs
 
 -- src/opening.rt:44:9
-strike-call-requires : tie.Need-strike-call-requires
-strike-call-requires c κs = search needs
+of-strike-requires : tie.Need-of-strike-requires
+of-strike-requires c κs = search needs
 
 -- src/opening.rt:46:9
 same-length : tie.Need-same-length
@@ -129,8 +129,8 @@ start-requires : tie.Need-start-requires
 start-requires c κs = search needs
 
 -- src/opening.rt:48:9
-start-call-requires : tie.Need-start-call-requires
-start-call-requires c κs = search needs
+of-start-requires : tie.Need-of-start-requires
+of-start-requires c κs = search needs
 
 -- src/opening.rt:57:9
 same-length-2 : tie.Need-same-length-2
@@ -163,13 +163,13 @@ open-sketches-spec =
     zeros-4096-requires
     slice-aggregate-strike
     strike-requires
-    strike-call-requires
+    of-strike-requires
     same-length
     returns
     array-share-prefix-text
     slice-aggregate-start
     start-requires
-    start-call-requires
+    of-start-requires
     same-length-2
     same-length-3
     returns-2

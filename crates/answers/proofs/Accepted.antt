@@ -20,7 +20,7 @@ use Rattle.mappings.specs.Limits.{patternLimit, hitLimit, workWords}
 use Rattle.mappings.specs.Score.{Task}
 use Rattle.mappings.specs.Cells.{hitCount}
 use Rattle.start.specs.Start.{badWeights, startReply}
-use Rattle.exports.specs.Numbers.{numberOf, valueOf}
+use Rattle.answers.specs.Numbers.{numberOf, valueOf}
 
 pub record Tells (r : Reply) : Type 0 where
   pub tells : numberOf r ≡ 0 → r ≡ accepted (valueOf r ∷ [])

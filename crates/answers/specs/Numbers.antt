@@ -1,4 +1,4 @@
--- What crosses the C boundary for the calls that answer a reply: its number and its value, and for load k and w.
+-- The number and the value of a reply, and for load k and w: what crosses the C boundary, and what `maplist` goes by.
 -- Assumes nothing.
 use Prim.Native.Nat.{ℕ}
 use mathlib.Core.List.{List, [], _∷_}

@@ -1,0 +1,2 @@
+-- What the numbers of a call tell.
+pub mod Accepted
