@@ -40,10 +40,11 @@ fn letters_rows() {
 }
 
 fn strike_rows() {
-    let makers: [(&str, fn(usize) -> Vec<u32>); 3] =
-        [("all different", jobs::all_different), ("all the same", jobs::all_the_same), ("repeats", jobs::repeats)];
-    for (kind, make) in makers {
-        let (few, many) = (make(TEXT / 10), make(TEXT));
+    for (kind, few, many) in [
+        ("all different", jobs::all_different(TEXT / 10), jobs::all_different(TEXT)),
+        ("all the same", jobs::all_the_same(TEXT / 10), jobs::all_the_same(TEXT)),
+        ("repeats", jobs::repeats(TEXT / 10), jobs::repeats(TEXT)),
+    ] {
         let positions: Vec<u32> = (0..TEXT as u32).collect();
         let run = |codes| -> Run { strike_run(ours::strike, codes, &positions[..codes.len()]) };
         print(&format!("strike, {kind}"), (few.len(), run(&few)), (many.len(), run(&many)));

@@ -1,8 +1,8 @@
 //! Tasks from codes to the list: any 32-bit words given to start directly.
 //! Assumes nothing.
 
-use super::lists::{hold_task, threshold, weights};
 use super::tally::Tally;
+use super::tasks::{hold_task, threshold, weights};
 use crate::random::Random;
 use crate::reference::score::Task;
 

@@ -1,52 +1,18 @@
 //! Tasks from letters to the list: sketch of text and read, strike, start and steps, beside all intervals of Definition 1.
 //! Assumes nothing.
 
-use super::stepping::hold_list;
 use super::tally::{Met, Tally};
+use super::tasks::{hold_task, threshold, weights};
 use crate::calls;
 use crate::cases::{cluster, letters};
-use crate::held::session::start;
-use crate::held::{Difference, agree};
+use crate::held::{Difference, Held, agree};
 use crate::random::Random;
-use crate::reference::cells::{cell_count, hits};
-use crate::reference::definition1::{Mapping, finals, finals_by_words};
 use crate::reference::refusal::Refusal;
 use crate::reference::score::Task;
-use crate::reference::sketch::{codes, positions, sketch_call};
-use crate::reference::start::WORK_WORDS;
+use crate::reference::sketch::{Entry, codes, positions, sketch_call};
 use crate::reference::strike::strike_call;
 
 const CASES: u64 = 20_000;
-
-/// Texts up to this many entries are listed by the definition's words, and longer ones by its fast form.
-const BY_WORDS: usize = 8;
-
-/// The final intervals, all intervals looked at.
-pub fn all_intervals(task: &Task) -> Vec<Mapping> {
-    if task.text.len() <= BY_WORDS { finals_by_words(task) } else { finals(task) }
-}
-
-/// Weights of any size, mostly small ones.
-pub fn weights(random: &mut Random) -> (u32, u32) {
-    let any = |random: &mut Random| random.between(1, 1_000) as u32;
-    match random.below(4) {
-        0 => (any(random), any(random)),
-        1 => random.one_of(&[(1, 1_000), (1_000, 1), (1_000, 1_000), (1, 1)]),
-        _ => (random.between(1, 4) as u32, random.between(1, 4) as u32),
-    }
-}
-
-/// A threshold: the score of an interval that is final below it, one beside it, an end of the 32 bits, or any.
-pub fn threshold(random: &mut Random, task: &Task) -> i32 {
-    let listed = finals(&Task { threshold: i32::MIN, ..task.clone() });
-    match random.below(6) {
-        0 => random.one_of(&[i32::MIN, i32::MAX]),
-        1 => random.word() as i32,
-        2 => random.between(0, 40) as i32 - 20,
-        _ if listed.is_empty() => 0,
-        _ => listed[random.below(listed.len())].score as i32 + random.below(3) as i32 - 1,
-    }
-}
 
 /// What a task is made of, before its sketches.
 struct Made {
@@ -74,54 +40,57 @@ fn made(random: &mut Random) -> Made {
     Made { text, read, k, w, c, weights: weights(random) }
 }
 
-/// The codes of the struck text and of the read, by the proved functions, each held to the reference.
-fn proved_codes(made: &Made, met: &mut Met) -> Result<Result<(Vec<u32>, Vec<u32>), Refusal>, Difference> {
-    let mut sketched = Vec::new();
-    for letters in [&made.text, &made.read] {
-        let (mut codes_out, mut positions_out) = (vec![0; letters.len()], vec![0; letters.len()]);
-        let given = calls::sketch(letters, made.k, made.w, &mut codes_out, &mut positions_out);
-        let expected = sketch_call(letters, made.k, made.w, letters.len(), letters.len());
-        agree("sketch", given, expected.as_ref().map(Vec::len).map_err(|&refusal| refusal))?;
-        let Ok(entries) = expected else {
-            met.answer("sketch", given);
-            return Ok(Err(given.expect_err("a refusal")));
-        };
-        codes_out.truncate(entries.len());
-        positions_out.truncate(entries.len());
-        agree("sketch", (&codes_out, &positions_out), (&codes(&entries), &positions(&entries)))?;
-        sketched.push((codes_out, positions_out));
-    }
-    let (text_codes, text_positions) = &sketched[0];
-    let n = text_codes.len();
-    let (mut codes_out, mut positions_out) = (vec![0; n], vec![0; n]);
-    let given = calls::strike(text_codes, text_positions, made.c, &mut codes_out, &mut positions_out);
-    let expected = strike_call(text_codes, text_positions, made.c, n, n);
-    agree("strike", given, expected.as_ref().map(Vec::len).map_err(|&refusal| refusal))?;
-    let Ok(rest) = expected else {
-        met.answer("strike", given);
-        return Ok(Err(given.expect_err("a refusal")));
+/// Codes and positions.
+type Sketch = (Vec<u32>, Vec<u32>);
+
+/// The codes of a text and of a pattern.
+type Codes = (Vec<u32>, Vec<u32>);
+
+/// Asks that what a proved call answered and wrote are the expected entries, and gives what it wrote.
+fn agreed(
+    call: &'static str,
+    given: Result<usize, Refusal>,
+    (mut codes_out, mut positions_out): Sketch,
+    expected: Result<Vec<Entry>, Refusal>,
+) -> Held<Sketch> {
+    agree(call, given, expected.as_ref().map(Vec::len).map_err(|&refusal| refusal))?;
+    let Ok(entries) = expected else {
+        return Ok(Err(expected.expect_err("a refusal")));
     };
-    codes_out.truncate(rest.len());
-    agree("strike", &codes_out, &codes(&rest))?;
-    Ok(Ok((codes_out, sketched.swap_remove(1).0)))
+    codes_out.truncate(entries.len());
+    positions_out.truncate(entries.len());
+    agree(call, (&codes_out, &positions_out), (&codes(&entries), &positions(&entries)))?;
+    Ok(Ok((codes_out, positions_out)))
 }
 
-/// Lists a task by start and steps, beside its final intervals.
-pub fn hold_task(random: &mut Random, task: &Task, met: &mut Met) -> Result<(), Difference> {
-    let lent = WORK_WORDS + random.one_of(&[0, 1, 100]);
-    let expected = all_intervals(task);
-    match start(random, task, lent, |_| expected.clone())? {
-        Ok(session) => hold_list(random, session, cell_count(hits(task).len()), lent, &expected, met),
-        Err(refusal) => {
-            met.refusal("start", refusal);
-            Ok(())
-        }
-    }
+fn proved_sketch(letters: &[u8], k: u32, w: u32) -> Held<Sketch> {
+    let room = letters.len();
+    let (mut codes_out, mut positions_out) = (vec![0; room], vec![0; room]);
+    let given = calls::sketch(letters, k, w, &mut codes_out, &mut positions_out);
+    agreed("sketch", given, (codes_out, positions_out), sketch_call(letters, k, w, room, room))
+}
+
+fn proved_strike((codes, positions): &Sketch, c: u32) -> Held<Sketch> {
+    let room = codes.len();
+    let (mut codes_out, mut positions_out) = (vec![0; room], vec![0; room]);
+    let given = calls::strike(codes, positions, c, &mut codes_out, &mut positions_out);
+    agreed("strike", given, (codes_out, positions_out), strike_call(codes, positions, c, room, room))
+}
+
+/// The codes of the struck text and of the read, by the proved functions, each held to the reference; none where a call is refused.
+fn proved_codes(made: &Made, met: &mut Met) -> Result<Option<Codes>, Difference> {
+    let mut accepted = |call: &'static str, held: Held<Sketch>| -> Result<Option<Sketch>, Difference> {
+        Ok(held?.map_err(|refusal| met.refusal(call, refusal)).ok())
+    };
+    let Some(text) = accepted("sketch", proved_sketch(&made.text, made.k, made.w))? else { return Ok(None) };
+    let Some(read) = accepted("sketch", proved_sketch(&made.read, made.k, made.w))? else { return Ok(None) };
+    let Some(struck) = accepted("strike", proved_strike(&text, made.c))? else { return Ok(None) };
+    Ok(Some((struck.0, read.0)))
 }
 
 fn hold(random: &mut Random, met: &mut Met) -> Result<(), Difference> {
     let made = made(random);
-    let Ok((text, pattern)) = proved_codes(&made, met)? else {
+    let Some((text, pattern)) = proved_codes(&made, met)? else {
         return Ok(());
     };
     let (u, v) = made.weights;

@@ -11,6 +11,7 @@ mod stepping;
 mod stores;
 mod strikes;
 mod tally;
+mod tasks;
 
 use tally::Tally;
 

@@ -2,13 +2,13 @@
 //! Assumes nothing.
 
 use super::tally::Tally;
-use crate::held::{Answered, Difference, agree};
+use crate::held::{Held, agree};
 use crate::per_mille;
 use crate::random::Random;
 use crate::reference::permille;
 use crate::reference::refusal::refused;
 
-fn hold((m, len, size): (u32, u32, u32)) -> Result<Answered, Difference> {
+fn hold((m, len, size): (u32, u32, u32)) -> Held<usize> {
     let expected = permille::per_mille(m, len, size);
     agree("per mille", per_mille(m, len, size), expected)?;
     Ok(usize::try_from(expected).map_err(|_| refused(expected.unsigned_abs())))

@@ -5,7 +5,7 @@ use super::tally::Tally;
 use crate::exported::{self, StepWords};
 use crate::held::buffer::Buffer;
 use crate::held::session::start;
-use crate::held::{Answered, Difference, agree};
+use crate::held::{Difference, Held, agree};
 use crate::random::Random;
 use crate::reference::by_hits::finals_by_hits;
 use crate::reference::cells::{cell_count, hits};
@@ -14,7 +14,7 @@ use crate::reference::score::Task;
 use crate::reference::start::WORK_WORDS;
 
 /// Holds start, and answers h where it is accepted.
-fn hold_start(random: &mut Random, task: &Task, lent: usize) -> Result<Answered, Difference> {
+fn hold_start(random: &mut Random, task: &Task, lent: usize) -> Held<usize> {
     Ok(start(random, task, lent, finals_by_hits)?.map(|_| hits(task).len()))
 }
 
@@ -51,7 +51,7 @@ fn starts(tally: &mut Tally, random: &mut Random) {
 }
 
 /// Holds a step that is refused with this number: no word is changed.
-fn refused_step(random: &mut Random, first: [u32; 4], lent: usize, number: u32) -> Result<Answered, Difference> {
+fn refused_step(random: &mut Random, first: [u32; 4], lent: usize, number: u32) -> Held<usize> {
     let mut work = Buffer::new(random, WORK_WORDS + 20);
     work.lent()[..4].copy_from_slice(&first);
     let before = work.lent().to_vec();

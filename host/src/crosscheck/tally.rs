@@ -3,7 +3,7 @@
 
 use std::collections::BTreeMap;
 
-use crate::held::{Answered, Difference};
+use crate::held::{Difference, Held};
 use crate::reference::refusal::Refusal;
 
 /// How many differences of a part are printed in words.
@@ -47,7 +47,7 @@ impl Met {
     }
 
     /// Takes note of what a call answered.
-    pub fn answer(&mut self, call: &'static str, answered: Answered) {
+    pub fn answer(&mut self, call: &'static str, answered: Result<usize, Refusal>) {
         if let Err(refusal) = answered {
             self.refusal(call, refusal);
         }
@@ -79,7 +79,7 @@ impl Tally {
     }
 
     /// Compares one call.
-    pub fn call(&mut self, call: &'static str, case: impl Fn() -> String, held: Result<Answered, Difference>) {
+    pub fn call(&mut self, call: &'static str, case: impl Fn() -> String, held: Held<usize>) {
         self.compare(case, |met| held.map(|answered| met.answer(call, answered)));
     }
 

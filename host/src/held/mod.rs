@@ -13,8 +13,8 @@ use crate::reference::refusal::Refusal;
 /// What differs, in words.
 pub type Difference = String;
 
-/// What a call answered, by the reference too: a number, or a refusal.
-pub type Answered = Result<usize, Refusal>;
+/// A call held to the reference: what both answered, or what differs.
+pub type Held<T> = Result<Result<T, Refusal>, Difference>;
 
 /// What stands in a word before a call that must write it.
 pub const UNWRITTEN: u32 = 0x5eed_5eed;
@@ -25,7 +25,7 @@ pub fn agree<T: PartialEq + std::fmt::Debug>(what: &str, given: T, expected: T) 
 }
 
 /// Asks that a call's number and value are those of the answer: a refusal without a second value has 0 there.
-fn agree_with(answer: &Answered, number: u32, value: usize) -> Result<(), Difference> {
+fn agree_with(answer: &Result<usize, Refusal>, number: u32, value: usize) -> Result<(), Difference> {
     let expected = match *answer {
         Ok(value) => (0, value),
         Err(Refusal { number, value }) => (number, value.unwrap_or(0)),

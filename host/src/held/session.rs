@@ -2,11 +2,10 @@
 //! Assumes nothing.
 
 use super::buffer::Buffer;
-use super::{Difference, UNWRITTEN, agree, agree_with};
+use super::{Difference, Held, UNWRITTEN, agree, agree_with};
 use crate::exported::{self, StepWords};
 use crate::random::Random;
 use crate::reference::definition1::Mapping;
-use crate::reference::refusal::Refusal;
 use crate::reference::score::Task;
 use crate::reference::start::start_call;
 use crate::reference::steps::{Answer, Rule, Step};
@@ -22,12 +21,7 @@ pub struct Session {
 
 /// Holds the call of start with this many work words, and gives the session where it is accepted. `finals` makes the task's final
 /// mappings, by whichever form of Definition 1 suits its size.
-pub fn start(
-    random: &mut Random,
-    task: &Task,
-    lent: usize,
-    finals: impl FnOnce(&Task) -> Vec<Mapping>,
-) -> Result<Result<Session, Refusal>, Difference> {
+pub fn start(random: &mut Random, task: &Task, lent: usize, finals: impl FnOnce(&Task) -> Vec<Mapping>) -> Held<Session> {
     let expected = start_call(task, lent);
     let mut work = Buffer::new(random, lent);
     let mut number = UNWRITTEN;

@@ -2,14 +2,14 @@
 //! Assumes nothing.
 
 use super::buffer::Buffer;
-use super::{Answered, Difference, UNWRITTEN, agree, agree_with};
+use super::{Held, UNWRITTEN, agree, agree_with};
 use crate::exported;
 use crate::random::Random;
 use crate::reference::sketch::{codes as codes_of, positions as positions_of};
 use crate::reference::store;
 
 /// Holds the call with an output buffer of this length.
-pub fn save(random: &mut Random, codes: &[u32], positions: &[u32], k: u32, w: u32, room: usize) -> Result<Answered, Difference> {
+pub fn save(random: &mut Random, codes: &[u32], positions: &[u32], k: u32, w: u32, room: usize) -> Held<usize> {
     let expected = store::save(k, w, codes, positions, room);
     let mut words = Buffer::new(random, room);
     let mut number = UNWRITTEN;
@@ -21,7 +21,7 @@ pub fn save(random: &mut Random, codes: &[u32], positions: &[u32], k: u32, w: u3
 }
 
 /// Holds the call with output buffers of these lengths.
-pub fn load(random: &mut Random, words: &[u32], rooms: (usize, usize)) -> Result<Answered, Difference> {
+pub fn load(random: &mut Random, words: &[u32], rooms: (usize, usize)) -> Held<usize> {
     let expected = store::load(words, rooms.0, rooms.1);
     let (mut codes, mut positions) = (Buffer::new(random, rooms.0), Buffer::new(random, rooms.1));
     let (mut k, mut w, mut number) = (UNWRITTEN, UNWRITTEN, UNWRITTEN);

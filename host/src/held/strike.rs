@@ -2,20 +2,14 @@
 //! Assumes nothing.
 
 use super::buffer::Buffer;
-use super::{Answered, Difference, UNWRITTEN, agree_with};
+use super::{Held, UNWRITTEN, agree_with};
 use crate::exported;
 use crate::random::Random;
 use crate::reference::sketch::{codes as codes_of, positions as positions_of};
 use crate::reference::strike::strike_call;
 
 /// Holds the call with output buffers of these lengths.
-pub fn strike(
-    random: &mut Random,
-    codes: &[u32],
-    positions: &[u32],
-    c: u32,
-    rooms: (usize, usize),
-) -> Result<Answered, Difference> {
+pub fn strike(random: &mut Random, codes: &[u32], positions: &[u32], c: u32, rooms: (usize, usize)) -> Held<usize> {
     let expected = strike_call(codes, positions, c, rooms.0, rooms.1);
     let (mut codes_out, mut positions_out) = (Buffer::new(random, rooms.0), Buffer::new(random, rooms.1));
     let mut number = UNWRITTEN;

@@ -31,15 +31,15 @@ fn biased(number: i64) -> u32 {
 /// The smallest row from which hit j is reasonable as a right end: its code stands at most as often as in p from there to j.
 fn back(hits: &Hits, j: usize) -> usize {
     let code = hits.name[j];
-    let same = (0..=j).rev().filter(|&i| hits.name[i] == code);
-    same.skip(hits.allowed[code]).map(|i| i + 1).next().unwrap_or(0)
+    let mut same = (0..=j).rev().filter(|&i| hits.name[i] == code);
+    same.nth(hits.allowed[code]).map_or(0, |i| i + 1)
 }
 
 /// The first column at which hit i is no longer reasonable as a left end, or h.
 fn reach(hits: &Hits, i: usize) -> usize {
     let (code, h) = (hits.name[i], hits.name.len());
-    let same = (i..h).filter(|&j| hits.name[j] == code);
-    same.skip(hits.allowed[code]).next().unwrap_or(h)
+    let mut same = (i..h).filter(|&j| hits.name[j] == code);
+    same.nth(hits.allowed[code]).unwrap_or(h)
 }
 
 /// m and the score of each cell, by falling j, and for one j by rising i.
