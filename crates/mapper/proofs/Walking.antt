@@ -18,7 +18,7 @@ use Rattle.mapper.specs.declared.column.Passed.{Passed}
 use Rattle.mapper.proofs.Passing.{Bounded, bounded}
 use Rattle.mapper.specs.declared.walk.Terms.{Terms}
 use Rattle.mapper.specs.declared.place.Place.{Place}
-use Rattle.mapper.specs.declared.walk.Stepped.the-variants.{Found}
+use Rattle.mapper.specs.declared.answer.Stepped.the-variants.{Found}
 use Rattle.mapper.specs.Walking.{saved, settled, topShared, Walk, spentWalk, foundWalk, withPart, partOf, lineOf, columnUpdate, walkOn}
 
 -- a place settles within the columns and rows that it came from

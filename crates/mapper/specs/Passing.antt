@@ -1,4 +1,4 @@
--- What a column's update and a step do to any work words, made by start and steps or not.
+-- What a column's update does to any work words, made by start and steps or not.
 -- Assumes nothing.
 use Prim.Native.Nat.{ℕ, zero, suc, _+_, _-_, _*_, _%_, _^_, min, max}
 use mathlib.Core.Bool.{Bool, true, false, cond, _&&_}

@@ -1,4 +1,5 @@
 // Walking along the columns from a place, until a final cell, the budget's end or the last cell.
+use crate::answer::Stepped;
 use crate::column::Line;
 use crate::column::Passed;
 use crate::column::pass;
@@ -20,21 +21,6 @@ ghost use Prim.Native.Nat.{ℕ, _+_, _≤_, _<_, min};
 ghost use lib.ListN.{length};
 ghost use Rattle.mapper.specs.Passing as Passing;
 ghost use Rattle.mapper.specs.Walking.{lineOf, spentWalk, finishedWalk, foundWalk, walkOn};
-
-// What a step answers.
-pub enum Stepped {
-    Found {
-        a: u32,
-        b: u32,
-        score: i32,
-        m: u32,
-        cells: u32,
-    },
-    Finished(u32),
-    Spent(u32),
-    TooFewWords,
-    BadWords,
-}
 
 // What the score words of a session share: u + 2v, v, the pattern's length, and the threshold with its bias.
 pub struct Terms {

@@ -21,8 +21,8 @@ use Rattle.listing.proofs.Decimal.{length-decimal}
 use Rattle.listing.proofs.Enough.{enough-bytes}
 use Rattle.opening.specs.Calls.{textOf, patternOf, taskOf, callsReply}
 use Rattle.opening.specs.Opening.{openedBy, openedOf, positionsAfter, workAfter}
-use Rattle.opening.specs.declared.opening.Opened.{Opened}
-use Rattle.opening.specs.declared.opening.Opened.the-variants.{Malformed, Refused, Session}
+use Rattle.opening.specs.declared.calls.Opened.{Opened}
+use Rattle.opening.specs.declared.calls.Opened.the-variants.{Malformed, Refused, Session}
 use Rattle.report.specs.Output.{headerLine, malformedLine, refusedLine, unlessRefused, listOf, printed, printedFor, outputOf}
 use Rattle.report.specs.Pieces.{restOf, unlessDone, cellsLeft, Belongs, Piece, Fills}
 use Rattle.report.specs.Beginning.{firstLine, leftOf, BeginsWith, Begins}

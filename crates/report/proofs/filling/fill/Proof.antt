@@ -6,8 +6,8 @@ use mathlib.Core.Path.{_≡_, refl, sym, ap, _∙_, subst}
 use mathlib.Core.List.{List}
 use lib.ListN.{length}
 use Rattle.report.proofs.Going.{Going, InPiece, going-start, going-found, found-further, found-few, finished-piece, not-spent, not-few, not-bad, full-piece}
-use Rattle.mapper.specs.declared.walk.Stepped.{Stepped}
-use Rattle.mapper.specs.declared.walk.Stepped.the-variants.{Found, Finished, Spent, TooFewWords, BadWords}
+use Rattle.mapper.specs.declared.answer.Stepped.{Stepped}
+use Rattle.mapper.specs.declared.answer.Stepped.the-variants.{Found, Finished, Spent, TooFewWords, BadWords}
 use Rattle.mapper.specs.Promise.{StepPromise}
 use Rattle.report.proofs.Writers.{written-inside}
 use mir.Facts.{toZ-ofZ}

@@ -1,11 +1,11 @@
--- `opening::zeros_4096` meets its contract: an array of zeros is the list of as many zeros.
+-- `calls::zeros_4096` meets its contract: an array of zeros is the list of as many zeros.
 -- Assumes nothing.
 use Prim.Native.Nat.{ℕ}
 use mathlib.Core.Path.{refl, sym}
 use lib.ListN.{length-replicate}
 use Rattle.counts.specs.Keys.{zeros}
-use Rattle.opening.proofs.opening.zeros_4096.Statement.{statement}
-use Rattle.opening.proofs.opening.zeros_4096.Tie as tie
+use Rattle.opening.proofs.calls.zeros_4096.Statement.{statement}
+use Rattle.opening.proofs.calls.zeros_4096.Tie as tie
 
 returns : tie.Need-returns
 unfolding zeros

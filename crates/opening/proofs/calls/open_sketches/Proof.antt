@@ -1,4 +1,4 @@
--- `opening::open_sketches` meets its contract: strike and start, one after the other.
+-- `calls::open_sketches` meets its contract: strike and start, one after the other.
 -- Assumes nothing.
 use Prim.Native.Nat.{ℕ, _≤_}
 use native.Mathlib.Omega.{arith}
@@ -15,17 +15,17 @@ use Rattle.mappings.specs.Score.{Task}
 use Rattle.start.specs.Start.{startReply, startWords}
 use Rattle.start.specs.Answers.{startedReply, taskOf}
 use Rattle.opening.specs.Opening.{OpensSketches}
-use Rattle.opening.specs.declared.opening.Opened.{Opened}
-use Rattle.opening.specs.declared.opening.Opened.the-variants.{Refused, Session}
+use Rattle.opening.specs.declared.calls.Opened.{Opened}
+use Rattle.opening.specs.declared.calls.Opened.the-variants.{Refused, Session}
 use Rattle.opening.proofs.Sketches.{strike-refused, inside, start-refused, start-accepted}
 use borrow.Author.Needs.{needs}
-use Rattle.opening.proofs.opening.open_sketches.Statement.{statement}
-use Rattle.opening.proofs.opening.open_sketches.Tie as tie
-use Rattle.opening.proofs.opening.open_sketches.Reads as reads
-use Rattle.opening.proofs.opening.open_sketches.Lts as lts
+use Rattle.opening.proofs.calls.open_sketches.Statement.{statement}
+use Rattle.opening.proofs.calls.open_sketches.Tie as tie
+use Rattle.opening.proofs.calls.open_sketches.Reads as reads
+use Rattle.opening.proofs.calls.open_sketches.Lts as lts
 use Rattle.answers.proofs.of_start.Reads as of-start-reads
 use Rattle.answers.proofs.of_strike.Reads as of-strike-reads
-use Rattle.opening.proofs.opening.zeros_4096.Reads as zeros-4096-reads
+use Rattle.opening.proofs.calls.zeros_4096.Reads as zeros-4096-reads
 use Rattle.start.proofs.start.Reads as start-reads
 use Rattle.strike.proofs.strike.Reads as strike-reads
 
@@ -92,67 +92,67 @@ module _ (c : tie.After-of-start) where
         start-accepted (args .codes .now) (args .places .now) (args .pattern .now) (args .positions .now) (room call) (args .k) (args .c) (args .u) (args .v) (args .threshold) (args .work .now) (long call) (at-strike call .strike .result) (at-strike call .strike .ensures .0) (written call) (places′ call) (at-strike call .strike .ensures .1 .0) (at-strike call .strike .ensures .1 .1) (n call) (m call) (call .of-strike .ensures .0) (call .of-strike .ensures .1) zero (at-begin .start .result) (at-begin .start .last .1 .1 .1 .1 .1 .0) reply words (c .of-start .result .0) (c .of-start .ensures .0),
       )
 
--- src/opening.rt:43:20
+-- src/calls.rt:43:20
 zeros-4096-requires : tie.Need-zeros-4096-requires
 zeros-4096-requires c κs = search needs
 
--- src/opening.rt:44:63
+-- src/calls.rt:44:63
 slice-aggregate-strike : tie.Need-slice-aggregate-strike
 slice-aggregate-strike c = search needs
 
--- src/opening.rt:44:30
+-- src/calls.rt:44:30
 strike-requires : tie.Need-strike-requires
 strike-requires c κs = search needs
 
--- src/opening.rt:44:9
+-- src/calls.rt:44:9
 of-strike-requires : tie.Need-of-strike-requires
 of-strike-requires c κs = search needs
 
--- src/opening.rt:46:9
+-- src/calls.rt:46:9
 same-length : tie.Need-same-length
 same-length c = search needs
 
--- src/opening.rt:46:9
+-- src/calls.rt:46:9
 returns : tie.Need-returns
 returns c = refused-here (c .before .before) (c .if1 .taken)
 
--- src/opening.rt:49:9
+-- src/calls.rt:49:9
 array-share-prefix-text : tie.Need-array-share-prefix-text
 array-share-prefix-text c = let call = c .before .before in let l : m call ≤ 4096 = few call (c .if1 .left) in omega (arith, same-room call)
 
--- src/opening.rt:49:9
+-- src/calls.rt:49:9
 slice-aggregate-start : tie.Need-slice-aggregate-start
 slice-aggregate-start c = let call = c .before .before .before in let l : m call ≤ 4096 = few call (c .before .if1 .left) in sym (length-take-le (m call) (written call) (omega (arith, same-room call)))
 
--- src/opening.rt:48:30
+-- src/calls.rt:48:30
 start-requires : tie.Need-start-requires
 start-requires c κs = search needs
 
--- src/opening.rt:48:9
+-- src/calls.rt:48:9
 of-start-requires : tie.Need-of-start-requires
 of-start-requires c κs = search needs
 
--- src/opening.rt:57:9
+-- src/calls.rt:57:9
 same-length-2 : tie.Need-same-length-2
 same-length-2 c = search needs
 
--- src/opening.rt:57:9
+-- src/calls.rt:57:9
 same-length-3 : tie.Need-same-length-3
 same-length-3 c = search needs
 
--- src/opening.rt:57:9
+-- src/calls.rt:57:9
 returns-2 : tie.Need-returns-2
 returns-2 c = start-ends (c .before .before) .0 (c .if2 .taken)
 
--- src/opening.rt:29:1
+-- src/calls.rt:29:1
 same-length-4 : tie.Need-same-length-4
 same-length-4 c = search needs
 
--- src/opening.rt:29:1
+-- src/calls.rt:29:1
 same-length-5 : tie.Need-same-length-5
 same-length-5 c = search needs
 
--- src/opening.rt:29:1
+-- src/calls.rt:29:1
 returns-3 : tie.Need-returns-3
 returns-3 c = start-ends (c .before .before) .1 (c .if2 .left)
 

@@ -1,4 +1,4 @@
--- `opening::open_lines` meets its contract: the two sketches, and then what is made of them.
+-- `calls::open_lines` meets its contract: the two sketches, and then what is made of them.
 -- Assumes nothing.
 use Prim.Native.Nat.{ℕ, _≤_}
 use native.Mathlib.Omega.{arith}
@@ -14,13 +14,13 @@ use Rattle.listing.specs.Input.{Settings}
 use Rattle.opening.specs.Opening.{settings, OpensSketches}
 use Rattle.opening.proofs.Letters.{sketch-number, sketch-accepts, sketch-inside, codes-front, positions-front, text-refused, read-refused, opens-fronts}
 use borrow.Author.Needs.{needs}
-use Rattle.opening.proofs.opening.open_lines.Statement.{statement}
-use Rattle.opening.proofs.opening.open_lines.Tie as tie
-use Rattle.opening.proofs.opening.open_lines.Reads as reads
-use Rattle.opening.proofs.opening.open_lines.Lts as lts
+use Rattle.opening.proofs.calls.open_lines.Statement.{statement}
+use Rattle.opening.proofs.calls.open_lines.Tie as tie
+use Rattle.opening.proofs.calls.open_lines.Reads as reads
+use Rattle.opening.proofs.calls.open_lines.Lts as lts
 use Rattle.answers.proofs.of_sketch.Reads as of-sketch-reads
-use Rattle.opening.proofs.opening.open_sketches.Reads as open-sketches-reads
-use Rattle.opening.proofs.opening.zeros_4096.Reads as zeros-4096-reads
+use Rattle.opening.proofs.calls.open_sketches.Reads as open-sketches-reads
+use Rattle.opening.proofs.calls.zeros_4096.Reads as zeros-4096-reads
 use Rattle.sketch.proofs.sketch.Reads as sketch-reads
 
 -- the text's sketch in its buffers, and its answer as numbers
@@ -108,62 +108,62 @@ module _ (c : tie.After-of-sketch2) where
         let l : length read-codes ≡ length read-room = at-read .sketch2 .kept .1 .1 .1 .0 in
         omega (arith, read-long)
 
--- src/opening.rt:80:21
+-- src/calls.rt:80:21
 zeros-4096-requires : tie.Need-zeros-4096-requires
 zeros-4096-requires c κs = search needs
 
--- src/opening.rt:81:22
+-- src/calls.rt:81:22
 zeros-4096-requires-2 : tie.Need-zeros-4096-requires-2
 zeros-4096-requires-2 c κs = search needs
 
--- src/opening.rt:82:58
+-- src/calls.rt:82:58
 slice-aggregate-sketch : tie.Need-slice-aggregate-sketch
 slice-aggregate-sketch c = search needs
 
--- src/opening.rt:82:70
+-- src/calls.rt:82:70
 slice-aggregate-sketch-2 : tie.Need-slice-aggregate-sketch-2
 slice-aggregate-sketch-2 c = search needs
 
--- src/opening.rt:82:31
+-- src/calls.rt:82:31
 sketch-requires : tie.Need-sketch-requires
 sketch-requires c κs = search needs
 
--- src/opening.rt:82:9
+-- src/calls.rt:82:9
 of-sketch-requires : tie.Need-of-sketch-requires
 of-sketch-requires c κs = search needs
 
--- src/opening.rt:84:9
+-- src/calls.rt:84:9
 returns : tie.Need-returns
 returns c =
     let call = c .before .before in
     let args = at-start call .args in
     text-refused (given-settings call) (args .text .now) (args .read .now) (args .positions .now) (args .work .now) (n call) (sketch-number (args .k) (args .w) (args .text .now) (text-room call) (text-room′ call) (text-codes call) (text-places call) (at-text call .sketch .result) (at-text call .sketch .ensures) (text-long call) (text-long′ call) (n call) (m call) (call .of-sketch .ensures .0) (call .of-sketch .ensures .1)) (c .if1 .taken)
 
--- src/opening.rt:86:23
+-- src/calls.rt:86:23
 zeros-4096-requires-3 : tie.Need-zeros-4096-requires-3
 zeros-4096-requires-3 c κs = search needs
 
--- src/opening.rt:87:22
+-- src/calls.rt:87:22
 zeros-4096-requires-4 : tie.Need-zeros-4096-requires-4
 zeros-4096-requires-4 c κs = search needs
 
--- src/opening.rt:88:58
+-- src/calls.rt:88:58
 slice-aggregate-sketch-3 : tie.Need-slice-aggregate-sketch-3
 slice-aggregate-sketch-3 c = search needs
 
--- src/opening.rt:88:72
+-- src/calls.rt:88:72
 slice-aggregate-sketch-4 : tie.Need-slice-aggregate-sketch-4
 slice-aggregate-sketch-4 c = search needs
 
--- src/opening.rt:88:31
+-- src/calls.rt:88:31
 sketch-requires-2 : tie.Need-sketch-requires-2
 sketch-requires-2 c κs = search needs
 
--- src/opening.rt:88:9
+-- src/calls.rt:88:9
 of-sketch-requires-2 : tie.Need-of-sketch-requires-2
 of-sketch-requires-2 c κs = search needs
 
--- src/opening.rt:90:9
+-- src/calls.rt:90:9
 returns-2 : tie.Need-returns-2
 returns-2 c =
     let c2 = c .before .before in
@@ -172,43 +172,43 @@ returns-2 c =
     let t = sketch-accepts (args .k) (args .w) (args .text .now) (text-room call) (text-room′ call) (text-codes call) (text-places call) (at-text call .sketch .result) (at-text call .sketch .ensures) (text-long call) (text-long′ call) (n call) (m call) (call .of-sketch .ensures .0) (call .of-sketch .ensures .1) (text-zero c2) in
     read-refused (given-settings call) (args .text .now) (args .read .now) (args .positions .now) (args .work .now) (m call) t (n′ c2) (sketch-number (args .k) (args .w) (args .read .now) (read-room c2) (read-room′ c2) (read-codes c2) (at-read c2 .sketch2 .last .1 .1 .1 .1 .0) (at-read c2 .sketch2 .result) (at-read c2 .sketch2 .ensures) (read-long c2) (read-long′ c2) (n′ c2) (m′ c2) (c2 .of-sketch2 .ensures .0) (c2 .of-sketch2 .ensures .1)) (c .if2 .taken)
 
--- src/opening.rt:93:9
+-- src/calls.rt:93:9
 array-share-prefix-codes : tie.Need-array-share-prefix-codes
 array-share-prefix-codes c = let c2 = c .before .before in codes-hold (text-call c2) (text-zero c2)
 
--- src/opening.rt:93:9
+-- src/calls.rt:93:9
 slice-aggregate-open-sketches : tie.Need-slice-aggregate-open-sketches
 slice-aggregate-open-sketches c = let c2 = c .before .before .before in let call = text-call c2 in sym (length-take-le (m call) (text-codes call) (codes-hold call (text-zero c2)))
 
--- src/opening.rt:94:9
+-- src/calls.rt:94:9
 array-share-prefix-places : tie.Need-array-share-prefix-places
 array-share-prefix-places c = let c2 = c .before .before .before in places-hold (text-call c2) (text-zero c2)
 
--- src/opening.rt:94:9
+-- src/calls.rt:94:9
 slice-aggregate-open-sketches-2 : tie.Need-slice-aggregate-open-sketches-2
 slice-aggregate-open-sketches-2 c = let c2 = c .before .before .before .before in let call = text-call c2 in sym (length-take-le (m call) (text-places call) (places-hold call (text-zero c2)))
 
--- src/opening.rt:95:9
+-- src/calls.rt:95:9
 array-share-prefix-pattern : tie.Need-array-share-prefix-pattern
 array-share-prefix-pattern c = let at-else = c .before .before in read-hold (at-else .before .before) (at-else .if2 .left)
 
--- src/opening.rt:95:9
+-- src/calls.rt:95:9
 slice-aggregate-open-sketches-3 : tie.Need-slice-aggregate-open-sketches-3
 slice-aggregate-open-sketches-3 c = let at-else = c .before .before .before in let c2 = at-else .before .before in sym (length-take-le (m′ c2) (read-codes c2) (read-hold c2 (at-else .if2 .left)))
 
--- src/opening.rt:92:5
+-- src/calls.rt:92:5
 open-sketches-requires : tie.Need-open-sketches-requires
 open-sketches-requires c κs = search needs
 
--- src/opening.rt:66:1
+-- src/calls.rt:66:1
 same-length : tie.Need-same-length
 same-length c = search needs
 
--- src/opening.rt:66:1
+-- src/calls.rt:66:1
 same-length-2 : tie.Need-same-length-2
 same-length-2 c = search needs
 
--- src/opening.rt:66:1
+-- src/calls.rt:66:1
 returns-3 : tie.Need-returns-3
 returns-3 c =
     let opened = c .before .before .before .before in
