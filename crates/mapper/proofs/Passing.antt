@@ -32,10 +32,10 @@ module _ (line : Line) (to i m before : ℕ) (part : List ℕ) (s one greatest b
   unrolled : passRows line (to - i) i m before part ≡ cond (finalTest (line .threshold) s best one (line .back) i) (record { answer = record { found = true; row = suc i; m = m; score = s }; part = set part (4096 + i) best }) (passRows line (to - (i + 1)) (suc i) (lowered m one) best (set part (4096 + i) best))
   unrolled = rw (left-suc to i h, at .score, at .reach, ← best-with)
 
-  pub pass-stop : finalTest (line .threshold) s best one (line .back) i ≡ true → passRows line (to - i) i m before part ≡ record { answer = record { found = true; row = i + 1; m = m; score = s }; part = set part (4096 + i) best }
+  pass-stop : finalTest (line .threshold) s best one (line .back) i ≡ true → passRows line (to - i) i m before part ≡ record { answer = record { found = true; row = i + 1; m = m; score = s }; part = set part (4096 + i) best }
   pass-stop t = unrolled ∙ rw (t, add-one)
 
-  pub pass-on : (m′ : ℕ) → finalTest (line .threshold) s best one (line .back) i ≡ false → m′ ≡ lowered m one → passRows line (to - i) i m before part ≡ passRows line (to - (i + 1)) (i + 1) m′ best (set part (4096 + i) best)
+  pass-on : (m′ : ℕ) → finalTest (line .threshold) s best one (line .back) i ≡ false → m′ ≡ lowered m one → passRows line (to - i) i m before part ≡ passRows line (to - (i + 1)) (i + 1) m′ best (set part (4096 + i) best)
   pass-on m′ t e = unrolled ∙ rw (t, e, add-one)
 
 -- a score word below the threshold: not final, whatever the other tests say

@@ -1,13 +1,13 @@
 -- `column::pass` meets its contract. The loop's invariant: what is left to pass gives the same answer and the same words as the
 -- whole. Assumes nothing.
-use Prim.Native.Nat.{ℕ, _-_, _≤_, _<_}
-use mathlib.Core.Path.{_≡_, refl, sym, ap, _∙_}
+use Prim.Native.Nat.{_-_, _≤_, _<_}
+use mathlib.Core.Path.{_≡_, sym, ap, _∙_}
 use mathlib.Core.Bool.{Bool, true, false}
 use lib.Dec.{ltb}
 use lib.ListN.{length}
 use Rattle.counts.specs.Lists.{bit}
 use Rattle.mapper.specs.Passing.{seenBefore, finalTest, Update, passRows}
-use Rattle.mapper.proofs.Quiet.{Paced, pace, pause-stop, pause-on}
+use Rattle.mapper.proofs.Quiet.{pace, pause-stop, pause-on}
 use native.Mathlib.Omega.{arith}
 use borrow.Author.Needs.{needs}
 use Rattle.mapper.proofs.column.pass.Statement.{statement}

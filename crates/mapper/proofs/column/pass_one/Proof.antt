@@ -1,7 +1,6 @@
 -- `column::pass_one` meets its contract: a column's update of one cell. Assumes nothing.
-use mathlib.Core.Path.{_≡_, sym, ap, _∙_}
+use mathlib.Core.Path.{sym, ap, _∙_}
 use Prim.Native.Nat.{ℕ, max}
-use lib.ListN.{length-set}
 use Rattle.mapper.specs.Passing.{lineScore, inReach, seenBefore, Update}
 use Rattle.mapper.proofs.Passing.{AtCell, below-threshold, one-stop, one-on}
 use borrow.Author.Needs.{needs}

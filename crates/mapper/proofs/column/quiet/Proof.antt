@@ -1,6 +1,6 @@
 -- `column::quiet` meets its contract. The loop's invariant: what is left to pass gives the same answer and the same words as the
 -- whole. Assumes nothing.
-use Prim.Native.Nat.{ℕ, _-_, _≤_}
+use Prim.Native.Nat.{_-_, _≤_}
 use mathlib.Core.Path.{_≡_, refl, sym, ap, _∙_}
 use lib.ListN.{length, length-set}
 use Rattle.mapper.specs.Passing.{lineScore, inReach, Pause, quietRows}

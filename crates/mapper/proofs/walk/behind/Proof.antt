@@ -1,5 +1,4 @@
 -- `walk::behind` meets its contract. Assumes nothing.
-use mathlib.Core.Path.{sym, _∙_}
 use borrow.Author.Needs.{needs}
 use Rattle.mapper.proofs.walk.behind.Statement.{statement}
 use Rattle.mapper.proofs.walk.behind.Tie as tie
