@@ -15,3 +15,4 @@ pub mod Within
 pub mod StepPromise
 pub mod Demand3
 pub mod Consequences
+pub mod Witness
