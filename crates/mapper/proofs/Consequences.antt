@@ -111,10 +111,10 @@ module _ (task : Task) (before : List ℕ) (a : Accepts task before) where
         copy-q = ap (λ (w : List ℕ). getD w 3 0) left ∙ words-hold task (begun copy long) (q + passed one) (limits .few-hits) (begun-long copy long) .passed-word;
         same-words = ap (take 16384) (r .1) ∙ first-same copy long (q + passed one) ∙ sym (ap (take 16384) left);
         original-beyond =
-          ap (drop 16384) (r .1)
-          ∙ beyond-session before (limits .many-words) (q + passed one)
-          ∙ sym (beyond-session before (limits .many-words) q)
-          ∙ sym (ap (drop 16384) e);
+            ap (drop 16384) (r .1)
+            ∙ beyond-session before (limits .many-words) (q + passed one)
+            ∙ sym (beyond-session before (limits .many-words) q)
+            ∙ sym (ap (drop 16384) e);
         copy-beyond = ap (drop 16384) left ∙ copy-beyond-same copy long (q + passed one);
       }
 
