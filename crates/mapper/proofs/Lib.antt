@@ -14,4 +14,5 @@ pub mod Accepted
 pub mod Within
 pub mod StepPromise
 pub mod Demand3
+pub mod Witness
 pub mod Consequences
