@@ -3,6 +3,7 @@ pub mod Bias
 pub mod Tables
 mod Ring
 mod Reaching
+mod Searching
 mod Noting
 mod Linking
 pub mod WorkWords

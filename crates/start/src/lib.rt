@@ -3,6 +3,7 @@ mod blocks;
 mod hits;
 mod per_hit;
 pub mod score;
+mod search;
 pub mod words;
 
 use crate::blocks::copy;
