@@ -1,4 +1,4 @@
--- Laws about the work words, the column's update and sessions.
+-- Laws about the work words, the column's update and sessions, and examples that compute.
 pub mod Bias
 pub mod Passing
 pub mod Walking
@@ -14,3 +14,4 @@ pub mod Within
 pub mod StepPromise
 pub mod Demand3
 pub mod Consequences
+pub mod Cases
