@@ -1,4 +1,4 @@
--- Laws about the work words, the column's update and sessions.
+-- Laws about the work words, the column's update and sessions, and examples that compute.
 pub mod Bias
 pub mod Passing
 pub mod Quiet
@@ -16,3 +16,4 @@ pub mod StepPromise
 pub mod Demand3
 pub mod Witness
 pub mod Consequences
+pub mod Cases

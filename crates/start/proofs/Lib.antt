@@ -1,4 +1,4 @@
--- Laws about the work words, and what start's functions ask and give.
+-- Laws about the work words, what start's functions ask and give, and examples that compute.
 pub mod Bias
 pub mod Tables
 mod Ring
@@ -10,3 +10,4 @@ pub mod WorkWords
 mod Putting
 mod Starting
 mod Replies
+pub mod Cases
