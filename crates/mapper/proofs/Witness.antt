@@ -15,8 +15,8 @@ use Rattle.mappings.specs.Limits.{workWords}
 use Rattle.mappings.specs.Rule.{Answer, Step}
 use Rattle.mappings.proofs.Compute.{mappings-compute}
 use Rattle.start.specs.Start.{badWeights, startReply, startWords}
-use Rattle.mapper.specs.declared.walk.Stepped.{Stepped}
-use Rattle.mapper.specs.declared.walk.Stepped.the-variants.{TooFewWords, BadWords}
+use Rattle.mapper.specs.declared.answer.Stepped.{Stepped}
+use Rattle.mapper.specs.declared.answer.Stepped.the-variants.{TooFewWords, BadWords}
 use Rattle.mapper.specs.declared.walk.Terms.{Terms}
 use Rattle.mapper.specs.Answers.{answerOf}
 use Rattle.mapper.specs.Step.{badWords}
