@@ -11,7 +11,7 @@ use Rattle.start.specs.Start.{badWeights}
 use Rattle.mapper.specs.Step.{tooFewWords, badWords}
 use Rattle.mapper.specs.Answers.{answerOf}
 use Rattle.mapper.specs.Promise.{StepPromise}
-use Rattle.mapper.specs.declared.walk.Stepped.{Stepped}
+use Rattle.mapper.specs.declared.answer.Stepped.{Stepped}
 
 pub record StepRefusals : Type 0 where
   -- 10: fewer than 16,384 work words
