@@ -61,18 +61,24 @@ module _ (task : Task) where
         go (as-found _ _ p h k) = (p, k)
 
     -- finished: none is left
-    pub finished-next : (n : ℕ) → ruleAnswer task q B ≡ finished n → (finalsAfter task q ≡ []) × (q + n ≡ total task)
+    pub finished-next : (n : ℕ) → ruleAnswer task q B ≡ finished n → (finalsAfter task q ≡ []) × (q + n ≡ total task) × (finalsAfter task (q + n) ≡ [])
     unfolding cellsOf
     finished-next n e = go (came e)
       where
-        go : Outcome task q B (finished n) → (finalsAfter task q ≡ []) × (q + n ≡ total task)
-        go (as-finished _ h t) = (
-          finals-split q n
-              ∙ ap (λ (l : List Mapping). l ++ finalsAfter task (q + n)) (sym (handed e))
-              ∙ ap (finalsAfter task) t
-              ∙ ap (λ (l : List Cell). map (mappingOf task) (keep (isFinalCell task) l)) (drop-all-cells (hitCount task)),
-          t,
-        )
+        go : Outcome task q B (finished n) → (finalsAfter task q ≡ []) × (q + n ≡ total task) × (finalsAfter task (q + n) ≡ [])
+        go (as-finished _ h t) =
+            let none : finalsAfter task (q + n) ≡ [] =
+            ap (finalsAfter task) t ∙ ap (λ (l : List Cell). map (mappingOf task) (keep (isFinalCell task) l)) (drop-all-cells (hitCount task)) in
+            (finals-split q n ∙ ap (λ (l : List Mapping). l ++ finalsAfter task (q + n)) (sym (handed e)) ∙ none, t, none)
+
+    -- no step passes more cells than there are
+    pub step-within : q + reported (ruleAnswer task q B) ≤ total task
+    step-within = go (came refl)
+      where
+        go : {answer : Answer} → Outcome task q B answer → q + reported answer ≤ total task
+        go (as-found mapping cells p h k) = k
+        go (as-finished cells h t) = omega arith
+        go (as-spent cells s t) = omega arith
 
     -- a budget of more cells than there are is never spent, and no step of a session is refused
     pub never-spent : (n : ℕ) → total task ≤ B → ruleAnswer task q B ≡ spent n → ⊥

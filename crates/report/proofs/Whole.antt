@@ -30,7 +30,7 @@ use Rattle.report.specs.Whole.{Printing}
 use Rattle.report.specs.declared.beginning.Begun.{Begun}
 use Rattle.report.specs.declared.filling.Filled.{Filled}
 use Rattle.report.proofs.Writers.{take-written}
-use Rattle.report.proofs.Going.{session-left}
+use Rattle.report.proofs.Going.{session-left, piece-falls}
 use Rattle.report.proofs.Threshold.{threshold-fits}
 use Rattle.report.proofs.OpenedSession.{start-accepts, places-are, words-are, session-belongs, list-rest}
 
@@ -105,7 +105,7 @@ fill-prints : (bytes places work : List ℕ) (k size found left : ℕ) (done : L
     → (r .left < left) × After bytes places work′ k size (r .found) (r .left) (done ++ take (r .written) out′)
 fill-prints bytes places work k size found left done p out r work′ out′ long f =
     let s = f .session (p .task) (p .before) (p .q) (p .accepts) (p .belongs) (p .among) (p .counted) (p .words) in
-    go (s .0) (s .1) (s .1 .falls long)
+    go (s .0) (s .1) (piece-falls (s .1) long)
   where
     joined : (q′ : ℕ) (l : List ℕ) → take (r .written) out′ ++ l ≡ restOf (p .task) places k size (p .q) found → (done ++ take (r .written) out′) ++ l ≡ outputOf bytes
     joined q′ l e = append-assoc done (take (r .written) out′) l ∙ ap (λ (x : List ℕ). done ++ x) e ∙ p .rest

@@ -154,11 +154,11 @@ pub fn fill(
     while LINE_ROOM <= out.len() - at {
         match step(work, BUDGET) {
             Stepped::Found { a, b, score, m, .. } => {
-                let next = put_mapping(out, at, positions, k, size, a, b, score, m);
-                if next <= at {
+                if CELL_LIMIT <= count {
                     return stopped(at, count);
                 }
-                if CELL_LIMIT <= count {
+                let next = put_mapping(out, at, positions, k, size, a, b, score, m);
+                if next <= at {
                     return stopped(at, count);
                 }
                 at = next;
@@ -168,15 +168,7 @@ pub fn fill(
                 let end = put_last(out, at, count, cells_passed(work));
                 return stopped(end, count);
             }
-            Stepped::Spent(_) => {
-                return stopped(at, count);
-            }
-            Stepped::TooFewWords => {
-                return stopped(at, count);
-            }
-            Stepped::BadWords => {
-                return stopped(at, count);
-            }
+            _ => return stopped(at, count),
         }
     }
     Filled {

@@ -1,6 +1,7 @@
 -- `report::filling::put_mapping` meets its contract: its answers are the line's numbers where they hold the mapping, and the line is written
 -- into the part of the buffer from the index on. Assumes nothing.
 use Prim.Native.Nat.{ℕ, _+_, _-_, _≤_, _<_}
+use native.Mathlib.Nat.{le-refl}
 use native.Mathlib.Omega.{arith}
 use mathlib.Core.Path.{_≡_, refl, sym, ap, _∙_, subst}
 use mathlib.Core.List.{List}
@@ -14,7 +15,7 @@ use Rattle.listing.specs.PerMille.{perMille}
 use Rattle.listing.specs.Writing.{LineWritten}
 use Rattle.report.proofs.Mapping.{not-held, last-is, per-mille-is, not-below, cast-fits, abs-is, line-is}
 use Rattle.listing.proofs.Buffers.{same-bytes}
-use Rattle.report.proofs.Writers.{part-written, written-inside}
+use Rattle.report.proofs.Writers.{part-written, written-inside, written-onward, written-past}
 use borrow.Author.Needs.{needs, sfits-of}
 use Rattle.report.proofs.filling.put_mapping.Statement.{statement}
 use Rattle.report.proofs.filling.put_mapping.Tie as tie
@@ -63,11 +64,11 @@ end-of-requires c κs = search needs
 
 -- src/filling.rt:109:9
 returns : tie.Need-returns
-returns c = let e = c .before in record { inside = λ h. h; held = λ h l s i. absurd (not-held (start e .args .positions .now) (start e .args .k) (start e .args .size) (start e .args .a) (start e .args .b) (from e) (to e) (e .end-of .result) (e .before .before .wide .ensures .0) (e .before .wide2 .ensures .0) (e .end-of .ensures) (c .if1 .taken) h) }
+returns c = let e = c .before in record { inside = λ h. h; onward = le-refl _; past = λ h. refl; held = λ h l s i. absurd (not-held (start e .args .positions .now) (start e .args .k) (start e .args .size) (start e .args .a) (start e .args .b) (from e) (to e) (e .end-of .result) (e .before .before .wide .ensures .0) (e .before .wide2 .ensures .0) (e .end-of .ensures) (c .if1 .taken) h) }
 
 -- src/filling.rt:112:9
 returns-2 : tie.Need-returns-2
-returns-2 c = record { inside = λ h. h; held = λ h l s i. absurd (omega (arith, c .if2 .taken)) }
+returns-2 c = record { inside = λ h. h; onward = le-refl _; past = λ h. refl; held = λ h l s i. absurd (omega (arith, c .if2 .taken)) }
 
 -- src/filling.rt:114:46
 sub-huddlewool-per-mille : tie.Need-sub-huddlewool-per-mille
@@ -91,7 +92,7 @@ huddlewool-per-mille-requires c κs = search needs
 
 -- src/filling.rt:116:9
 returns-3 : tie.Need-returns-3
-returns-3 c = let at = c .before in record { inside = λ h. h; held = λ h l s i. absurd (not-below (at .huddlewool-per-mille .result) (sfits-of (at .huddlewool-per-mille .ok)) _ (per-mille-known at h l s) (c .if3 .taken)) }
+returns-3 c = let at = c .before in record { inside = λ h. h; onward = le-refl _; past = λ h. refl; held = λ h l s i. absurd (not-below (at .huddlewool-per-mille .result) (sfits-of (at .huddlewool-per-mille .ok)) _ (per-mille-known at h l s) (c .if3 .taken)) }
 
 -- src/filling.rt:118:17
 mul-first : tie.Need-mul-first
@@ -139,6 +140,8 @@ returns-4 c = let at-line = c .before .before in let at-else = at-line .before .
     let e = ended (at-else .before) in
     record {
       inside = λ h. written-inside wrote h;
+      onward = written-onward wrote;
+      past = λ h. written-past wrote h;
       held = λ h l s i.
           same-bytes
           (line-is (start e .args .positions .now) (start e .args .k) (start e .args .size) (start e .args .a) (start e .args .b) (start e .args .score) _ (start e .args .m) _ _ _
