@@ -8,7 +8,7 @@ use mathlib.Core.List.{[], _∷_}
 use lib.ListN.{length, drop}
 use types.Run.{OneOf}
 use denote.Enum.Declared.{tagOf}
-use Rattle.mapper.proofs.walk.Stepped.{the-type}
+use Rattle.mapper.proofs.answer.Stepped.{the-type}
 use Rattle.report.proofs.Going.{Going, Other, going-start, going-found, found-further, found-few, fills-stopped, fills-finished, fills-other, fills-full}
 use Rattle.mapper.specs.declared.answer.Stepped.{Stepped}
 use Rattle.mapper.specs.declared.answer.Stepped.the-variants.{Found, Finished, Spent, TooFewWords, BadWords}
