@@ -1,4 +1,4 @@
-//! Links the two proved libraries, and says which one is missing.
+//! Links the proved libraries, and says which one is missing.
 //! Assumes that HUDDLEWOOL_LIBRARIES, where it is set, names their folder; it is the repository's target/staticlib otherwise.
 
 use std::env;
@@ -14,7 +14,7 @@ fn main() {
         None => here.join("../target/staticlib"),
     };
     println!("cargo:rustc-link-search=native={}", folder.display());
-    for name in ["sketch", "listing"] {
+    for name in ["exports", "sketch", "listing"] {
         let library = folder.join(format!("lib{name}.a"));
         println!("cargo:rerun-if-changed={}", library.display());
         if !library.is_file() {

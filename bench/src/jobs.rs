@@ -3,48 +3,100 @@
 
 use host::cases::letters;
 use host::random::Random;
+use host::reference::sketch::rank;
 
 pub const LETTERS: usize = 1_048_576;
 pub const TEXT: usize = 65_535;
 pub const PATTERN: usize = 4_096;
 pub const HITS: usize = 2_048;
 
-/// As many random letters as are allowed, in one run.
-pub fn long_text() -> Vec<u8> {
-    letters(&mut Random::new(1), LETTERS, b"ACGT")
+/// The k of all sketches here.
+pub const K: u32 = 15;
+
+/// Random letters, in one run.
+pub fn random_letters(number: usize) -> Vec<u8> {
+    letters(&mut Random::new(1), number, b"ACGT")
 }
 
-/// Entries whose codes are all different, in no order: multiplying by an odd number mod 2^30 repeats none.
-pub fn all_different() -> Vec<u32> {
-    (0..TEXT as u32).map(|n| n.wrapping_mul(2_654_435_761) % (1 << 30)).collect()
+/// The code behind one more letter.
+fn rolled(code: u32, letter: usize) -> u32 {
+    (code * 4 + letter as u32) % (1 << (2 * K))
+}
+
+/// At most so many letters that lead from this code to the lowest rank above `low` that can be had, with higher ranks on the way.
+fn climb(code: u32, low: u64, letters: usize) -> Option<(u64, Vec<usize>)> {
+    let through = |letter: usize| {
+        let next = rolled(code, letter);
+        let here = Some((rank(next), vec![letter])).filter(|end| end.0 > low);
+        let further = if letters > 1 { climb(next, low, letters - 1) } else { None };
+        let further = further.filter(|end| end.0 < rank(next)).map(|(end, rest)| (end, [vec![letter], rest].concat()));
+        further.or(here)
+    };
+    (0..4).filter_map(through).min_by_key(|end| end.0)
+}
+
+/// Letters in which the lowest rank of a window leaves it as often as we can have it, with a little higher one to be found behind it:
+/// ranks climb by steps of up to three letters as long as they can, and begin again.
+pub fn climbing_letters(number: usize) -> Vec<u8> {
+    let mut random = Random::new(4);
+    let (mut code, mut low) = (0, 0);
+    let mut made = Vec::with_capacity(number + 3);
+    while made.len() < number {
+        let path = match climb(code, low, 3) {
+            Some((end, path)) => {
+                low = end;
+                path
+            }
+            None => {
+                low = 0;
+                vec![random.below(4)]
+            }
+        };
+        for letter in path {
+            code = rolled(code, letter);
+            made.push(b"ACGT"[letter]);
+        }
+    }
+    made.truncate(number);
+    made
+}
+
+/// A code for each number below 2^30, in no order: multiplying by an odd number repeats none.
+fn spread(number: usize) -> u32 {
+    (number as u32).wrapping_mul(2_654_435_761) % (1 << 30)
+}
+
+/// Entries whose codes are all different, in no order.
+pub fn all_different(number: usize) -> Vec<u32> {
+    (0..number).map(spread).collect()
 }
 
 /// Entries that all have one code.
-pub fn all_the_same() -> Vec<u32> {
-    vec![123_456_789; TEXT]
+pub fn all_the_same(number: usize) -> Vec<u32> {
+    vec![123_456_789; number]
 }
 
-/// Entries with about 4,000 codes, each some 16 times, in no order.
-pub fn repeats() -> Vec<u32> {
+/// Entries with codes that each occur some 16 times, in no order.
+pub fn repeats(number: usize) -> Vec<u32> {
     let mut random = Random::new(2);
-    (0..TEXT).map(|_| (random.below(4_000) as u32).wrapping_mul(2_654_435_761) % (1 << 30)).collect()
+    (0..number).map(|_| spread(random.below(number / 16))).collect()
 }
 
-/// A text with exactly 2,048 hits, and a pattern, both as long as allowed. Codes of hits are below 1,500, so they repeat in both.
-pub fn session() -> (Vec<u32>, Vec<u32>) {
+/// Codes of a text and of a pattern with exactly so many hits. Codes of hits are few enough to repeat in both.
+pub fn session(entries: usize, size: usize, hits: usize) -> (Vec<u32>, Vec<u32>) {
     let mut random = Random::new(3);
-    let spread = |code: usize| (code as u32).wrapping_mul(2_654_435_761) % (1 << 30);
-    let pattern: Vec<u32> = (0..PATTERN)
-        .map(|n| if n < 1_500 { spread(n) } else { spread(if random.once_in(4) { random.below(1_500) } else { 100_000 + n }) })
+    let codes = (hits * 3 / 4).min(size);
+    let pattern: Vec<u32> = (0..size)
+        .map(|n| if n < codes { spread(n) } else { spread(if random.once_in(4) { random.below(codes) } else { 100_000 + n }) })
         .collect();
-    let mut text: Vec<u32> = (0..TEXT).map(|_| spread(1_000_000 + random.below(1 << 28))).collect();
+    let mut text: Vec<u32> = (0..entries).map(|_| spread(1_000_000 + random.below(1 << 28))).collect();
     let mut placed = 0;
-    let mut is_hit = vec![false; TEXT];
-    while placed < HITS {
-        let at = random.below(TEXT);
+    let mut is_hit = vec![false; entries];
+    while placed < hits {
+        let at = random.below(entries);
         if !is_hit[at] {
             is_hit[at] = true;
-            text[at] = spread(random.below(1_500));
+            text[at] = spread(random.below(codes));
             placed += 1;
         }
     }

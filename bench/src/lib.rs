@@ -2,10 +2,12 @@
 //! Assumes nothing.
 
 pub mod clock;
+pub mod growth;
 pub mod jobs;
 pub mod lines;
 pub mod ours;
 pub mod plain;
+pub mod runs;
 pub mod signatures;
 pub mod table;
 pub mod timing;

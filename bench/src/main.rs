@@ -1,44 +1,48 @@
-//! Times the speed table's jobs and prints the table.
+//! Times the speed table's jobs and prints the table, and a second one that says how costs grow.
 //! Assumes nothing.
 
-use bench::jobs;
-use bench::lines::{count_line, sketch_line, start_line, step_line, strike_line};
-use bench::ours::OURS;
+use bench::growth;
+use bench::jobs::{self, HITS, LETTERS, PATTERN, TEXT};
+use bench::lines::{count_line, sketch_line, start_line, step_lines, strike_line};
 use bench::plain::{fastest_strike, hash_strike};
-use bench::table::{Line, print, print_head, ratio};
+use bench::table::{print, print_head, print_singles};
 use bench::timing::ROUNDS;
 
-/// Says how often the single step goes into the steps of budget 1, for each of the three.
-fn print_single(single: &Line, ones: &Line) {
-    let ours = single.ours.zip(ones.ours).map_or("-".to_string(), |(single, ones)| ratio(ones, single));
-    let (plain, fastest) = (ratio(ones.plain, single.plain), ratio(ones.fastest, single.fastest));
-    println!("\nSteps of budget 1 over the single step: same algorithm {plain}, fastest {fastest}, proved {ours} (goal 5).");
-}
-
-fn main() {
-    println!("Best processor time of {ROUNDS} runs, taken in turn, all built for release.");
-    println!("Buffers are warm and not cleared between runs.");
-    println!("Letters are random, in one run, k 15. 'fastest' is the fastest plain Rust known to us.");
-    if OURS.is_none() {
-        println!("libspeed.a is missing, so the wrappers are not linked: of the proved functions only count is timed.");
-    }
-    println!();
+fn print_speed() {
     print_head();
-    let letters = jobs::long_text();
+    let letters = jobs::random_letters(LETTERS);
     for w in [1, 10, 64] {
         print(&sketch_line(&letters, w));
         print(&count_line(&letters, w));
     }
-    let texts = [("all different", jobs::all_different()), ("all the same", jobs::all_the_same()), ("repeats", jobs::repeats())];
+    let texts = [
+        ("all different", jobs::all_different(TEXT)),
+        ("all the same", jobs::all_the_same(TEXT)),
+        ("repeats", jobs::repeats(TEXT)),
+    ];
     for (kind, codes) in &texts {
         print(&strike_line(kind, codes, fastest_strike::strike));
         print(&strike_line(&format!("{kind}; 'fastest' is std's HashMap"), codes, hash_strike::strike));
     }
-    let (text, pattern) = jobs::session();
+    let (text, pattern) = jobs::session(TEXT, PATTERN, HITS);
     print(&start_line(&text, &pattern));
-    let single = step_line(&text, &pattern, u32::MAX, "one step over 2098176 cells", "1.1");
+    let [single, ones] = step_lines(&text, &pattern, HITS);
     print(&single);
-    let ones = step_line(&text, &pattern, 1, "the same by steps of budget 1", "");
     print(&ones);
-    print_single(&single, &ones);
+    print_singles(&single, &ones, 5.0);
+}
+
+fn main() {
+    println!(
+        "Best processor time of {ROUNDS} runs, taken in turn in one process, all built for release. Each run of a job has the same"
+    );
+    println!("input; buffers are warm and not cleared between runs. 'plain' is plain Rust with the proved function's algorithm,");
+    println!(
+        "'fastest' the fastest plain Rust known to us. 'ns each' is per letter, entry or cell. Letters are random, in one run, k 15.\n"
+    );
+    print_speed();
+    println!(
+        "\nHow the cost of the proved functions grows: ten times the letters or entries, twice the hits (four times the cells).\n"
+    );
+    growth::print_all();
 }

@@ -1,7 +1,7 @@
 //! The shapes that plain and proved functions share, so that one job runs both.
 //! Assumes nothing.
 
-use crate::plain::work::Answer;
+use host::calls::Stepped;
 
 /// Letters, k and w; the number of entries, or the refusal number negated.
 pub type Count = fn(&[u8], u32, u32) -> i32;
@@ -16,4 +16,4 @@ pub type Strike = fn(&[u32], &[u32], u32, &mut [u32], &mut [u32]) -> i32;
 pub type Start = fn(&[u32], &[u32], u32, u32, i32, &mut [u32]) -> i32;
 
 /// Work words and budget.
-pub type Step = fn(&mut [u32], u32) -> Answer;
+pub type Step = fn(&mut [u32], u32) -> Stepped;

@@ -25,8 +25,8 @@ pub fn timed<T>(call: impl FnOnce() -> T) -> (Duration, T) {
     (thread_time() - start, made)
 }
 
-/// Runs all in turn, this many rounds. Panics where a run's checksum differs from that of the first.
-pub fn race(runs: &mut [Run], rounds: usize) -> Vec<Timed> {
+/// Runs all in turn, this many rounds, and gives the best time of each. Panics where a run makes something else than in its first round.
+pub fn best_times(runs: &mut [Run], rounds: usize) -> Vec<Timed> {
     let mut best: Vec<Timed> = Vec::new();
     for round in 0..rounds {
         for (at, run) in runs.iter_mut().enumerate() {
@@ -35,8 +35,17 @@ pub fn race(runs: &mut [Run], rounds: usize) -> Vec<Timed> {
                 best.push(Timed { best: time, checksum });
             }
             best[at].best = best[at].best.min(time);
-            assert_eq!(checksum, best[0].checksum, "run {at} made something else than the first");
+            assert_eq!(checksum, best[at].checksum, "run {at} made something else in round {round}");
         }
+    }
+    best
+}
+
+/// The same of runs that do one job. Panics where a run's checksum differs from that of the first.
+pub fn race(runs: &mut [Run], rounds: usize) -> Vec<Timed> {
+    let best = best_times(runs, rounds);
+    for (at, timed) in best.iter().enumerate() {
+        assert_eq!(timed.checksum, best[0].checksum, "run {at} made something else than the first");
     }
     best
 }

@@ -1,7 +1,12 @@
-//! The host's calls of the two exported functions, with bytes and numbers only, and beside them a reference of document 01.
+//! The host's calls of the two functions with bytes and numbers only, those of the six with buffers, and beside them a reference
+//! of document 01.
 //! Assumes that the declarations below are those of the proved libraries: the linker compares names and nothing else.
 
+pub mod calls;
 pub mod cases;
+pub mod crosscheck;
+pub mod exported;
+pub mod held;
 pub mod program;
 pub mod random;
 pub mod reference;

@@ -3,8 +3,10 @@
 //! where 64 cells have one at the threshold.
 //! Assumes, for its answers, words that the fastest start and such steps made. A score stands signed in them, without a bias.
 
+use host::calls::Stepped;
+
 use super::step::{Numbers, Place, step_by};
-use super::work::{Answer, BACK, BEST, BIAS, HITS, INDEX, LIFTED, MAX_HITS, REACH, Tables};
+use super::work::{BACK, BEST, BIAS, HITS, INDEX, LIFTED, MAX_HITS, REACH, Tables};
 
 const CHUNK: usize = 64;
 
@@ -104,7 +106,7 @@ fn pass(h: usize, tables: &mut Tables, numbers: Numbers, place: Place, to: usize
 }
 
 /// Passes cells until one is final, none remains or the budget is spent.
-pub fn step(work: &mut [u32], budget: u32) -> Answer {
+pub fn step(work: &mut [u32], budget: u32) -> Stepped {
     let h = work.get(HITS).map_or(0, |&h| h as usize);
     step_by(|tables, numbers, place, to| pass(h, tables, numbers, place, to), work, budget)
 }

@@ -2,9 +2,11 @@
 //! over a column.
 //! Assumes, for its answers, words that start and steps made.
 
+use host::calls::Stepped;
+
 use super::work::{
-    Answer, BACK, BEST, BIAS, COLUMN, FLOOR, HITS, INDEX, MAX_HITS, PASSED, REACH, ROW, SHARED, SIZE, Tables, U, V, WHOLE,
-    WORK_WORDS, tables,
+    BACK, BEST, BIAS, COLUMN, FLOOR, HITS, INDEX, MAX_HITS, PASSED, REACH, ROW, SHARED, SIZE, Tables, U, V, WHOLE, WORK_WORDS,
+    tables,
 };
 
 /// The next cell and its m.
@@ -68,9 +70,9 @@ fn pass(tables: &mut Tables, numbers: Numbers, place: Place, to: usize) -> (Plac
 }
 
 /// The answer for a final cell that has just been passed: the row before the place's.
-fn found_at(tables: &Tables, place: Place, score: u32, cells: u32) -> Answer {
+fn found_at(tables: &Tables, place: Place, score: u32, cells: u32) -> Stepped {
     let (a, b) = (tables[INDEX + place.i - 1], tables[INDEX + place.j]);
-    Answer::Found { a, b, score: score.wrapping_sub(BIAS) as i32, m: place.m + 1, cells }
+    Stepped::Found { a, b, score: score.wrapping_sub(BIAS) as i32, m: place.m + 1, cells }
 }
 
 /// The place, or the next column's first where its column is passed.
@@ -90,7 +92,7 @@ fn write(work: &mut [u32], place: Place, passed: u32) {
 }
 
 /// Passes cells until one is final, none remains or the budget is spent.
-pub fn step(work: &mut [u32], budget: u32) -> Answer {
+pub fn step(work: &mut [u32], budget: u32) -> Stepped {
     step_by(pass, work, budget)
 }
 
@@ -100,10 +102,10 @@ pub fn step_by(
     pass: impl Fn(&mut Tables, Numbers, Place, usize) -> (Place, Option<u32>),
     work: &mut [u32],
     budget: u32,
-) -> Answer {
+) -> Stepped {
     let number = refusal(work);
     if number != 0 {
-        return Answer::Refused(number);
+        return Stepped::Refused(number);
     }
     let (h, passed) = (work[HITS], work[PASSED]);
     let remain = h * (h + 1) / 2 - passed;
@@ -125,5 +127,5 @@ pub fn step_by(
         }
     }
     write(work, place, passed + cells);
-    if cells == remain { Answer::Finished(cells) } else { Answer::Spent(cells) }
+    if cells == remain { Stepped::Finished(cells) } else { Stepped::Spent(cells) }
 }

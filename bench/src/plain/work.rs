@@ -1,4 +1,4 @@
-//! The work words of the plain session: which word holds what, and a step's answer.
+//! The work words of the plain session: which word holds what.
 //! Assumes nothing.
 
 pub const WORK_WORDS: usize = 16_384;
@@ -36,12 +36,4 @@ pub const BIAS: u32 = 1 << 31;
 /// The tables in the work words, of which there are at least 16,384.
 pub fn tables(work: &mut [u32]) -> &mut Tables {
     work[TABLES..].first_chunk_mut().expect("six tables fit")
-}
-
-#[derive(Clone, Copy, Debug, PartialEq, Eq)]
-pub enum Answer {
-    Found { a: u32, b: u32, score: i32, m: u32, cells: u32 },
-    Finished(u32),
-    Spent(u32),
-    Refused(u32),
 }

@@ -1,4 +1,4 @@
-//! Plain functions, and the proved ones where they are linked, beside the reference.
+//! Plain functions and the proved ones beside the reference.
 //! Assumes nothing.
 
 use std::thread;

@@ -1,10 +1,11 @@
 //! Start and step beside the reference's rule.
 //! Assumes nothing.
 
-use bench::ours::OURS;
-use bench::plain::work::{Answer, WORK_WORDS};
+use bench::ours;
+use bench::plain::work::WORK_WORDS;
 use bench::plain::{fastest_start, fastest_step, start, step};
 use bench::signatures::{Start, Step as StepOf};
+use host::calls::{self, Stepped};
 use host::random::Random;
 use host::reference::definition1::Mapping;
 use host::reference::score::Task;
@@ -13,11 +14,11 @@ use host::reference::steps::{self, Step, answers};
 
 use crate::on_usual_stack;
 
-fn sessions() -> Vec<(&'static str, Start, StepOf)> {
-    let plain: [(&str, Start, StepOf); 2] =
-        [("the same algorithm", start::start, step::step), ("the fastest", fastest_start::start, fastest_step::step)];
-    plain.into_iter().chain(OURS.map(|ours| ("the proved one", ours.start, ours.step))).collect()
-}
+const SESSIONS: [(&str, Start, StepOf); 3] = [
+    ("the same algorithm", start::start, step::step),
+    ("the fastest", fastest_start::start, fastest_step::step),
+    ("the proved one", ours::start, calls::step),
+];
 
 fn task(random: &mut Random) -> Task {
     let kinds = random.one_of(&[2, 4, 10, 60]);
@@ -39,15 +40,15 @@ fn list(random: &mut Random) -> Vec<Step> {
     (0..random.below(60)).map(|_| step(random)).collect()
 }
 
-fn as_reference(answer: Answer) -> steps::Answer {
+fn as_reference(answer: Stepped) -> steps::Answer {
     match answer {
-        Answer::Found { a, b, score, m, cells } => {
+        Stepped::Found { a, b, score, m, cells } => {
             let mapping = Mapping { a: a as usize, b: b as usize, score: i64::from(score), m: m as usize };
             steps::Answer::Found(mapping, cells as usize)
         }
-        Answer::Finished(cells) => steps::Answer::Finished(cells as usize),
-        Answer::Spent(cells) => steps::Answer::Spent(cells as usize),
-        Answer::Refused(number) => steps::Answer::Refused(number),
+        Stepped::Finished(cells) => steps::Answer::Finished(cells as usize),
+        Stepped::Spent(cells) => steps::Answer::Spent(cells as usize),
+        Stepped::Refused(number) => steps::Answer::Refused(number),
     }
 }
 
@@ -70,7 +71,7 @@ fn lists_of_steps() {
             let (task, list) = (task(&mut random), list(&mut random));
             let h = start_call(&task, WORK_WORDS).expect("a task that start accepts");
             let (expected, q) = answers(&task, &list);
-            for (name, start, step) in sessions() {
+            for (name, start, step) in SESSIONS {
                 let mut work = vec![0xaaaa_aaaa; WORK_WORDS + 1];
                 assert_eq!(start(&task.text, &task.pattern, task.u, task.v, task.threshold, &mut work), h as i32);
                 // a session that is copied halfway goes on from there
@@ -104,7 +105,7 @@ fn refusals_of_start() {
         for (text, pattern, u, v, lent) in cases {
             let task = Task { text: long[..text].to_vec(), pattern: long[..pattern].to_vec(), u, v, threshold: 0 };
             let number = start_call(&task, lent).expect_err("a refusal").number as i32;
-            for (name, start, _) in sessions() {
+            for (name, start, _) in SESSIONS {
                 let mut work = vec![5; lent];
                 assert_eq!(start(&task.text, &task.pattern, u, v, 0, &mut work), -number, "{name}");
                 assert!(work.iter().all(|&word| word == 5), "{name}");
@@ -121,32 +122,11 @@ fn refusals_of_step() {
             let mut work = vec![0; WORK_WORDS];
             work[..4].copy_from_slice(&words);
             let before = work.clone();
-            for (name, _, step) in sessions() {
-                assert_eq!(step(&mut work, 1), Answer::Refused(15), "{name}");
-                assert_eq!(step(&mut work[..WORK_WORDS - 1], 1), Answer::Refused(10), "{name}");
+            for (name, _, step) in SESSIONS {
+                assert_eq!(step(&mut work, 1), Stepped::Refused(15), "{name}");
+                assert_eq!(step(&mut work[..WORK_WORDS - 1], 1), Stepped::Refused(10), "{name}");
                 assert_eq!(work, before, "{name}");
             }
-        }
-    });
-}
-
-/// What a proved step answers for words that no start made is open, but it ends and keeps within the words.
-#[cfg(wrappers)]
-#[test]
-fn words_that_no_start_made() {
-    let ours = OURS.expect("the wrappers are linked");
-    on_usual_stack(move || {
-        for seed in 0..2000 {
-            let mut random = Random::new(seed);
-            let mut work: Vec<u32> =
-                (0..WORK_WORDS + 100).map(|_| random.word() as u32 >> random.one_of(&[0, 16, 21, 28])).collect();
-            let h = random.below(2049) as u32;
-            let passed = random.below((h * (h + 1) / 2 + 1) as usize) as u32;
-            let (u, v) = (random.between(1, 1000) as u32, random.between(1, 1000) as u32);
-            work[..4].copy_from_slice(&[h, u, v, passed]);
-            let beyond = work[WORK_WORDS..].to_vec();
-            (ours.step)(&mut work, random.one_of(&[0, 1, 100, 100_000]));
-            assert_eq!(work[WORK_WORDS..], beyond, "seed {seed}");
         }
     });
 }

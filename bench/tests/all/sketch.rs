@@ -1,7 +1,7 @@
 //! Sketch and count beside the reference.
 //! Assumes nothing.
 
-use bench::ours::{COUNT, OURS};
+use bench::ours::{self, COUNT};
 use bench::plain::{fastest_sketch, sketch};
 use bench::signatures::{Count, Sketch};
 use host::cases::letters;
@@ -10,10 +10,8 @@ use host::reference::sketch as reference;
 
 use crate::on_usual_stack;
 
-fn sketches() -> Vec<(&'static str, Sketch)> {
-    let plain: [(&str, Sketch); 2] = [("the same algorithm", sketch::sketch), ("the fastest", fastest_sketch::sketch)];
-    plain.into_iter().chain(OURS.map(|ours| ("the proved one", ours.sketch))).collect()
-}
+const SKETCHES: [(&str, Sketch); 3] =
+    [("the same algorithm", sketch::sketch), ("the fastest", fastest_sketch::sketch), ("the proved one", ours::sketch)];
 
 const COUNTS: [(&str, Count); 3] =
     [("the same algorithm", sketch::count), ("the fastest", fastest_sketch::count), ("the proved one", COUNT)];
@@ -24,7 +22,7 @@ fn hold(case: &str, letters: &[u8], k: u32, w: u32) {
     for (name, count) in COUNTS {
         assert_eq!(count(letters, k, w), expected.len() as i32, "{name}, {case}");
     }
-    for (name, sketch) in sketches() {
+    for (name, sketch) in SKETCHES {
         for room in [letters.len(), letters.len() + 3, expected.len(), expected.len().saturating_sub(1)] {
             let (mut codes, mut positions) = (vec![7; room], vec![9; room]);
             let given = sketch(letters, k, w, &mut codes, &mut positions);
@@ -73,7 +71,7 @@ fn refusals() {
         let cases = [(0, 0, 1_048_577, -1), (16, 1, 3, -1), (1, 0, 3, -2), (15, 65, 1_048_577, -2), (15, 64, 1_048_577, -3)];
         for (k, w, length, number) in cases {
             let letters = vec![b'A'; length];
-            for (name, sketch) in sketches() {
+            for (name, sketch) in SKETCHES {
                 let (mut codes, mut positions) = ([7; 9], [9; 9]);
                 assert_eq!(sketch(&letters, k, w, &mut codes, &mut positions), number, "{name}");
                 assert_eq!((codes, positions), ([7; 9], [9; 9]), "{name}");

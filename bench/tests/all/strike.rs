@@ -1,7 +1,7 @@
 //! Strike beside the reference.
 //! Assumes nothing.
 
-use bench::ours::OURS;
+use bench::ours;
 use bench::plain::{fastest_strike, hash_strike, strike};
 use bench::signatures::Strike;
 use host::random::Random;
@@ -10,14 +10,15 @@ use host::reference::strike::strike_call;
 
 use crate::on_usual_stack;
 
-fn all() -> Vec<(&'static str, Strike)> {
-    let plain: [(&str, Strike); 3] =
-        [("the same algorithm", strike::strike), ("a hash map", hash_strike::strike), ("the fastest", fastest_strike::strike)];
-    plain.into_iter().chain(OURS.map(|ours| ("the proved one", ours.strike))).collect()
-}
+const STRIKES: [(&str, Strike); 4] = [
+    ("the same algorithm", strike::strike),
+    ("a hash map", hash_strike::strike),
+    ("the fastest", fastest_strike::strike),
+    ("the proved one", ours::strike),
+];
 
 fn hold(case: &str, text: &[u32], places: &[u32], c: u32, room: usize) {
-    for (name, strike) in all() {
+    for (name, strike) in STRIKES {
         let (mut out_codes, mut out_positions) = (vec![7; room], vec![9; room]);
         let given = strike(text, places, c, &mut out_codes, &mut out_positions);
         let expected = match strike_call(text, places, c, room, room) {

@@ -1,18 +1,16 @@
 -- Laws of counts: of a list and one more word at either end, of joined lists, and of the words that occur.
 -- Assumes nothing.
-use Prim.Native.Nat.{ℕ, zero, suc, _+_, _-_, _≤_, _<_, zero-le, suc-le-suc}
-use native.Mathlib.Nat.{le-trans, le-refl}
+use Prim.Native.Nat.{ℕ, suc, _+_, _-_, _≤_, _<_, zero-le}
 use native.Mathlib.Omega.{arith}
-use mathlib.Core.Path.{_≡_, refl, sym, ap, _∙_, subst}
+use mathlib.Core.Path.{_≡_, refl, sym, ap, _∙_}
 use mathlib.Core.Logic.{_⊎_, inl, inr}
-use mathlib.Core.Bool.{Bool, true, false}
 use mathlib.Core.List.{List, [], _∷_, _++_, List·Memᴰ, List·Memᴰ·head, List·Memᴰ·tail, List·Memᴰ·not-nil, List·Memᴰ·cases-cons}
-use lib.Dec.{eqb, ltb}
+use lib.Dec.{eqb}
 use lib.ListN.{length, getD, take, drop, take-append-drop}
-use lib.Seq.{drop-cons, take-suc}
-use borrow.Author.Tests.{eqb-true, eqb-false, eq-eqb, ne-eqb}
+use lib.Seq.{take-suc}
+use borrow.Author.Tests.{eq-eqb, ne-eqb}
 use Rattle.counts.specs.Lists.{bit}
-use Rattle.counts.specs.Counts.{occ, distinct}
+use Rattle.counts.specs.Counts.{occ}
 use Rattle.counts.proofs.Lists.{bit-le-one, eq-or-ne}
 
 pub occ-append : (x : ℕ) (l r : List ℕ) → occ x (l ++ r) ≡ occ x l + occ x r
@@ -36,10 +34,6 @@ occ-le-length x (y ∷ ys) =
     let e : occ x ys ≤ length ys = occ-le-length x ys in
     let b : bit (eqb x y) ≤ 1 = bit-le-one (eqb x y) in
     omega arith
-
--- counting from an index on, one word further
-pub occ-drop-suc : (x i : ℕ) (l : List ℕ) → i < length l → occ x (drop i l) ≡ bit (eqb x (getD l i 0)) + occ x (drop (suc i) l)
-occ-drop-suc x i l h = ap (occ x) (drop-cons l i 0 h)
 
 -- counting up to an index, one word further
 pub occ-take-suc : (x i : ℕ) (l : List ℕ) → i < length l → occ x (take (suc i) l) ≡ occ x (take i l) + bit (eqb x (getD l i 0))

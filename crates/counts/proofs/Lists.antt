@@ -1,16 +1,16 @@
--- Laws of the list vocabulary: tests joined by `&&` and `||`, `every`, `any`, `keep` and `range`.
+-- Laws of the list vocabulary: tests joined by `&&` and `||`, `every`, `keep` and `range`.
 -- Assumes nothing.
 use Prim.Native.Nat.{ℕ, zero, suc, _+_, _≤_, _<_, zero-le, suc-le-suc}
-use native.Mathlib.Nat.{le-refl, le-trans, le-suc, not-suc-le-zero, lt-irrefl}
+use native.Mathlib.Nat.{le-refl, le-trans, le-suc}
 use native.Mathlib.Omega.{arith}
-use mathlib.Core.Path.{_≡_, refl, sym, ap, ap₂, _∙_, subst}
+use mathlib.Core.Path.{_≡_, refl, sym, ap, _∙_, subst}
 use mathlib.Core.Logic.{_⊎_, inl, inr, _≢_}
 use borrow.Author.Tests.{eqb-true, eqb-false}
 use lib.Dec.{eqb}
-use mathlib.Core.Bool.{Bool, true, false, cond, not, _&&_, _||_, true≢false, false≢true}
+use mathlib.Core.Bool.{Bool, true, false, _&&_, _||_, true≢false, false≢true}
 use mathlib.Core.List.{List, [], _∷_, _++_, List·Memᴰ, List·Memᴰ·head, List·Memᴰ·tail, List·Memᴰ·not-nil, List·Memᴰ·cases-cons, map}
-use lib.ListN.{length, getD, length-append}
-use Rattle.counts.specs.Lists.{bit, addIf, keep, any, every, range, sum, extend, partsBetween}
+use lib.ListN.{length, getD}
+use Rattle.counts.specs.Lists.{bit, addIf, keep, every, range, sum}
 
 -- ---- tests
 
@@ -54,10 +54,6 @@ pub or-neither : (b c : Bool) → (b || c) ≡ false → (b ≡ false) × (c ≡
 or-neither true c h = absurd (true≢false h)
 or-neither false c h = (refl, h)
 
-pub or-either : (b c : Bool) → (b || c) ≡ true → (b ≡ true) ⊎ (c ≡ true)
-or-either true c h = inl refl
-or-either false c h = inr h
-
 pub eq-or-ne : (x y : ℕ) → (x ≡ y) ⊎ (x ≢ y)
 eq-or-ne x y = go (eqb x y) refl
   where
@@ -65,7 +61,7 @@ eq-or-ne x y = go (eqb x y) refl
     go true e = inl (eqb-true x y e)
     go false e = inr (eqb-false x y e)
 
--- ---- every, any, keep
+-- ---- every, keep
 
 addIf-append : {A : Type 0} (b : Bool) (x : A) (l r : List A) → addIf b x (l ++ r) ≡ addIf b x l ++ r
 addIf-append true x l r = refl
@@ -96,25 +92,6 @@ module _ {A : Type 0} (f : A → Bool) where
   mem-every [] h = refl
   mem-every (x ∷ xs) h = and-both (h x (List·Memᴰ·head refl)) (mem-every xs (λ a m. h a (List·Memᴰ·tail m)))
 
-  pub any-mem : {a : A} {l : List A} → List·Memᴰ a l → f a ≡ true → any f l ≡ true
-  any-mem {a} {l = x ∷ xs} (List·Memᴰ·head e) p = or-left (any f xs) (ap f (sym e) ∙ p)
-  any-mem {a} {l = x ∷ xs} (List·Memᴰ·tail m) p = or-right (f x) (any-mem m p)
-
-  pub any-none : {l : List A} → any f l ≡ false → {a : A} → List·Memᴰ a l → f a ≡ false
-  any-none {l} h {a} m = go (f a) refl
-    where
-      go : (b : Bool) → f a ≡ b → f a ≡ false
-      go true e = absurd (true≢false (sym (any-mem m e) ∙ h))
-      go false e = e
-
-  pub any-some : (l : List A) → any f l ≡ true → (a : A) × List·Memᴰ a l × (f a ≡ true)
-  any-some [] h = absurd (false≢true h)
-  any-some (x ∷ xs) h = go (any-some xs) (or-either (f x) (any f xs) h)
-    where
-      go : (any f xs ≡ true → (a : A) × List·Memᴰ a xs × (f a ≡ true)) → (f x ≡ true) ⊎ (any f xs ≡ true) → (a : A) × List·Memᴰ a (x ∷ xs) × (f a ≡ true)
-      go rec (inl e) = (x, List·Memᴰ·head refl, e)
-      go rec (inr e) = let r = rec e in (r .0, List·Memᴰ·tail (r .1), r .2)
-
   pub keep-append : (l r : List A) → keep f (l ++ r) ≡ keep f l ++ keep f r
   keep-append [] r = refl
   keep-append (x ∷ xs) r = ap (addIf (f x) x) (keep-append xs r) ∙ addIf-append (f x) x (keep f xs) (keep f r)
@@ -134,17 +111,6 @@ module _ {A : Type 0} (f : A → Bool) where
   pub length-keep : (l : List A) → length (keep f l) ≤ length l
   length-keep [] = zero-le
   length-keep (x ∷ xs) = le-trans (length-addIf (f x) x (keep f xs)) (suc-le-suc (length-keep xs))
-
--- tests that agree on the list's elements keep the same
-pub keep-same : {A : Type 0} (f g : A → Bool) (l : List A) → ((a : A) → List·Memᴰ a l → f a ≡ g a) → keep f l ≡ keep g l
-keep-same f g [] h = refl
-keep-same f g (x ∷ xs) h =
-    ap (λ (b : Bool). addIf b x (keep f xs)) (h x (List·Memᴰ·head refl))
-    ∙ ap (addIf (g x) x) (keep-same f g xs (λ a m. h a (List·Memᴰ·tail m)))
-
-pub keep-none : {A : Type 0} (f : A → Bool) (l : List A) → any f l ≡ false → keep f l ≡ []
-keep-none f [] h = refl
-keep-none f (x ∷ xs) h = let n = or-neither (f x) (any f xs) h in rw (n .0) (keep-none f xs (n .1))
 
 -- ---- range
 
@@ -172,21 +138,6 @@ pub getD-range : (a n i d : ℕ) → i < n → getD (range a n) i d ≡ a + i
 getD-range a zero i d h = absurd (omega arith)
 getD-range a (suc n) zero d h = omega arith
 getD-range a (suc n) (suc i) d h = let r : getD (range (suc a) n) i d ≡ suc a + i = getD-range (suc a) n i d (omega arith) in r ∙ omega arith
-
--- one more at the end
-pub range-suc : (a n : ℕ) → range a (suc n) ≡ range a n ++ (a + n) ∷ []
-range-suc a zero = ap (λ (x : ℕ). x ∷ []) (omega arith)
-range-suc a (suc n) = ap (λ (l : List ℕ). a ∷ l) (range-suc (suc a) n ∙ ap (λ (x : ℕ). range (suc a) n ++ x ∷ []) (omega arith))
-
-pub range-append : (a n k : ℕ) → range a (n + k) ≡ range a n ++ range (a + n) k
-range-append a zero k =
-    let e : a ≡ a + 0 = omega arith in
-    let f : 0 + k ≡ k = omega arith in
-    ap₂ range e f
-range-append a (suc n) k =
-    let e : suc n + k ≡ suc (n + k) = omega arith in
-    ap (range a) e
-    ∙ ap (λ (l : List ℕ). a ∷ l) (range-append (suc a) n k ∙ (let f : suc a + n ≡ a + suc n = omega arith in ap (λ (x : ℕ). range (suc a) n ++ range x k) f))
 
 pub map-append : {A B : Type 0} (f : A → B) (l r : List A) → map f (l ++ r) ≡ map f l ++ map f r
 map-append f [] r = refl

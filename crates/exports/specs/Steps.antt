@@ -6,7 +6,7 @@ use mathlib.Core.List.{List}
 use lib.IntN.{ℤ}
 use Rattle.mappings.specs.Cells.{Mapping}
 use Rattle.mappings.specs.Rule.{Answer, found, finished, spent, refused, reported}
-use Rattle.mapper.specs.declared.walk.Stepped.{Stepped}
+use Rattle.mapper.specs.declared.answer.Stepped.{Stepped}
 use Rattle.mapper.specs.Answers.{answerOf}
 use Rattle.mapper.specs.Promise.{StepPromise}
 

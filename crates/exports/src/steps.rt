@@ -1,6 +1,6 @@
 // A step's answer as numbers: its kind, the cells that it reports, and the mapping that it hands out.
 // Assumes nothing.
-use mapper::walk::Stepped;
+use mapper::answer::Stepped;
 ghost use mathlib.Core.Path.{_≡_};
 ghost use Rattle.mappings.specs.Rule.{reported};
 ghost use Rattle.mapper.specs.Answers.{answerOf};

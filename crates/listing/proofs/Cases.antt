@@ -3,6 +3,7 @@
 use Prim.Native.Nat.{ℕ}
 use mathlib.Core.Path.{_≡_, refl}
 use mathlib.Core.List.{List, [], _∷_, _++_}
+use lib.ListN.{replicate}
 use lib.IntN.{ℤ, pos, negsuc}
 use Rattle.listing.specs.PerMille.{perMilleNumber}
 use Rattle.listing.specs.Line.{space, lineFeed, signed, line}
@@ -10,16 +11,33 @@ use Rattle.listing.specs.Writing.{fitting}
 use Rattle.listing.specs.Input.{Input, malformed, given, inputOf}
 use Rattle.listing.proofs.Compute.{listing-computes}
 
--- 3 of 3 and 3; 2 of 3 and 2, rounded down; both lengths 0; m over len
+-- 3 of 3 and 3; 2 of 3 and 2, rounded down; the greatest lengths; one length 0
+-- refused with 16: both lengths 0; m over len; m over the pattern's length; len 65,536; pattern of 4,097
 pub record PerMilleCases : Type 0 where
   pub whole : perMilleNumber 3 3 3 ≡ pos 1000
   pub down : perMilleNumber 2 3 2 ≡ pos 666
+  pub longest : perMilleNumber 4096 65535 4096 ≡ pos 62
+  pub none : perMilleNumber 0 0 1 ≡ pos 0
   pub empty : perMilleNumber 0 0 0 ≡ negsuc 15
-  pub over : perMilleNumber 2 1 5 ≡ negsuc 15
+  pub over-len : perMilleNumber 2 1 5 ≡ negsuc 15
+  pub over-size : perMilleNumber 2 5 1 ≡ negsuc 15
+  pub len-high : perMilleNumber 1 65536 1 ≡ negsuc 15
+  pub size-high : perMilleNumber 1 1 4097 ≡ negsuc 15
 
 pub per-mille-cases : PerMilleCases
 unfolding listing-computes
-per-mille-cases = record { whole = refl; down = refl; empty = refl; over = refl }
+per-mille-cases =
+    record {
+      whole = refl;
+      down = refl;
+      longest = refl;
+      none = refl;
+      empty = refl;
+      over-len = refl;
+      over-size = refl;
+      len-high = refl;
+      size-high = refl;
+    }
 
 -- `1 3 3 3 1000`, `0 10 -5 2 62`, the lowest score, and a line that is one byte longer than the buffer
 pub record LineCases : Type 0 where
@@ -78,4 +96,38 @@ input-cases =
       leadingZero = refl;
       signedK = refl;
       none = refl;
+    }
+
+-- the first line of document 01's example, and a text line and a read line of so many letters A
+abbrev withLetters : ℕ → ℕ → List ℕ
+withLetters text read = withThreshold (49 ∷ lineFeed ∷ []) ++ replicate text 65 ++ lineFeed ∷ replicate read 65 ++ lineFeed ∷ []
+
+-- refused input: two spaces between numbers, one before the first or behind the last; five or seven numbers; no line; two lines; a
+-- text line or a read line of 4,097 letters. With 4,096 letters both are read
+pub record InputRefusals : Type 0 where
+  pub twoSpaces : inputOf (behind (withThreshold (space ∷ 49 ∷ []))) ≡ malformed
+  pub spaceBefore : inputOf (behind (space ∷ withThreshold (49 ∷ []))) ≡ malformed
+  pub spaceBehind : inputOf (behind (withThreshold (49 ∷ space ∷ []))) ≡ malformed
+  pub five : inputOf (behind (49 ∷ space ∷ 49 ∷ space ∷ 49 ∷ space ∷ 49 ∷ space ∷ 49 ∷ [])) ≡ malformed
+  pub seven : inputOf (behind (withThreshold (49 ∷ space ∷ 49 ∷ []))) ≡ malformed
+  pub noLine : inputOf [] ≡ malformed
+  pub twoLines : inputOf (withThreshold (49 ∷ lineFeed ∷ 65 ∷ lineFeed ∷ [])) ≡ malformed
+  pub textLong : inputOf (withLetters 4097 1) ≡ malformed
+  pub readLong : inputOf (withLetters 1 4097) ≡ malformed
+  pub longest : inputOf (withLetters 4096 4096) ≡ given (record { k = 1; w = 1; c = 100; u = 1; v = 1; threshold = pos 1 }) (replicate 4096 65) (replicate 4096 65)
+
+pub input-refusals : InputRefusals
+unfolding listing-computes
+input-refusals =
+    record {
+      twoSpaces = refl;
+      spaceBefore = refl;
+      spaceBehind = refl;
+      five = refl;
+      seven = refl;
+      noLine = refl;
+      twoLines = refl;
+      textLong = refl;
+      readLong = refl;
+      longest = refl;
     }

@@ -2,11 +2,11 @@
 -- Assumes nothing.
 use Prim.Native.Nat.{ℕ, _+_, _*_, _^_}
 
--- an interval's len is at most 65,535
+-- an interval's len is at most 65,535, as many entries as a text
 abbrev pub lenLimit : ℕ
 lenLimit = 65535
 
--- a pattern's length is at most 4,096
+-- a pattern's length is at most 4,096, as start's
 abbrev pub sizeLimit : ℕ
 sizeLimit = 4096
 

@@ -4,10 +4,11 @@ use report::beginning::begin;
 use report::filling::fill;
 ghost use mathlib.Core.Path.{_≡_};
 ghost use lib.ListN.{length};
+ghost use Rattle.listing.specs.Limits.{inputLimit};
 
-// So many bytes of the input decide.
+// So many bytes of the input decide what is printed.
 fn input_bytes() -> [u8; 8261]
-    ensures { λ r. ⌜ 8261 ≡ length r ⌝ }
+    ensures { λ r. ⌜ inputLimit ≡ length r ⌝ }
 {
     [0; 8261]
 }

@@ -30,7 +30,7 @@ use Rattle.mappings.proofs.Rule.{outcome, outcome-within, passing}
 use Rattle.start.specs.Start.{startReply, startWords, afterStart}
 use Rattle.start.specs.WorkWords.{sessionWords}
 use Rattle.start.proofs.WorkWords.{words-hold, session-number, take-session, drop-session}
-use Rattle.mapper.specs.declared.walk.Stepped.{Stepped}
+use Rattle.mapper.specs.declared.answer.Stepped.{Stepped}
 use Rattle.mapper.specs.Answers.{answerOf}
 use Rattle.mapper.specs.Step.{tooFewWords}
 use Rattle.mapper.specs.Promise.{Accepts, StepPromise}

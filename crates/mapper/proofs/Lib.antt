@@ -1,6 +1,7 @@
--- Laws about the work words, the column's update and sessions.
+-- Laws about the work words, the column's update and sessions, and examples that compute.
 pub mod Bias
 pub mod Passing
+pub mod Quiet
 pub mod Walking
 pub mod Places
 pub mod Best
@@ -13,4 +14,6 @@ pub mod Accepted
 pub mod Within
 pub mod StepPromise
 pub mod Demand3
+pub mod Witness
 pub mod Consequences
+pub mod Cases

@@ -7,12 +7,14 @@ use native.Mathlib.Numerals.{add-one}
 use mathlib.Core.Path.{_≡_, refl, sym, ap, _∙_}
 use mathlib.Core.Bool.{Bool, true, false, cond, true≢false, false≢true}
 use mathlib.Core.List.{List}
+use borrow.Author.Tests.{lt-leb}
+use lib.Dec.{leb}
 use lib.ListN.{length, getD, set, length-set}
 use Rattle.mapper.specs.declared.column.Line.{Line}
 use Rattle.mapper.specs.declared.column.Passed.{Passed}
 use Rattle.mapper.specs.Passing.{lowered, lineScore, bestWith, inReach, finalTest, Update, passRows}
 
-left-suc : (to i : ℕ) → i < to → to - i ≡ suc (to - (i + 1))
+pub left-suc : (to i : ℕ) → i < to → to - i ≡ suc (to - (i + 1))
 left-suc to i h = omega arith
 
 -- what the code has computed at a cell of row i: its score word, whether its left end is reasonable, the best so far
@@ -23,18 +25,43 @@ pub record AtCell (line : Line) (i m before : ℕ) (part : List ℕ) (s one grea
   pub best-is : best ≡ max before greatest
 
 module _ (line : Line) (to i m before : ℕ) (part : List ℕ) (s one greatest best : ℕ) (h : i < to) (at : AtCell line i m before part s one greatest best) where
-  best-with : bestWith part i before (lineScore line m (getD part i 0)) ≡ best
+  pub best-with : bestWith part i before (lineScore line m (getD part i 0)) ≡ best
   unfolding bestWith
   best-with = sym (at .best-is ∙ ap (max before) (at .greatest-is ∙ ap (max (getD part (4096 + i) 0)) (at .score)))
 
   unrolled : passRows line (to - i) i m before part ≡ cond (finalTest (line .threshold) s best one (line .back) i) (record { answer = record { found = true; row = suc i; m = m; score = s }; part = set part (4096 + i) best }) (passRows line (to - (i + 1)) (suc i) (lowered m one) best (set part (4096 + i) best))
   unrolled = rw (left-suc to i h, at .score, at .reach, ← best-with)
 
-  pub pass-stop : finalTest (line .threshold) s best one (line .back) i ≡ true → passRows line (to - i) i m before part ≡ record { answer = record { found = true; row = i + 1; m = m; score = s }; part = set part (4096 + i) best }
+  pass-stop : finalTest (line .threshold) s best one (line .back) i ≡ true → passRows line (to - i) i m before part ≡ record { answer = record { found = true; row = i + 1; m = m; score = s }; part = set part (4096 + i) best }
   pass-stop t = unrolled ∙ rw (t, add-one)
 
-  pub pass-on : (m′ : ℕ) → finalTest (line .threshold) s best one (line .back) i ≡ false → m′ ≡ lowered m one → passRows line (to - i) i m before part ≡ passRows line (to - (i + 1)) (i + 1) m′ best (set part (4096 + i) best)
+  pass-on : (m′ : ℕ) → finalTest (line .threshold) s best one (line .back) i ≡ false → m′ ≡ lowered m one → passRows line (to - i) i m before part ≡ passRows line (to - (i + 1)) (i + 1) m′ best (set part (4096 + i) best)
   pass-on m′ t e = unrolled ∙ rw (t, e, add-one)
+
+-- a score word below the threshold: not final, whatever the other tests say
+pub low-score : (threshold s best one back i : ℕ) → leb threshold s ≡ false → finalTest threshold s best one back i ≡ false
+unfolding finalTest
+low-score threshold s best one back i t = rw t
+
+pub below-threshold : (threshold s best one back i : ℕ) → s < threshold → finalTest threshold s best one back i ≡ false
+below-threshold threshold s best one back i h = low-score threshold s best one back i (lt-leb threshold s h)
+
+-- one cell: the update ends behind it
+module _ (line : Line) (i m before : ℕ) (part : List ℕ) (s one greatest best : ℕ) (at : AtCell line i m before part s one greatest best) where
+  one-cell : i + 1 - i ≡ 1
+  one-cell = omega arith
+
+  no-cell : i + 1 - (i + 1) ≡ 0
+  no-cell = omega arith
+
+  inside : i < i + 1
+  inside = omega arith
+
+  pub one-stop : finalTest (line .threshold) s best one (line .back) i ≡ true → passRows line 1 i m before part ≡ record { answer = record { found = true; row = i + 1; m = m; score = s }; part = set part (4096 + i) best }
+  one-stop t = rw one-cell at (pass-stop line (i + 1) i m before part s one greatest best inside at t)
+
+  pub one-on : (m′ : ℕ) → finalTest (line .threshold) s best one (line .back) i ≡ false → m′ ≡ lowered m one → passRows line 1 i m before part ≡ record { answer = record { found = false; row = i + 1; m = m′; score = 0 }; part = set part (4096 + i) best }
+  one-on m′ t e = rw (one-cell, no-cell) at (pass-on line (i + 1) i m before part s one greatest best inside at m′ t e)
 
 -- ---- where the update stops
 

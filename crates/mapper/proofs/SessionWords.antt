@@ -23,6 +23,7 @@ use Rattle.start.proofs.WorkWords.{Outside, Free, HoldsBlocks, Holds}
 use Rattle.mapper.specs.declared.place.Place.{Place}
 use Rattle.mapper.specs.Walking.{partOf, withPart, saved}
 use Rattle.mapper.proofs.Chunk.{PartHolds, SameOutside}
+use Rattle.mapper.proofs.Walking.{saved-other, saved-behind}
 
 -- ---- words of a part, and of the words with the part put back
 
@@ -157,21 +158,10 @@ module _ (task : Task) (limited : Limited task) (threshold-fits : mag (task .thr
     number₈ : length saved₈ ≡ length work
     number₈ = length-set saved₇ 8 (place .row) ∙ number₇
 
-    -- a word before or behind those of the place
-    saved-other : (n : ℕ) → (n ≡ 3 → ⊥) → (n ≡ 7 → ⊥) → (n ≡ 8 → ⊥) → (n ≡ 9 → ⊥) → getD (saved work place cells) n 0 ≡ getD work n 0
-    unfolding saved
-    saved-other n a b c d =
-        getD-set-other saved₈ 9 n (place .m) 0 d
-        ∙ getD-set-other saved₇ 8 n (place .row) 0 c
-        ∙ getD-set-other saved₃ 7 n (place .columns) 0 b
-        ∙ getD-set-other work 3 n ((getD work 3 0 + cells) % 4294967296) 0 a
-
-    saved-behind : (n : ℕ) → 10 ≤ n → getD (saved work place cells) n 0 ≡ getD work n 0
-    saved-behind n l = saved-other n (λ e. omega arith) (λ e. omega arith) (λ e. omega arith) (λ e. omega arith)
-
+    -- a word before those of the place, or between them
     saved-low : (n : ℕ) → (n < 3) ⊎ ((3 < n) × (n < 7)) → getD (saved work place cells) n 0 ≡ getD work n 0
-    saved-low n (inl l) = saved-other n (λ e. omega arith) (λ e. omega arith) (λ e. omega arith) (λ e. omega arith)
-    saved-low n (inr l) = saved-other n (λ e. omega arith) (λ e. omega arith) (λ e. omega arith) (λ e. omega arith)
+    saved-low n (inl l) = saved-other work place cells n (λ e. omega arith) (λ e. omega arith) (λ e. omega arith) (λ e. omega arith)
+    saved-low n (inr l) = saved-other work place cells n (λ e. omega arith) (λ e. omega arith) (λ e. omega arith) (λ e. omega arith)
 
     saved-blocks : HoldsBlocks task before q (saved work place cells)
     unfolding saved
@@ -183,12 +173,12 @@ module _ (task : Task) (limited : Limited task) (threshold-fits : mag (task .thr
       kind-word = saved-low 4 (inr (omega arith)) ∙ held .kind-word;
       size-word = saved-low 5 (inr (omega arith)) ∙ held .size-word;
       threshold-word = saved-low 6 (inr (omega arith)) ∙ held .threshold-word;
-      back-word = λ i l. saved-behind (2048 + i) (omega arith) ∙ held .back-word i l;
-      index-word = λ i l. saved-behind (4096 + i) (omega arith) ∙ held .index-word i l;
-      reach-word = λ i l. saved-behind (6144 + i) (omega arith) ∙ held .reach-word i l;
-      best-word = λ i l. saved-behind (8192 + i) (omega arith) ∙ held .best-word i l;
-      whole-word = λ i l. saved-behind (10240 + i) (omega arith) ∙ held .whole-word i l;
-      free-word = λ n f. saved-behind n (f .heading-before) ∙ held .free-word n f;
+      back-word = λ i l. saved-behind work place cells (2048 + i) (omega arith) ∙ held .back-word i l;
+      index-word = λ i l. saved-behind work place cells (4096 + i) (omega arith) ∙ held .index-word i l;
+      reach-word = λ i l. saved-behind work place cells (6144 + i) (omega arith) ∙ held .reach-word i l;
+      best-word = λ i l. saved-behind work place cells (8192 + i) (omega arith) ∙ held .best-word i l;
+      whole-word = λ i l. saved-behind work place cells (10240 + i) (omega arith) ∙ held .whole-word i l;
+      free-word = λ n f. saved-behind work place cells n (f .heading-before) ∙ held .free-word n f;
     }
 
     pub place-saved : q < 4294967296 → getD work 3 0 + cells ≡ q → place .columns ≡ columnsLeft (hitCount task) q → place .row ≡ nextRow (hitCount task) q → place .m ≡ nextShared task (columnsLeft (hitCount task) q) (nextRow (hitCount task) q) → Holds task before q (saved work place cells)

@@ -21,8 +21,8 @@ use Rattle.mappings.proofs.HitCodes.{cell-shared}
 use Rattle.start.specs.Start.{badWeights}
 use Rattle.start.specs.WorkWords.{columnsLeft, nextRow, nextShared, sessionWords}
 use Rattle.start.proofs.WorkWords.{HoldsBlocks, Holds, words-hold}
-use Rattle.mapper.specs.declared.walk.Stepped.{Stepped}
-use Rattle.mapper.specs.declared.walk.Stepped.the-variants.{Found, Finished, Spent, TooFewWords, BadWords}
+use Rattle.mapper.specs.declared.answer.Stepped.{Stepped}
+use Rattle.mapper.specs.declared.answer.Stepped.the-variants.{Found, Finished, Spent, TooFewWords, BadWords}
 use Rattle.mapper.specs.declared.walk.Terms.{Terms}
 use Rattle.mapper.specs.Answers.{answerOf}
 use Rattle.mapper.specs.Step.{tooFewWords, badWords}

@@ -1,16 +1,16 @@
--- The tests of words 0 to 3 in the code's order, against 15 as document 01 states it.
+-- The tests of words 0 to 3 in the code's order, against 15 as document 01 states it; and the test for a step of one cell.
 -- Assumes nothing.
 use Prim.Native.Nat.{ℕ, suc, _+_, _*_, _/_, _≤_, _<_}
 use native.Mathlib.Nat.{mul-le-mul}
 use native.Mathlib.Numerals.{add-one}
 use native.Mathlib.Omega.{arith}
 use mathlib.Core.Path.{_≡_, refl, sym, ap, _∙_}
-use mathlib.Core.Bool.{Bool, true, false, _||_}
+use mathlib.Core.Bool.{Bool, true, false, _||_, _&&_}
 use mathlib.Core.List.{List}
-use lib.Dec.{ltb}
+use lib.Dec.{ltb, eqb}
 use lib.ListN.{getD}
-use borrow.Author.Tests.{lt-ltb, le-ltb, ltb-false}
-use Rattle.counts.proofs.Lists.{or-neither}
+use borrow.Author.Tests.{lt-ltb, le-ltb, ltb-false, ltb-true, eqb-true}
+use Rattle.counts.proofs.Lists.{or-neither, and-left, and-right}
 use Rattle.mappings.specs.Cells.{cellCount}
 use Rattle.start.specs.Start.{badWeights}
 use Rattle.mapper.specs.Step.{badWords}
@@ -64,3 +64,8 @@ good-words work e =
       small-u = ltb-false 1000 (getD work 1 0) (or-neither (ltb (getD work 1 0) 1) (ltb 1000 (getD work 1 0)) (uv .0) .1);
       small-v = ltb-false 1000 (getD work 2 0) (or-neither (ltb (getD work 2 0) 1) (ltb 1000 (getD work 2 0)) (uv .1) .1);
     }
+
+-- a budget of one cell, and a further row in its column
+pub one-inside : (budget row columns : ℕ) → (ltb (row + 1) columns && eqb budget 1) ≡ true → (budget ≡ 1) × (row + 1 < columns)
+one-inside budget row columns e =
+    (eqb-true budget 1 (and-right (ltb (row + 1) columns) (eqb budget 1) e), ltb-true (row + 1) columns (and-left (ltb (row + 1) columns) (eqb budget 1) e))

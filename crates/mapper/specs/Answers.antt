@@ -1,8 +1,8 @@
 -- What step's answer is in document 01: its case, number and values.
 -- Assumes nothing.
 use Rattle.mappings.specs.Rule.{Answer, found, finished, spent, refused}
-use Rattle.mapper.specs.declared.walk.Stepped.{Stepped}
-use Rattle.mapper.specs.declared.walk.Stepped.the-variants.{Found, Finished, Spent, TooFewWords, BadWords}
+use Rattle.mapper.specs.declared.answer.Stepped.{Stepped}
+use Rattle.mapper.specs.declared.answer.Stepped.the-variants.{Found, Finished, Spent, TooFewWords, BadWords}
 
 -- found with a, b, score, m and the cells passed; finished and spent with the cells passed; refused with 10 or 15
 abbrev pub answerOf : Stepped → Answer

@@ -1,4 +1,4 @@
--- What a column's update and a step do to any work words, made by start and steps or not.
+-- What a column's update does to any work words, made by start and steps or not.
 -- Assumes nothing.
 use Prim.Native.Nat.{ℕ, zero, suc, _+_, _-_, _*_, _%_, _^_, min, max}
 use mathlib.Core.Bool.{Bool, true, false, cond, _&&_}
@@ -9,6 +9,7 @@ use lib.Seq.{slice, sets}
 use Rattle.counts.specs.Lists.{bit}
 use Rattle.mapper.specs.declared.column.Line.{Line}
 use Rattle.mapper.specs.declared.column.Passed.{Passed}
+use Rattle.mapper.specs.declared.column.Paused.{Paused}
 
 -- m less one or none, as a word
 abbrev pub lowered : ℕ → ℕ → ℕ
@@ -34,6 +35,24 @@ inReach line part i = bit (ltb (line .column) (getD part (2048 + i) 0))
 -- the four tests of Definition 1 at a cell of row i
 unfoldable pub finalTest : ℕ → ℕ → ℕ → ℕ → ℕ → ℕ → Bool
 finalTest threshold s best one from i = leb threshold s && eqb s best && eqb one 1 && leb from i
+
+-- where the cells were passed up to one at the threshold: what is answered, and the part of the work words afterwards
+pub record Pause : Type 0 where
+  pub answer : Paused
+  pub part : List ℕ
+
+-- the next n cells of the line from row i on, up to the first whose score word reaches the threshold
+abbrev pub quietRows : Line → ℕ → ℕ → ℕ → ℕ → List ℕ → Pause
+quietRows line zero i m before part = record { answer = record { row = i; m = m; best = before; score = 0; reach = 0 }; part = part }
+quietRows line (suc n) i m before part =
+    let s = lineScore line m (getD part i 0) in
+    let best = bestWith part i before s in
+    let one = inReach line part i in
+    let updated = set part (4096 + i) best in
+    let later = quietRows line n (suc i) (lowered m one) best updated in
+    cond (leb (line .threshold) s)
+    (record { answer = record { row = suc i; m = lowered m one; best = best; score = s; reach = getD part (2048 + i) 0 }; part = updated })
+    later
 
 -- a column's update: what it answers, and the part of the work words afterwards
 pub record Update : Type 0 where

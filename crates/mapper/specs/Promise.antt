@@ -16,7 +16,7 @@ use Rattle.start.specs.Start.{startReply}
 use Rattle.start.specs.WorkWords.{sessionWords}
 use Rattle.mapper.specs.Step.{tooFewWords, badWords}
 use Rattle.mapper.specs.Answers.{answerOf}
-use Rattle.mapper.specs.declared.walk.Stepped.{Stepped}
+use Rattle.mapper.specs.declared.answer.Stepped.{Stepped}
 
 -- start accepts the task with these work words. The threshold is any signed 32-bit number
 pub record Accepts (task : Task) (before : List ℕ) : Type 0 where

@@ -15,7 +15,7 @@ use Rattle.mappings.specs.Score.{Task}
 use Rattle.mappings.specs.Rule.{Answer, Step, passed}
 use Rattle.mappings.specs.Demand.{Demanded}
 use Rattle.start.specs.Start.{startReply, startWords}
-use Rattle.mapper.specs.declared.walk.Stepped.{Stepped}
+use Rattle.mapper.specs.declared.answer.Stepped.{Stepped}
 use Rattle.mapper.specs.Answers.{answerOf}
 use Rattle.mapper.specs.Promise.{StepPromise}
 

@@ -12,8 +12,8 @@ use Rattle.mapper.specs.declared.column.Line.{Line}
 use Rattle.mapper.specs.declared.column.Passed.{Passed}
 use Rattle.mapper.specs.declared.place.Place.{Place}
 use Rattle.mapper.specs.declared.walk.Terms.{Terms}
-use Rattle.mapper.specs.declared.walk.Stepped.{Stepped}
-use Rattle.mapper.specs.declared.walk.Stepped.the-variants.{Found, Finished, Spent}
+use Rattle.mapper.specs.declared.answer.Stepped.{Stepped}
+use Rattle.mapper.specs.declared.answer.Stepped.the-variants.{Found, Finished, Spent}
 
 -- m of the first cell of the last of these columns
 abbrev pub topShared : List ℕ → ℕ → ℕ
@@ -41,6 +41,7 @@ lineOf work terms j = record {
   column = j;
   gain = terms .gain;
   v = terms .v;
+  -- 2^44 + 2^31: 2^31 is the score words' bias, and 2^44 keeps any words' numbers above 0
   base = 17594333528064 - terms .v * (getD work (4096 + j) 0 + 1 + terms .size);
   back = getD work (2048 + j) 0;
   threshold = terms .threshold;

@@ -2,13 +2,14 @@
 use crate::score::below;
 use crate::score::greater;
 use crate::score::lowered;
+use crate::score::raised;
 use crate::score::score_word;
 use start::words::BEST;
 use start::words::REACH;
 ghost use mathlib.Core.Path.{_≡_};
-ghost use Prim.Native.Nat.{ℕ, _-_, _≤_};
+ghost use Prim.Native.Nat.{ℕ, _-_, _≤_, _<_};
 ghost use lib.ListN.{length};
-ghost use Rattle.mapper.specs.Passing.{seenBefore, finalTest, passRows};
+ghost use Rattle.mapper.specs.Passing.{seenBefore, finalTest, quietRows, passRows};
 
 // What the cells of a column share: its number, the factors and the sum of the score words, the row from which its hit is
 // reasonable as a right end, and the threshold.
@@ -27,6 +28,16 @@ pub struct Passed {
     pub row: usize,
     pub m: u32,
     pub score: u32,
+}
+
+// Where cells were passed up to one at the threshold: the row of the next cell and its m, the greatest score word so far, and of the
+// cell at the threshold its score word and its left end's reach, both 0 where there was none.
+pub struct Paused {
+    pub row: usize,
+    pub m: u32,
+    pub best: u32,
+    pub score: u32,
+    pub reach: u32,
 }
 
 // The greatest score word that the rows before this one have seen.
@@ -56,6 +67,43 @@ fn is_final(threshold: u32, s: u32, best: u32, one: u32, back: usize, row: usize
     back <= row
 }
 
+// Passes the cells of rows from `from` up to `to`, or up to the first whose score word reaches the threshold. m0 is the first cell's
+// m, and the rows before it have seen best0. m and the row go on before the only test, so that the loop has one way on.
+fn quiet(part: &mut [u32], line: Line, from: usize, to: usize, m0: u32, best0: u32) -> Paused
+    requires { ⌜ (length (now part) ≡ 6144) × (from ≤ to) × (to ≤ 2048) ⌝ }
+    requires { ⌜ (line .gain ≤ 3000) × (line .v ≤ 1000) × (line .base ≤ 17594333528064) ⌝ }
+    ensures { λ r. ⌜ r ≡ quietRows line (to - from) from m0 best0 (now (part .entry)) .answer ⌝ }
+    ensures { λ r. ⌜ now (part .exit) ≡ quietRows line (to - from) from m0 best0 (now (part .entry)) .part ⌝ }
+{
+    let mut m = m0;
+    let mut best = best0;
+    let mut i = from;
+    while i < to {
+        let s = score_word(line.gain, m, line.v, part[i], line.base);
+        let reach = part[REACH + i];
+        best = greater(best, greater(part[BEST + i], s));
+        part[BEST + i] = best;
+        m = lowered(m, below(line.column, reach));
+        i += 1;
+        if line.threshold <= s {
+            return Paused {
+                row: i,
+                m,
+                best,
+                score: s,
+                reach,
+            };
+        }
+    }
+    Paused {
+        row: i,
+        m,
+        best,
+        score: 0,
+        reach: 0,
+    }
+}
+
 // Passes the cells of rows from `from` up to `to`, or up to the first final one. m0 is the first cell's m.
 pub fn pass(part: &mut [u32], line: Line, from: usize, to: usize, m0: u32) -> Passed
     requires { ⌜ (length (now part) ≡ 6144) × (from ≤ to) × (to ≤ 2048) ⌝ }
@@ -67,25 +115,68 @@ pub fn pass(part: &mut [u32], line: Line, from: usize, to: usize, m0: u32) -> Pa
     let mut best = best_before(part, from);
     let mut i = from;
     while i < to {
-        let s = score_word(line.gain, m, line.v, part[i], line.base);
-        let one = below(line.column, part[REACH + i]);
-        best = greater(best, greater(part[BEST + i], s));
-        part[BEST + i] = best;
-        if is_final(line.threshold, s, best, one, line.back, i) {
+        let q = quiet(part, line, i, to, m, best);
+        i = q.row;
+        m = q.m;
+        best = q.best;
+        if is_final(
+            line.threshold,
+            q.score,
+            best,
+            below(line.column, q.reach),
+            line.back,
+            i - 1,
+        ) {
             return Passed {
                 found: true,
-                row: i + 1,
-                m,
-                score: s,
+                row: i,
+                m: raised(m),
+                score: q.score,
             };
         }
-        m = lowered(m, one);
-        i += 1;
     }
     Passed {
         found: false,
         row: i,
         m,
+        score: 0,
+    }
+}
+
+// Passes the one cell of this row, whose m is this. No loop, and the threshold first: steps of one cell pass here.
+pub fn pass_one(part: &mut [u32], line: Line, row: usize, m: u32) -> Passed
+    requires { ⌜ (length (now part) ≡ 6144) × (row < 2048) ⌝ }
+    requires { ⌜ (line .gain ≤ 3000) × (line .v ≤ 1000) × (line .base ≤ 17594333528064) ⌝ }
+    ensures { λ r. ⌜ r ≡ passRows line 1 row m (seenBefore (now (part .entry)) row) (now (part .entry)) .answer ⌝ }
+    ensures { λ r. ⌜ now (part .exit) ≡ passRows line 1 row m (seenBefore (now (part .entry)) row) (now (part .entry)) .part ⌝ }
+{
+    let before = best_before(part, row);
+    let s = score_word(line.gain, m, line.v, part[row], line.base);
+    let one = below(line.column, part[REACH + row]);
+    let best = greater(before, greater(part[BEST + row], s));
+    part[BEST + row] = best;
+    let next = row + 1;
+    let rest = lowered(m, one);
+    if s < line.threshold {
+        return Passed {
+            found: false,
+            row: next,
+            m: rest,
+            score: 0,
+        };
+    }
+    if is_final(line.threshold, s, best, one, line.back, row) {
+        return Passed {
+            found: true,
+            row: next,
+            m,
+            score: s,
+        };
+    }
+    Passed {
+        found: false,
+        row: next,
+        m: rest,
         score: 0,
     }
 }

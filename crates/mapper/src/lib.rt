@@ -1,6 +1,7 @@
-// Mapping sessions: `start` copies what a session needs into lent work words, and `step` passes cells in them.
-pub mod column;
-pub mod place;
-pub mod score;
+// Mapping sessions: `session::step` passes cells in the work words that start wrote. Assumes nothing.
+pub mod answer;
+mod column;
+mod place;
+mod score;
 pub mod session;
-pub mod walk;
+mod walk;

@@ -28,6 +28,13 @@ pub fn lowered(m: u32, one: u32) -> u32
     ((m as u64 + 4294967296 - one as u64) % 4294967296) as u32
 }
 
+// m and one.
+pub fn raised(m: u32) -> u32
+    ensures { λ r. ⌜ r ≡ (m + 1) % 4294967296 ⌝ }
+{
+    ((m as u64 + 1) % 4294967296) as u32
+}
+
 // The score word of a cell: gain·m + v·x + base.
 pub fn score_word(gain: u64, m: u32, v: u64, x: u32, base: u64) -> u32
     requires { ⌜ (gain ≤ 3000) × (v ≤ 1000) × (base ≤ 17594333528064) ⌝ }

@@ -1,8 +1,9 @@
 // A step of a session: what is refused, and the walk from the place in the work words.
+use crate::answer::Stepped;
 use crate::place::Place;
-use crate::walk::Stepped;
 use crate::walk::Terms;
 use crate::walk::walk;
+use crate::walk::walk_one;
 use start::words::COLUMNS;
 use start::words::HIT_LIMIT;
 use start::words::HITS;
@@ -19,6 +20,8 @@ use start::words::wide;
 use start::words::wider;
 ghost use mathlib.Core.Path.{_≡_};
 ghost use Prim.Native.Nat.{ℕ, _+_, _*_, _≤_};
+ghost use mathlib.Core.Bool.{_&&_};
+ghost use lib.Dec.{eqb, ltb};
 ghost use lib.ListN.{length, getD};
 ghost use Rattle.mapper.specs.Step.{badWords};
 ghost use Rattle.mapper.specs.Promise.{StepPromise};
@@ -71,6 +74,17 @@ fn terms_of(work: &[u32]) -> Terms
     }
 }
 
+// The budget is one cell, and the column of that cell has a further row.
+fn one_inside(budget: u32, row: usize, columns: usize) -> bool
+    requires { ⌜ row ≤ 4294967295 ⌝ }
+    ensures { λ r. ⌜ r ≡ (ltb (row + 1) columns && eqb budget 1) ⌝ }
+{
+    if columns <= row + 1 {
+        return false;
+    }
+    budget == 1
+}
+
 // Passes cells until one is final, none remains or the budget's are passed. Words that no start and no step made, and whose place
 // lies in no column, get spent with no cell.
 pub fn step(work: &mut [u32], budget: u32) -> Stepped
@@ -86,6 +100,11 @@ pub fn step(work: &mut [u32], budget: u32) -> Stepped
     let row = wide(work[ROW]);
     if wide(work[HITS]) < columns {
         return Stepped::Spent(0);
+    }
+    if one_inside(budget, row, columns) {
+        let terms = terms_of(work);
+        let m = work[SHARED];
+        return walk_one(work, terms, Place { columns, row, m });
     }
     if columns < row {
         return Stepped::Spent(0);

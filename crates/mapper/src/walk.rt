@@ -1,7 +1,9 @@
 // Walking along the columns from a place, until a final cell, the budget's end or the last cell.
+use crate::answer::Stepped;
 use crate::column::Line;
 use crate::column::Passed;
 use crate::column::pass;
+use crate::column::pass_one;
 use crate::place::Place;
 use crate::place::save;
 use crate::place::settled;
@@ -14,24 +16,11 @@ use start::words::PART_END;
 use start::words::wide;
 use start::words::wider;
 ghost use mathlib.Core.Path.{_≡_};
-ghost use Prim.Native.Nat.{ℕ, _≤_, _<_, min};
+ghost use mathlib.Core.Bool.{cond};
+ghost use Prim.Native.Nat.{ℕ, _+_, _≤_, _<_, min};
 ghost use lib.ListN.{length};
+ghost use Rattle.mapper.specs.Passing as Passing;
 ghost use Rattle.mapper.specs.Walking.{lineOf, spentWalk, finishedWalk, foundWalk, walkOn};
-
-// What a step answers.
-pub enum Stepped {
-    Found {
-        a: u32,
-        b: u32,
-        score: i32,
-        m: u32,
-        cells: u32,
-    },
-    Finished(u32),
-    Spent(u32),
-    TooFewWords,
-    BadWords,
-}
 
 // What the score words of a session share: u + 2v, v, the pattern's length, and the threshold with its bias.
 pub struct Terms {
@@ -146,4 +135,42 @@ pub fn walk(work: &mut [u32], terms: Terms, start: Place, budget: usize) -> Step
         m = top_shared(work, columns);
     }
     finished(work, Place { columns: 0, row, m }, budget - left)
+}
+
+// m behind the cell that was passed last.
+fn behind(p: Passed) -> u32
+    ensures { λ r. ⌜ r ≡ cond (p .found) (Passing.lowered (p .m) 1) (p .m) ⌝ }
+{
+    if p.found {
+        return lowered(p.m, 1);
+    }
+    p.m
+}
+
+// The walk of one cell in a column that has a further row. The place is saved before the answer is made, once for both answers.
+pub fn walk_one(work: &mut [u32], terms: Terms, start: Place) -> Stepped
+    requires { ⌜ (16384 ≤ length (now work)) × (start .columns ≤ 2048) × (start .row + 1 < start .columns) ⌝ }
+    requires { ⌜ (terms .gain ≤ 3000) × (terms .v ≤ 1000) × (terms .size ≤ 4294967295) ⌝ }
+    ensures { λ r. ⌜ r ≡ walkOn terms 1 (start .columns) (start .row) (start .m) 1 (now (work .entry)) .answer ⌝ }
+    ensures { λ r. ⌜ now (work .exit) ≡ walkOn terms 1 (start .columns) (start .row) (start .m) 1 (now (work .entry)) .words ⌝ }
+{
+    let columns = start.columns;
+    let line = line_of(work, terms, columns - 1);
+    let p = pass_one(&mut work[INDEX..PART_END], line, start.row, start.m);
+    let row = p.row;
+    let m = behind(p);
+    save(work, Place { columns, row, m }, 1);
+    if p.found {
+        let a = work[INDEX + row - 1];
+        let b = work[INDEX + columns - 1];
+        let score = unbiased(p.score);
+        return Stepped::Found {
+            a,
+            b,
+            score,
+            m: p.m,
+            cells: 1,
+        };
+    }
+    Stepped::Spent(1)
 }

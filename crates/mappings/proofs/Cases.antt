@@ -7,9 +7,9 @@ use lib.IntN.{ℤ, pos, negsuc}
 use Rattle.sketch.specs.Kmers.{codes}
 use Rattle.sketch.specs.Sketch.{sketch}
 use Rattle.strike.specs.Strike.{struck}
-use Rattle.mappings.specs.Limits.{workWords}
+use Rattle.mappings.specs.Limits.{weightLimit, patternLimit, hitLimit, workWords}
 use Rattle.mappings.specs.Score.{Task}
-use Rattle.mappings.specs.Cells.{Mapping}
+use Rattle.mappings.specs.Cells.{Mapping, cellCount}
 use Rattle.mappings.specs.Rule.{found, finished, spent, refused, Step, answers}
 use Rattle.mappings.proofs.Compute.{mappings-compute}
 
@@ -67,7 +67,8 @@ mapping-cases = record { case5 = refl; case6 = refl; case7 = refl; case8 = refl;
 -- `tied`: AATC, AC: [0, 0] stays, though [0, 3] scores as much. `wider`: CCAT, AC, u = 2: [0, 0] is not final, though only [0, 2]
 -- and [0, 3] score more, neither of which is reasonable, and [0, 3] does not end on a hit. `one-end`: ACC, AC: [0, 2] scores
 -- 1 and nothing is wider, but only its left end is reasonable. `weights`: ATGCA, AC, u = 2, v = 3, threshold −2: scores below 0, one at
--- the threshold. `refusals`: case 6 by steps of which two are lent too few words
+-- the threshold. `refusals`: case 6 by steps of which two are lent too few words.
+-- `found-first`: case 6 with a budget that ends at the final cell: found goes before spent
 pub record MappingExamples : Type 0 where
   pub struck-text : answers (weighed 1 1 1 (65 ∷ 67 ∷ 65 ∷ 71 ∷ []) (65 ∷ 67 ∷ 71 ∷ []) (pos 1)) 0 (step 9 ∷ step 9 ∷ []) ≡ found (mapping 0 1 (pos 1) 2) 1 ∷ finished 2 ∷ []
   pub tied : answers (task (65 ∷ 65 ∷ 84 ∷ 67 ∷ []) (65 ∷ 67 ∷ []) (pos 0)) 0 (step 9 ∷ step 9 ∷ step 9 ∷ []) ≡ found (mapping 1 3 (pos 1) 2) 2 ∷ found (mapping 0 0 (pos 0) 1) 4 ∷ finished 0 ∷ []
@@ -75,7 +76,20 @@ pub record MappingExamples : Type 0 where
   pub one-end : answers (task (65 ∷ 67 ∷ 67 ∷ []) (65 ∷ 67 ∷ []) (pos 0)) 0 (step 9 ∷ step 9 ∷ []) ≡ found (mapping 0 1 (pos 2) 2) 4 ∷ finished 2 ∷ []
   pub weights : answers (weighed 100 2 3 (65 ∷ 84 ∷ 71 ∷ 67 ∷ 65 ∷ []) (65 ∷ 67 ∷ []) (negsuc 1)) 0 (step 9 ∷ step 9 ∷ step 9 ∷ step 9 ∷ []) ≡ found (mapping 3 4 (pos 4) 2) 2 ∷ found (mapping 0 3 (negsuc 1) 2) 2 ∷ found (mapping 0 0 (negsuc 0) 1) 2 ∷ finished 0 ∷ []
   pub refusals : answers (task (65 ∷ 67 ∷ 65 ∷ 71 ∷ []) (65 ∷ 67 ∷ 71 ∷ []) (pos 1)) 0 (step 1 ∷ short 9 16383 ∷ step 5 ∷ short 8 0 ∷ step 8 ∷ step 0 ∷ []) ≡ spent 1 ∷ refused 10 ∷ found (mapping 1 3 (pos 3) 3) 1 ∷ refused 10 ∷ finished 8 ∷ finished 0 ∷ []
+  pub found-first : answers (task (65 ∷ 67 ∷ 65 ∷ 71 ∷ []) (65 ∷ 67 ∷ 71 ∷ []) (pos 1)) 0 (step 2 ∷ step 7 ∷ step 1 ∷ []) ≡ found (mapping 1 3 (pos 3) 3) 2 ∷ spent 7 ∷ finished 1 ∷ []
 
 pub mapping-examples : MappingExamples
 unfolding mappings-compute
-mapping-examples = record { struck-text = refl; tied = refl; wider = refl; one-end = refl; weights = refl; refusals = refl }
+mapping-examples = record { struck-text = refl; tied = refl; wider = refl; one-end = refl; weights = refl; refusals = refl; found-first = refl }
+
+-- document 01's limits as it writes them, and the cells of the most hits
+pub record Limits : Type 0 where
+  pub weight : weightLimit ≡ 1000
+  pub pattern : patternLimit ≡ 4096
+  pub hits : hitLimit ≡ 2048
+  pub words : workWords ≡ 16384
+  pub most-cells : cellCount 2048 ≡ 2098176
+
+pub limits : Limits
+unfolding mappings-compute
+limits = record { weight = refl; pattern = refl; hits = refl; words = refl; most-cells = refl }

@@ -164,10 +164,6 @@ drop-cells h i j l k =
     drop-cons (cells h) (place h i j) (cellAt 0 0) (rw (length-cells h) (place-within h i j l k))
     ∙ ap (λ (cell : Cell). cell ∷ drop (suc (place h i j)) (cells h)) (getD-cells h i j (cellAt 0 0) l k)
 
--- the first cell is (0, h − 1)
-pub place-start : (j : ℕ) → place (suc j) 0 j ≡ 0
-place-start j = place-first j 0
-
 -- the next of (i, j) in its column
 pub place-row : (h i j : ℕ) → place h (suc i) j ≡ suc (place h i j)
 unfolding place

@@ -71,10 +71,6 @@ module _ (task : Task) where
   unfolding hitCount
   hit-once i j h k e = rises-once (hits task) (hits-rise task) i j h k e
 
-  pub hit-less : (i j : ℕ) → i < j → j < hitCount task → getD (hits task) i 0 < getD (hits task) j 0
-  unfolding hitCount
-  hit-less i j h k = hits-rise task i j h k
-
   pub hit-at-most : (i j : ℕ) → i ≤ j → j < hitCount task → getD (hits task) i 0 ≤ getD (hits task) j 0
   unfolding hitCount
   hit-at-most i j h k = go (eq-or-lt-of-le h)

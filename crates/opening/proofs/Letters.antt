@@ -20,8 +20,8 @@ use Rattle.answers.specs.Numbers.{numberOf, valueOf}
 use Rattle.answers.proofs.Accepted.{Tells, sketch-tells}
 use Rattle.opening.specs.Calls.{textOf, patternOf, taskOf, andThen, sketchesReply, strikingReply, callsReply}
 use Rattle.opening.specs.Opening.{openedBy, openedOf, positionsAfter, whereAccepted, workAfter, Opens, OpensSketches}
-use Rattle.opening.specs.declared.opening.Opened.{Opened}
-use Rattle.opening.specs.declared.opening.Opened.the-variants.{Refused}
+use Rattle.opening.specs.declared.calls.Opened.{Opened}
+use Rattle.opening.specs.declared.calls.Opened.the-variants.{Refused}
 use Rattle.opening.proofs.Replies.{Held, sketch-held, refused-opened, refused-after, refused-where, front-over}
 
 -- ---- one sketch in two buffers of 4,096 words, and its answer as numbers

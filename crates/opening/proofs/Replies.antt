@@ -19,8 +19,8 @@ use Rattle.strike.specs.Strike.{strikeLimit, struck, strikeReply}
 use Rattle.answers.specs.Numbers.{numberOf}
 use Rattle.opening.specs.Calls.{andThen}
 use Rattle.opening.specs.Opening.{openedBy, whereAccepted}
-use Rattle.opening.specs.declared.opening.Opened.{Opened}
-use Rattle.opening.specs.declared.opening.Opened.the-variants.{Refused}
+use Rattle.opening.specs.declared.calls.Opened.{Opened}
+use Rattle.opening.specs.declared.calls.Opened.the-variants.{Refused}
 
 -- ---- room
 

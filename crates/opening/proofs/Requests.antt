@@ -9,8 +9,8 @@ use Rattle.listing.specs.Answers.{part, requestInput, LinesInside, Inside, Inpu
 use Rattle.listing.specs.declared.input.Request.{Request}
 use Rattle.listing.specs.declared.input.Request.the-variants.{Malformed as noRequest, Given as request}
 use Rattle.opening.specs.Opening.{settings, openedOf, positionsAfter, workAfter, Opens}
-use Rattle.opening.specs.declared.opening.Opened.{Opened}
-use Rattle.opening.specs.declared.opening.Opened.the-variants.{Malformed}
+use Rattle.opening.specs.declared.calls.Opened.{Opened}
+use Rattle.opening.specs.declared.calls.Opened.the-variants.{Malformed}
 
 module _ (bytes : List ℕ) (answer : Request) (read : InputRead bytes answer) where
   pub opens-malformed : answer ≡ noRequest → (places work : List ℕ) → Opens (inputOf bytes) places work Malformed places work

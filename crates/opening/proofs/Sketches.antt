@@ -21,7 +21,7 @@ use Rattle.answers.specs.Numbers.{numberOf, valueOf}
 use Rattle.answers.proofs.Accepted.{Tells, strike-tells, start-tells}
 use Rattle.opening.specs.Calls.{andThen}
 use Rattle.opening.specs.Opening.{openedBy, whereAccepted, OpensSketches}
-use Rattle.opening.specs.declared.opening.Opened.the-variants.{Refused, Session}
+use Rattle.opening.specs.declared.calls.Opened.the-variants.{Refused, Session}
 use Rattle.opening.proofs.Replies.{Held, strike-held, refused-opened, refused-only, refused-where, front-over}
 
 module _ (cs ps pattern places room : List ℕ) (k c u v : ℕ) (threshold : ℤ) (work : List ℕ) (long : length room ≡ 4096) where

@@ -13,8 +13,8 @@ use Rattle.start.specs.Answers.{taskOf as taskWith}
 use Rattle.listing.specs.Limits.{lineLimit}
 use Rattle.listing.specs.Input.{Settings, Input, malformed, given}
 use Rattle.opening.specs.Calls.{textOf, patternOf, taskOf, andThen, strikingReply, callsReply}
-use Rattle.opening.specs.declared.opening.Opened.{Opened}
-use Rattle.opening.specs.declared.opening.Opened.the-variants.{Malformed, Refused, Session}
+use Rattle.opening.specs.declared.calls.Opened.{Opened}
+use Rattle.opening.specs.declared.calls.Opened.the-variants.{Malformed, Refused, Session}
 
 -- the numbers of the first line
 abbrev pub settings : ℕ → ℕ → ℕ → ℕ → ℕ → ℤ → Settings

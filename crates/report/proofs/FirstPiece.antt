@@ -7,7 +7,7 @@ use mathlib.Core.List.{List, [], _∷_, _++_}
 use lib.ListN.{length}
 use Rattle.listing.specs.Input.{Input, inputOf}
 use Rattle.opening.specs.Opening.{openedOf, Opens}
-use Rattle.opening.specs.declared.opening.Opened.{Opened}
+use Rattle.opening.specs.declared.calls.Opened.{Opened}
 use Rattle.listing.specs.Writing.{Written}
 use Rattle.report.specs.Beginning.{firstLine, kOf, sizeOf, leftOf, BeginsWith, Begins}
 use Rattle.report.specs.declared.beginning.Begun.{Begun}

@@ -16,8 +16,8 @@ use Rattle.mappings.specs.Cells.{Mapping, hitCount}
 use Rattle.mappings.specs.Rule.{Answer, found, finished, refused, reported, ruleAnswer}
 use Rattle.mappings.proofs.Rule.{total}
 use Rattle.start.specs.WorkWords.{sessionWords}
-use Rattle.mapper.specs.declared.walk.Stepped.{Stepped}
-use Rattle.mapper.specs.declared.walk.Stepped.the-variants.{Found, Finished, Spent, TooFewWords, BadWords}
+use Rattle.mapper.specs.declared.answer.Stepped.{Stepped}
+use Rattle.mapper.specs.declared.answer.Stepped.the-variants.{Found, Finished, Spent, TooFewWords, BadWords}
 use Rattle.mapper.specs.Answers.{answerOf}
 use Rattle.mapper.specs.Step.{tooFewWords}
 use Rattle.mapper.specs.Promise.{Accepts, StepPromise}

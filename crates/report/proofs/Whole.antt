@@ -13,15 +13,16 @@ use Rattle.mappings.specs.Score.{Task}
 use Rattle.mappings.specs.Cells.{hitCount, cellCount}
 use Rattle.mapper.specs.Promise.{Accepts}
 use Rattle.start.specs.WorkWords.{sessionWords}
-use Rattle.listing.specs.Limits.{lineLimit}
+use Rattle.listing.specs.Limits.{lineLimit, inputLimit}
 use Rattle.listing.specs.Line.{decimal}
 use Rattle.listing.specs.Writing.{Written}
 use Rattle.listing.specs.Input.{Settings, Input, malformed, given, inputOf}
 use Rattle.listing.proofs.Decimal.{length-decimal}
+use Rattle.listing.proofs.Enough.{enough-bytes}
 use Rattle.opening.specs.Calls.{textOf, patternOf, taskOf, callsReply}
 use Rattle.opening.specs.Opening.{openedBy, openedOf, positionsAfter, workAfter}
-use Rattle.opening.specs.declared.opening.Opened.{Opened}
-use Rattle.opening.specs.declared.opening.Opened.the-variants.{Malformed, Refused, Session}
+use Rattle.opening.specs.declared.calls.Opened.{Opened}
+use Rattle.opening.specs.declared.calls.Opened.the-variants.{Malformed, Refused, Session}
 use Rattle.report.specs.Output.{headerLine, malformedLine, refusedLine, unlessRefused, listOf, printed, printedFor, outputOf}
 use Rattle.report.specs.Pieces.{restOf, Done, Full, Piece, Fills}
 use Rattle.report.specs.Beginning.{firstLine, leftOf, BeginsWith, Begins}
@@ -136,3 +137,8 @@ pub next-prints : (bytes places work : List ℕ) (k size found left : ℕ) (done
     → (r .left < left) × After bytes places work′ k size (r .found) (r .left) (done ++ take (r .written) out′)
 next-prints bytes places work k size found left done (inl e) some out r work′ out′ long f = absurd (omega (arith, e .0))
 next-prints bytes places work k size found left done (inr p) some out r work′ out′ long f = fill-prints bytes places work k size found left done p out r work′ out′ long f
+
+-- the first bytes of the input decide: a program that reads `inputLimit` of them prints what one that reads all would
+pub first-bytes : (n : ℕ) (bytes : List ℕ) → inputLimit ≤ n → outputOf (take n bytes) ≡ outputOf bytes
+unfolding outputOf
+first-bytes n bytes room = ap printedFor (enough-bytes n bytes room)

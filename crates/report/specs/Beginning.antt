@@ -7,8 +7,8 @@ use lib.ListN.{length}
 use Rattle.listing.specs.Input.{inputOf}
 use Rattle.listing.specs.Writing.{Written}
 use Rattle.opening.specs.Opening.{openedOf, positionsAfter, workAfter}
-use Rattle.opening.specs.declared.opening.Opened.{Opened}
-use Rattle.opening.specs.declared.opening.Opened.the-variants.{Malformed, Refused, Session}
+use Rattle.opening.specs.declared.calls.Opened.{Opened}
+use Rattle.opening.specs.declared.calls.Opened.the-variants.{Malformed, Refused, Session}
 use Rattle.report.specs.Output.{headerLine, malformedLine, refusedLine}
 use Rattle.report.specs.Pieces.{cellsLeft}
 use Rattle.report.specs.declared.beginning.Begun.{Begun}

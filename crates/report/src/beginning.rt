@@ -4,8 +4,8 @@ use crate::filling::cells_left;
 use crate::lines::put_header;
 use crate::lines::put_malformed;
 use crate::lines::put_refused;
-use opening::opening::Opened;
-use opening::opening::open;
+use opening::calls::Opened;
+use opening::calls::open;
 ghost use mathlib.Core.Path.{_≡_};
 ghost use Rattle.report.specs.Beginning.{Begins};
 

@@ -3,8 +3,8 @@
 use crate::lines::put_last;
 use listing::huddlewool_per_mille;
 use listing::writing::put_line;
+use mapper::answer::Stepped;
 use mapper::session::step;
-use mapper::walk::Stepped;
 use start::words::HIT_LIMIT;
 use start::words::HITS;
 use start::words::PASSED;

@@ -7,7 +7,7 @@ mod windows;
 ghost use Prim.Native.Nat.{_≤_, min};
 ghost use mathlib.Core.Path.{_≡_};
 ghost use lib.ListN.{length};
-ghost use Rattle.sketch.specs.Limits.{kLimit, wLimit, letterLimit, textLimit, outside};
+ghost use Rattle.sketch.specs.Limits.{kLimit, wLimit, letterLimit, outside};
 ghost use Rattle.sketch.specs.Sketch.{sketch, hostNumber, countReply};
 ghost use Rattle.sketch.specs.Answers.{Sketches};
 
@@ -27,13 +27,6 @@ pub enum Sketched {
     BadW,
     TooManyLetters,
     TooShort(usize),
-}
-
-// The limit on a text's entries, for the crates that take texts: the one that the definitions name.
-pub fn text_limit() -> usize
-    ensures { λ r. ⌜ r ≡ textLimit ⌝ }
-{
-    TEXT_LIMIT
 }
 
 // Whether n is outside low to high.

@@ -1,11 +1,13 @@
--- Laws about the work words, and what start's functions ask and give.
+-- Laws about the work words, what start's functions ask and give, and examples that compute.
 pub mod Bias
 pub mod Tables
 mod Ring
 mod Reaching
+mod Searching
 mod Noting
 mod Linking
 pub mod WorkWords
 mod Putting
 mod Starting
 mod Replies
+pub mod Cases

@@ -1,34 +1,31 @@
 -- From what start has noted to the task: the pattern's words in order have the pattern's counts, so the hits, their codes and back of each are
 -- the task's.
 -- Assumes nothing.
-use Prim.Native.Nat.{ℕ, suc, _+_, _≤_, _<_, zero-le}
+use Prim.Native.Nat.{ℕ, suc, _+_, _≤_, _<_}
 use native.Mathlib.Omega.{arith}
-use mathlib.Core.Path.{_≡_, refl, sym, ap, ap₂, _∙_, subst}
-use mathlib.Core.Bool.{Bool, true}
+use mathlib.Core.Path.{_≡_, refl, sym, ap, ap₂, _∙_}
 use mathlib.Core.List.{List, [], _∷_, _++_}
 use lib.Dec.{ltb, leb}
-use lib.IntN.{ℤ}
 use lib.ListN.{length, getD, take}
-use lib.Seq.{ext-getD, getD-take, length-take-le, take-all, take-at}
-use borrow.Author.Tests.{lt-ltb, le-ltb, le-leb}
-use Rattle.counts.specs.Lists.{addIf, range}
+use lib.Seq.{ext-getD, getD-take, length-take-le, take-at}
+use borrow.Author.Tests.{lt-ltb, le-ltb}
+use Rattle.counts.specs.Lists.{addIf}
 use Rattle.counts.specs.Counts.{occ}
 use Rattle.counts.specs.Replies.{accepted, refused}
-use Rattle.counts.specs.Sorting.{Sorted, SortedCopyOf, LowerBound, sortLimit, sortable, SortedInto}
-use Rattle.counts.proofs.Lists.{and-both}
-use Rattle.counts.proofs.Sorting.{lower-bound-run, lower-bound-at}
+use Rattle.counts.specs.Sorting.{Sorted, SortedCopyOf, LowerBound, sortLimit, sortedWords, sortedInto}
+use Rattle.counts.proofs.Sorting.{lower-bound-run, lower-bound-at, sorted-words-copy}
+use Rattle.counts.proofs.Room.{sort-exact}
 use Rattle.mappings.specs.Limits.{hitLimit}
-use Rattle.mappings.specs.Bias.{biasedZ}
 use Rattle.mappings.specs.Score.{Task, interval}
 use Rattle.mappings.specs.Cells.{hitsFrom, hits, hitCount, hitCodes}
 use Rattle.mappings.proofs.Hits.{hit-in-pattern}
 use Rattle.mappings.proofs.HitCodes.{length-hitCodes, getD-hitCodes}
 use Rattle.start.specs.Tables.{back}
 use Rattle.start.specs.Answers.{hitReply}
-use Rattle.start.specs.Noting.{Noted, wordsAt, Begin, AllIn, backs, Prepared}
-use Rattle.start.proofs.Tables.{first-same, back-within, hit-codes-in}
+use Rattle.start.specs.Noting.{Noted, wordsAt, Begin, AllIn, backs}
+use Rattle.start.proofs.Tables.{first-same, back-within}
 use Rattle.start.proofs.Reaching.{length-backs, getD-backs}
-use Rattle.start.proofs.Linking.{length-wordsAt, getD-wordsAt, words-in}
+use Rattle.start.proofs.Linking.{length-wordsAt, getD-wordsAt}
 
 -- ---- lists with the same counts
 
@@ -118,10 +115,10 @@ reply-many task n e l = rw (← e, lt-ltb hitLimit n l)
 pub own-copy : (sorted : List ℕ) → Sorted sorted → SortedCopyOf sorted sorted
 own-copy sorted in-order = record { same-length = refl; same-counts = λ x. refl; in-order = in-order }
 
--- a sort that had room has left a copy in order, from the start of what it was lent
-pub sorted-front : (r : Bool) (words old new rest : List ℕ) → r ≡ sortable words old → SortedInto r words old new → length words ≤ sortLimit → length old ≡ length words → length new ≡ length old → SortedCopyOf words (take (length words) (new ++ rest))
-unfolding sortable
-sorted-front r words old new rest e s few room kept =
-    let yes : r ≡ true = e ∙ and-both (le-leb (length words) sortLimit few) (le-leb (length words) (length old) (omega arith)) in
-    let whole : take (length words) new ≡ new = take-all (length words) new (omega arith) in
-    rw (take-at new rest (length words) (omega arith)) (rw whole at (rw yes at s .0))
+-- a sort into just enough room leaves a copy in order, whatever stands behind it
+pub sorted-front : (words old new rest : List ℕ) → new ≡ sortedInto words old → length words ≤ sortLimit → length old ≡ length words → SortedCopyOf words (take (length words) (new ++ rest))
+sorted-front words old new rest e few room =
+    let copy = sorted-words-copy words in
+    let is : new ≡ sortedWords words = e ∙ sort-exact words old few room in
+    let front : take (length words) (new ++ rest) ≡ sortedWords words = take-at new rest (length words) (ap length is ∙ copy .same-length) ∙ is in
+    rw front copy

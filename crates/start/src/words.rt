@@ -9,8 +9,6 @@ pub const HIT_LIMIT: usize = 2048;
 
 pub const WEIGHT_LIMIT: u32 = 1000;
 
-pub const TEXT_LIMIT: usize = 65535;
-
 pub const PATTERN_LIMIT: usize = 4096;
 
 // Single words.

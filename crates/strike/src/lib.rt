@@ -1,4 +1,5 @@
 // Striking of frequent k-mers from a sketch. It needs no heap: the marks of the entries and what counts them lie on the stack.
+use sketch::TEXT_LIMIT;
 ghost use mathlib.Core.Path.{_≡_};
 ghost use Prim.Native.Nat.{ℕ, _≤_, _<_, _^_};
 ghost use lib.ListN.{length, getD};
@@ -12,8 +13,6 @@ ghost use Rattle.sketch.specs.Sketch.{roomFor};
 ghost use Rattle.strike.specs.Strike.{struck, strikeReply, strikeCodes, strikePositions};
 ghost use Rattle.strike.specs.Answers.{replyOf};
 ghost use Rattle.strike.specs.Marked.{markedWords};
-
-pub const TEXT_LIMIT: usize = 65535;
 
 pub const STRIKE_LIMIT: u32 = 65535;
 

@@ -39,8 +39,13 @@ pub fn is_final(task: &Task, a: usize, b: usize) -> bool {
         && is_maximal(task, a, b)
 }
 
-/// Every final interval, in the order of the list: by falling b, and for one b by rising a.
-/// All intervals are visited, start by start. m is counted on from each end to the next, and `widest[b]` is the greatest score
+/// Every final interval by the words alone, in the order of the list: by falling b, and for one b by rising a.
+pub fn finals_by_words(task: &Task) -> Vec<Mapping> {
+    let intervals = (0..task.text.len()).rev().flat_map(|b| (0..=b).map(move |a| (a, b)));
+    intervals.filter(|&(a, b)| is_final(task, a, b)).map(|(a, b)| mapping_of(task, a, b)).collect()
+}
+
+/// The same list, faster. All intervals are visited, start by start. m is counted on from each end to the next, and `widest[b]` is the greatest score
 /// of the intervals that contain [a, b].
 pub fn finals(task: &Task) -> Vec<Mapping> {
     let numbering = occurrences(task.text.iter().copied());

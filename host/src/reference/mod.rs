@@ -1,6 +1,8 @@
-//! Document 01 word for word, as a brute force, one subject a file. It shares nothing with the proved crates.
+//! Document 01 word for word, as a brute force, one subject a file, and faster forms for the limits that are held to it. It shares
+//! nothing with the proved crates.
 //! Assumes nothing.
 
+pub mod by_hits;
 pub mod cells;
 pub mod definition1;
 pub mod input;
@@ -15,3 +17,4 @@ pub mod start;
 pub mod steps;
 pub mod store;
 pub mod strike;
+pub mod work_words;

@@ -1,9 +1,7 @@
 //! The rule of a step, and of a list of steps from a fresh session.
 //! Assumes that start accepts the task.
 
-use std::collections::BTreeMap;
-
-use super::cells::{cell_count, cells, hits};
+use super::cells::cells;
 use super::definition1::{Mapping, finals};
 use super::score::Task;
 use super::start::WORK_WORDS;
@@ -23,27 +21,56 @@ pub enum Answer {
     Refused(u32),
 }
 
-/// The answers of a list of steps, and q after it: "cells are numbered from 1 in their order", "q is 0 at first".
-pub fn answers(task: &Task, steps: &[Step]) -> (Vec<Answer>, usize) {
-    let last = cell_count(hits(task).len());
-    let cells = cells(task);
-    let finals: BTreeMap<(usize, usize), Mapping> = finals(task).into_iter().map(|f| ((f.a, f.b), f)).collect();
-    let mut q = 0;
-    let mut answers = Vec::new();
-    for step in steps {
-        if step.lent < WORK_WORDS {
-            answers.push(Answer::Refused(10));
-            continue;
+/// A session by the rule: how many cells it has, which of them are final, and the number q of the last cell passed.
+#[derive(Clone)]
+pub struct Rule {
+    last: usize,
+    /// the number of each final cell, rising, and its mapping
+    finals: Vec<(usize, Mapping)>,
+    pub q: usize,
+}
+
+impl Rule {
+    /// A fresh session of this task, whose final mappings are these, in the order of the list: "cells are numbered from 1 in their
+    /// order", "q is 0 at first".
+    pub fn new(task: &Task, finals: &[Mapping]) -> Rule {
+        let cells = cells(task);
+        let mut numbered = Vec::new();
+        for (at, &cell) in cells.iter().enumerate() {
+            if let Some(&next) = finals.get(numbered.len())
+                && (next.a, next.b) == cell
+            {
+                numbered.push((at + 1, next));
+            }
         }
-        let looked_at = (step.budget as usize).min(last - q);
-        let first = cells[q..q + looked_at].iter().position(|cell| finals.contains_key(cell));
-        let answer = match first {
-            Some(at) => Answer::Found(finals[&cells[q + at]], at + 1),
-            None if q + looked_at == last => Answer::Finished(looked_at),
-            None => Answer::Spent(looked_at),
-        };
-        q += first.map_or(looked_at, |at| at + 1);
-        answers.push(answer);
+        assert_eq!(numbered.len(), finals.len(), "each final mapping is a cell, and they are in the order of the cells");
+        Rule { last: cells.len(), finals: numbered, q: 0 }
     }
-    (answers, q)
+
+    /// "An accepted step with budget B looks at the next B cells after number q, or at all that remain if they are fewer."
+    pub fn step(&mut self, step: Step) -> Answer {
+        if step.lent < WORK_WORDS {
+            return Answer::Refused(10);
+        }
+        let before = self.q;
+        let looked_at = (step.budget as usize).min(self.last - before);
+        let next = self.finals.partition_point(|&(number, _)| number <= before);
+        match self.finals.get(next) {
+            Some(&(number, mapping)) if number <= before + looked_at => {
+                self.q = number;
+                Answer::Found(mapping, number - before)
+            }
+            _ => {
+                self.q += looked_at;
+                if self.q == self.last { Answer::Finished(looked_at) } else { Answer::Spent(looked_at) }
+            }
+        }
+    }
+}
+
+/// The answers of a list of steps from a fresh session, and q after it.
+pub fn answers(task: &Task, steps: &[Step]) -> (Vec<Answer>, usize) {
+    let mut rule = Rule::new(task, &finals(task));
+    let answers = steps.iter().map(|&step| rule.step(step)).collect();
+    (answers, rule.q)
 }

@@ -2,8 +2,9 @@
 //! Assumes nothing.
 
 use host::random::Random;
+use host::reference::by_hits::finals_by_hits;
 use host::reference::cells::{cell_count, cells, hits};
-use host::reference::definition1::{Mapping, finals, is_final, mapping_of};
+use host::reference::definition1::{Mapping, finals, finals_by_words, is_final, mapping_of};
 use host::reference::score::Task;
 use host::reference::start::WORK_WORDS;
 use host::reference::steps::{Answer, Step, answers};
@@ -18,18 +19,19 @@ fn task(random: &mut Random) -> Task {
     Task { text, pattern, u, v, threshold: random.between(0, 20) as i32 - 15 }
 }
 
-/// Every final interval by the definition's words alone, in the order of the list.
-fn by_words(task: &Task) -> Vec<Mapping> {
-    let n = task.text.len();
-    let intervals = (0..n).rev().flat_map(|b| (0..=b).map(move |a| (a, b)));
-    intervals.filter(|&(a, b)| is_final(task, a, b)).map(|(a, b)| mapping_of(task, a, b)).collect()
-}
-
 #[test]
 fn fast_form_agrees_with_the_words() {
     for seed in 0..1500 {
         let task = task(&mut Random::new(seed));
-        assert_eq!(finals(&task), by_words(&task), "seed {seed}: {task:?}");
+        assert_eq!(finals(&task), finals_by_words(&task), "seed {seed}: {task:?}");
+    }
+}
+
+#[test]
+fn form_over_hits_agrees_with_all_intervals() {
+    for seed in 0..3000 {
+        let task = task(&mut Random::new(seed));
+        assert_eq!(finals_by_hits(&task), finals(&task), "seed {seed}: {task:?}");
     }
 }
 

@@ -1,6 +1,8 @@
 //! Every test of the host in one program, so that one summary speaks of them all.
 //! Assumes that the libraries and the program have been built.
 
+use std::thread;
+
 mod count;
 mod definition1;
 mod maplist_inputs;
@@ -8,6 +10,16 @@ mod maplist_large;
 mod maplist_random;
 mod maplist_vectors;
 mod per_mille;
+mod proved_vectors;
 mod sample;
 mod table;
+mod vector_files;
 mod vectors;
+
+/// Runs a test on the usual stack of a program: that of a test's thread is smaller than the proved functions are made for.
+fn on_usual_stack(test: impl FnOnce() + Send + 'static) {
+    let thread = thread::Builder::new().stack_size(8 << 20).spawn(test).expect("a thread");
+    if let Err(panic) = thread.join() {
+        std::panic::resume_unwind(panic);
+    }
+}

@@ -1,4 +1,5 @@
--- `main` ends, and keeps what `report` asks of it: before each piece, what is printed and what is left make up the output.
+-- `main` ends and stays within its buffers. Its loop keeps what `report` asks of it: the session in hand is one whose pieces so far and whose
+-- rest make up an output. That the pieces are written, each once and in order, is no part of the statement, since `io` says nothing of it.
 -- Assumes nothing.
 use Prim.Native.Nat.{ℕ, _≤_, _<_, zero-le}
 use native.Mathlib.Omega.{arith}

@@ -48,7 +48,6 @@ array-share-prefix-sorted c =
     let sort = c .before .sort-words in
     let new = sort .last .1 .0 in
     let rest = drop (length pattern) (zeros .result) in
-    let copy : SortedCopyOf pattern (take (length pattern) (new ++ rest)) = sorted-front (sort .result) pattern (take (length pattern) (zeros .result)) new rest (sort .ensures .0) (sort .ensures .1) few part (sort .kept .1 .0) in
     omega (arith, length-append new rest, sort .kept .1 .0)
 
 slice-aggregate-begin-sorted : tie.Need-slice-aggregate-begin-sorted
@@ -60,7 +59,7 @@ slice-aggregate-begin-sorted c =
     let sort = c .before .before .sort-words in
     let new = sort .last .1 .0 in
     let rest = drop (length pattern) (zeros .result) in
-    let copy : SortedCopyOf pattern (take (length pattern) (new ++ rest)) = sorted-front (sort .result) pattern (take (length pattern) (zeros .result)) new rest (sort .ensures .0) (sort .ensures .1) few part (sort .kept .1 .0) in
+    let copy : SortedCopyOf pattern (take (length pattern) (new ++ rest)) = sorted-front pattern (take (length pattern) (zeros .result)) new rest (sort .ensures .1) few part in
     sym (copy .same-length)
 
 begin-sorted-requires : tie.Need-begin-sorted-requires
@@ -72,7 +71,7 @@ begin-sorted-requires c κs =
     let sort = c .before .before .before .sort-words in
     let new = sort .last .1 .0 in
     let rest = drop (length pattern) (zeros .result) in
-    let copy : SortedCopyOf pattern (take (length pattern) (new ++ rest)) = sorted-front (sort .result) pattern (take (length pattern) (zeros .result)) new rest (sort .ensures .0) (sort .ensures .1) few part (sort .kept .1 .0) in
+    let copy : SortedCopyOf pattern (take (length pattern) (new ++ rest)) = sorted-front pattern (take (length pattern) (zeros .result)) new rest (sort .ensures .1) few part in
     (c .before .before .before .before .before .before .before .before .before .pre .0, omega (arith, copy .same-length), c .before .before .before .before .before .before .before .before .before .pre .2, copy .in-order)
 
 same-length : tie.Need-same-length
@@ -87,7 +86,7 @@ returns c =
     let sort = c .before .before .before .before .before .before .sort-words in
     let new = sort .last .1 .0 in
     let rest = drop (length pattern) (zeros .result) in
-    let copy : SortedCopyOf pattern (take (length pattern) (new ++ rest)) = sorted-front (sort .result) pattern (take (length pattern) (zeros .result)) new rest (sort .ensures .0) (sort .ensures .1) few part (sort .kept .1 .0) in
+    let copy : SortedCopyOf pattern (take (length pattern) (new ++ rest)) = sorted-front pattern (take (length pattern) (zeros .result)) new rest (sort .ensures .1) few part in
     let args = c .before .before .before .before .before .before .before .before .before .before .before .before .args in
     let same = toZ-ofZ w32 (args .threshold) (c .before .before .before .before .before .before .before .before .before .before .before .before .fits .threshold) in (
       subst (λ (z : ℤ). startedReply (c .before .before .begin-sorted .result) ≡ hitReply (taskOf (args .text .now) pattern (args .u) (args .v) z)) same (c .before .before .begin-sorted .ensures .0 pattern copy),

@@ -1,7 +1,7 @@
 -- `steps::cells_of` meets its contract: each case reports its cells. Assumes nothing.
 use mathlib.Core.Path.{sym, ap}
 use Rattle.mappings.specs.Rule.{reported}
-use Rattle.mapper.specs.declared.walk.Stepped.{Stepped}
+use Rattle.mapper.specs.declared.answer.Stepped.{Stepped}
 use Rattle.mapper.specs.Answers.{answerOf}
 use borrow.Author.Needs.{needs}
 use Rattle.exports.proofs.steps.cells_of.Statement.{statement}

@@ -1,7 +1,7 @@
 -- `steps::mapping_after` meets its contract: found hands out its mapping, and every other case what came. Assumes nothing.
 use mathlib.Core.Path.{_≡_, sym, ap}
 use Rattle.mappings.specs.Cells.{Mapping}
-use Rattle.mapper.specs.declared.walk.Stepped.{Stepped}
+use Rattle.mapper.specs.declared.answer.Stepped.{Stepped}
 use Rattle.mapper.specs.Answers.{answerOf}
 use Rattle.exports.specs.Steps.{mappingAfter}
 use mir.Facts.{toZ-ofZ}

@@ -1,11 +1,13 @@
 -- `column::pass` meets its contract. The loop's invariant: what is left to pass gives the same answer and the same words as the
 -- whole. Assumes nothing.
-use Prim.Native.Nat.{ℕ, _-_, _≤_}
-use mathlib.Core.Path.{_≡_, refl, sym, ap, _∙_}
-use lib.ListN.{length, length-set}
-use Rattle.mapper.specs.Passing.{lineScore, inReach, Update}
-use Rattle.mapper.proofs.Passing.{AtCell, pass-stop, pass-on}
-use Rattle.mapper.specs.Passing.{seenBefore, passRows}
+use Prim.Native.Nat.{_-_, _≤_, _<_}
+use mathlib.Core.Path.{_≡_, sym, ap, _∙_}
+use mathlib.Core.Bool.{Bool, true, false}
+use lib.Dec.{ltb}
+use lib.ListN.{length}
+use Rattle.counts.specs.Lists.{bit}
+use Rattle.mapper.specs.Passing.{seenBefore, finalTest, Update, passRows}
+use Rattle.mapper.proofs.Quiet.{pace, pause-stop, pause-on}
 use native.Mathlib.Omega.{arith}
 use borrow.Author.Needs.{needs}
 use Rattle.mapper.proofs.column.pass.Statement.{statement}
@@ -13,7 +15,7 @@ use Rattle.mapper.proofs.column.pass.Tie as tie
 
 abbrev Inv-loop : tie.InvT-loop
 Inv-loop part₀ line from to m0 m₀ best₀ i₀ part m best i =
-    (i ≤ to) × (length part ≡ 6144) × (passRows line (to - i) i m best part ≡ passRows line (to - from) from m0 (seenBefore part₀ from) part₀)
+    (i ≤ to) × (length part ≡ 6144) × (m < 4294967296) × (passRows line (to - i) i m best part ≡ passRows line (to - from) from m0 (seenBefore part₀ from) part₀)
 
 abbrev μ-loop : tie.MeasureT-loop
 μ-loop part₀ line from to m0 m₀ best₀ i₀ part m best i = to - i
@@ -22,91 +24,51 @@ best-before-requires : tie.Need-best-before-requires Inv-loop μ-loop
 best-before-requires c κs = search needs
 
 loop-holds : tie.Need-loop-holds Inv-loop μ-loop
-loop-holds c = (search needs, search needs, rw (c .best-before .ensures))
+loop-holds c = (search needs, search needs, c .before .before .before .fits .m0 .fits, rw (c .best-before .ensures))
 
-mul-score-word : tie.Need-mul-score-word Inv-loop μ-loop
-mul-score-word c = search needs
+quiet-requires : tie.Need-quiet-requires Inv-loop μ-loop
+quiet-requires c κs = search needs
 
-slice-read-score-word : tie.Need-slice-read-score-word Inv-loop μ-loop
-slice-read-score-word c = search needs
-
-score-word-requires : tie.Need-score-word-requires Inv-loop μ-loop
-score-word-requires c κs = search needs
-
-add-below : tie.Need-add-below Inv-loop μ-loop
-add-below c = search needs
-
-mul-below : tie.Need-mul-below Inv-loop μ-loop
-mul-below c = search needs
-
-slice-read-below : tie.Need-slice-read-below Inv-loop μ-loop
-slice-read-below c = search needs
+-- where `quiet` paused: behind a cell, at most at the end, with m a word and the part as long as before
+paced : (d : tie.After-slice-known2 Inv-loop μ-loop) → (d .before .before .before .before .before .loop .i < d .before .before .quiet .result .row) × (d .before .before .quiet .result .row ≤ d .before .before .before .before .before .before .before .before .before .args .to) × (d .before .before .quiet .result .m < 4294967296) × (length (d .before .before .quiet .last .0) ≡ 6144)
+paced d =
+    let p = pace (d .before .before .before .before .before .before .before .before .before .args .line) (d .before .before .before .before .before .before .before .before .before .args .to) (d .before .before .before .before .before .loop .i) (d .before .before .before .before .before .loop .m) (d .before .before .before .before .before .loop .best) (d .before .before .before .before .before .loop .part) (d .before .before .quiet .result) (d .before .before .quiet .last .0) (d .before .before .before .before .before .loop .inv .0) (d .before .before .before .before .before .loop .inv .2) (d .before .before .quiet .ensures .0) (d .before .before .quiet .ensures .1) in
+    let some : 0 < d .before .before .before .before .before .before .before .before .before .args .to - d .before .before .before .before .before .loop .i = omega (arith, d .before .before .before .before .loop-test .taken) in
+    (p .moved some, omega (arith, p .to, d .before .before .before .before .before .loop .inv .0), p .word (d .before .before .before .before .before .loop .inv .2), p .size ∙ d .before .before .before .before .before .loop .inv .1)
 
 below-requires : tie.Need-below-requires Inv-loop μ-loop
 below-requires c κs = search needs
 
-add-greater : tie.Need-add-greater Inv-loop μ-loop
-add-greater c = search needs
-
-mul-greater : tie.Need-mul-greater Inv-loop μ-loop
-mul-greater c = search needs
-
-slice-read-greater : tie.Need-slice-read-greater Inv-loop μ-loop
-slice-read-greater c = search needs
-
-greater-requires : tie.Need-greater-requires Inv-loop μ-loop
-greater-requires c κs = search needs
-
-greater-requires-2 : tie.Need-greater-requires-2 Inv-loop μ-loop
-greater-requires-2 c κs = search needs
-
-add-part : tie.Need-add-part Inv-loop μ-loop
-add-part c = search needs
-
-mul-part : tie.Need-mul-part Inv-loop μ-loop
-mul-part c = search needs
-
-slice-write-part : tie.Need-slice-write-part Inv-loop μ-loop
-slice-write-part c = search needs
+sub-is-final : tie.Need-sub-is-final Inv-loop μ-loop
+sub-is-final c = omega (arith, paced (c .before) .0)
 
 is-final-requires : tie.Need-is-final-requires Inv-loop μ-loop
 is-final-requires c κs = search needs
 
-add-t23 : tie.Need-add-t23 Inv-loop μ-loop
-add-t23 c = search needs
+raised-requires : tie.Need-raised-requires Inv-loop μ-loop
+raised-requires c κs = search needs
 
 same-length : tie.Need-same-length Inv-loop μ-loop
-same-length c = simp length-set (search needs)
+same-length c = let d = c .before .before .before .before in paced d .3 ∙ sym (d .before .before .before .before .before .before .before .before .before .pre .0 .0)
 
--- what is known at a cell once it is judged
-at-cell : (d : tie.After-is-final Inv-loop μ-loop) → AtCell (d .before .before .before .before .before .before .before .before .before .before .before .before .before .args .line) (d .before .before .before .before .before .before .before .before .before .loop .i) (d .before .before .before .before .before .before .before .before .before .loop .m) (d .before .before .before .before .before .before .before .before .before .loop .best) (d .before .before .before .before .before .before .before .before .before .loop .part) (d .before .before .before .before .before .before .score-word .result) (d .before .before .before .before .below .result) (d .before .before .greater .result) (d .before .greater2 .result)
-unfolding lineScore inReach
-at-cell d = record {
-  score = d .before .before .before .before .before .before .score-word .ensures;
-  reach = d .before .before .before .before .below .ensures;
-  greatest-is = d .before .before .greater .ensures;
-  best-is = d .before .greater2 .ensures;
-}
+-- what `is_final` answered, of the pause
+judged : (b : tie.After-below Inv-loop μ-loop) (f : Bool) → (let line = b .before .before .before .before .before .before .before .before .before .before .args .line in let q = b .before .before .before .quiet .result in finalTest (line .threshold) (q .score) (q .best) (b .below .result) (line .back) (q .row - 1) ≡ f → finalTest (line .threshold) (q .score) (q .best) (bit (ltb (line .column) (q .reach))) (line .back) (q .row - 1) ≡ f)
+judged b f t = rw (← b .below .ensures) t
 
 returns : tie.Need-returns Inv-loop μ-loop
 returns c =
-    let d = c .before in
-    let e = sym (pass-stop (d .before .before .before .before .before .before .before .before .before .before .before .before .before .args .line) (d .before .before .before .before .before .before .before .before .before .before .before .before .before .args .to) (d .before .before .before .before .before .before .before .before .before .loop .i) (d .before .before .before .before .before .before .before .before .before .loop .m) (d .before .before .before .before .before .before .before .before .before .loop .best) (d .before .before .before .before .before .before .before .before .before .loop .part) (d .before .before .before .before .before .before .score-word .result) (d .before .before .before .before .below .result) (d .before .before .greater .result) (d .before .greater2 .result) (d .before .before .before .before .before .before .before .before .loop-test .taken) (at-cell d) (sym (d .is-final .ensures) ∙ c .if1 .taken)) ∙ d .before .before .before .before .before .before .before .before .before .loop .inv .2 in
-    (ap (λ (u : Update). u .answer) e, ap (λ (u : Update). u .part) e)
-
-lowered-requires : tie.Need-lowered-requires Inv-loop μ-loop
-lowered-requires c κs = search needs
-
-add-i : tie.Need-add-i Inv-loop μ-loop
-add-i c = search needs
+    let d = c .before .before .before .before in
+    let e = sym (pause-stop (d .before .before .before .before .before .before .before .before .before .args .line) (d .before .before .before .before .before .before .before .before .before .args .to) (d .before .before .before .before .before .loop .i) (d .before .before .before .before .before .loop .m) (d .before .before .before .before .before .loop .best) (d .before .before .before .before .before .loop .part) (d .before .before .quiet .result) (d .before .before .quiet .last .0) (d .before .before .before .before .before .loop .inv .0) (d .before .before .before .before .before .loop .inv .2) (d .before .before .quiet .ensures .0) (d .before .before .quiet .ensures .1) (judged (c .before .before .before) true (sym (c .before .before .is-final .ensures) ∙ c .before .if1 .taken))) ∙ d .before .before .before .before .before .loop .inv .3 in
+    (rw (c .raised .ensures) (ap (λ (u : Update). u .answer) e), ap (λ (u : Update). u .part) e)
 
 loop-less : tie.Need-loop-less Inv-loop μ-loop
-loop-less c = search needs
+loop-less c = let p = paced (c .before .before .before) in omega (arith, p .0, p .1)
 
 loop-again : tie.Need-loop-again Inv-loop μ-loop
 loop-again c =
-    let d = c .before .before in
-    (search needs, simp length-set (search needs), sym (pass-on (d .before .before .before .before .before .before .before .before .before .before .before .before .before .args .line) (d .before .before .before .before .before .before .before .before .before .before .before .before .before .args .to) (d .before .before .before .before .before .before .before .before .before .loop .i) (d .before .before .before .before .before .before .before .before .before .loop .m) (d .before .before .before .before .before .before .before .before .before .loop .best) (d .before .before .before .before .before .before .before .before .before .loop .part) (d .before .before .before .before .before .before .score-word .result) (d .before .before .before .before .below .result) (d .before .before .greater .result) (d .before .greater2 .result) (d .before .before .before .before .before .before .before .before .loop-test .taken) (at-cell d) (c .lowered .result) (sym (d .is-final .ensures) ∙ c .before .if1 .left) (c .lowered .ensures)) ∙ d .before .before .before .before .before .before .before .before .before .loop .inv .2)
+    let d = c .before .before .before in
+    let p = paced d in
+    (p .1, p .3, p .2, sym (pause-on (d .before .before .before .before .before .before .before .before .before .args .line) (d .before .before .before .before .before .before .before .before .before .args .to) (d .before .before .before .before .before .loop .i) (d .before .before .before .before .before .loop .m) (d .before .before .before .before .before .loop .best) (d .before .before .before .before .before .loop .part) (d .before .before .quiet .result) (d .before .before .quiet .last .0) (d .before .before .before .before .before .loop .inv .0) (d .before .before .before .before .before .loop .inv .2) (d .before .before .quiet .ensures .0) (d .before .before .quiet .ensures .1) (judged (c .before .before) false (sym (c .before .is-final .ensures) ∙ c .if1 .left))) ∙ d .before .before .before .before .before .loop .inv .3)
 
 same-length-2 : tie.Need-same-length-2 Inv-loop μ-loop
 same-length-2 c = search needs
@@ -114,7 +76,7 @@ same-length-2 c = search needs
 returns-2 : tie.Need-returns-2 Inv-loop μ-loop
 returns-2 c =
     let n : c .before .before .before .before .before .args .to - c .before .loop .i ≡ 0 = omega arith in
-    let e = rw n at (c .before .loop .inv .2) in
+    let e = rw n at (c .before .loop .inv .3) in
     (ap (λ (u : Update). u .answer) e, ap (λ (u : Update). u .part) e)
 
 pub pass-spec : {M : Type 1} → statement M
@@ -125,27 +87,13 @@ pass-spec =
     μ-loop
     best-before-requires
     loop-holds
-    mul-score-word
-    slice-read-score-word
-    score-word-requires
-    add-below
-    mul-below
-    slice-read-below
+    quiet-requires
     below-requires
-    add-greater
-    mul-greater
-    slice-read-greater
-    greater-requires
-    greater-requires-2
-    add-part
-    mul-part
-    slice-write-part
+    sub-is-final
     is-final-requires
-    add-t23
+    raised-requires
     same-length
     returns
-    lowered-requires
-    add-i
     loop-less
     loop-again
     same-length-2

@@ -1,17 +1,15 @@
 -- `walk::walk` meets its contract. The loop's invariant: what is left to walk gives the same answer and the same words as the
 -- whole. The measure is the number of columns left. Assumes nothing.
-use Prim.Native.Nat.{ℕ, _-_, _≤_}
+use Prim.Native.Nat.{_-_, _≤_}
 use native.Mathlib.Omega.{arith}
 use mathlib.Core.Path.{_≡_, refl, sym, ap, _∙_}
-use mathlib.Core.List.{List}
 use borrow.Author.Needs.{needs}
 use borrow.Rule.Slice.PartMut.{putMid, mid-len, same-len-mid}
 use lib.ListN.{length}
 use Rattle.mapper.specs.declared.column.Passed.{Passed}
 use Rattle.mapper.specs.declared.place.Place.{Place}
-use Rattle.mapper.specs.declared.walk.Terms.{Terms}
 use Rattle.mapper.specs.Walking.{Walk, withPart, partOf, lineOf, spentWalk, foundWalk, finishedWalk, walkOn}
-use Rattle.mapper.proofs.Walking.{ColumnPassed, column-passed, walk-spent, walk-found, walk-part, walk-next}
+use Rattle.mapper.proofs.Walking.{ColumnPassed, column-passed, base-within, walk-spent, walk-found, walk-part, walk-next}
 use Rattle.mapper.proofs.walk.walk.Statement.{statement}
 use Rattle.mapper.proofs.walk.walk.Tie as tie
 
@@ -65,15 +63,11 @@ part-pass-start c = search needs
 part-pass-end : tie.Need-part-pass-end Inv-loop μ-loop
 part-pass-end c = search needs
 
-within : (terms : Terms) (work : List ℕ) (j : ℕ) → lineOf work terms j .base ≤ 17594333528064
-unfolding lineOf
-within terms work j = omega arith
-
 pass-requires : tie.Need-pass-requires Inv-loop μ-loop
 unfolding lineOf
 pass-requires c κs =
     let l = c .before .before .line-of .ensures in
-    ((mid-len 4096 10240 (c .before .before .before .before .before .before .loop .work) (search needs), search needs, omega (arith, c .before .smaller .ensures)), (rw l (search needs), rw l (search needs), rw l (within (c .before .before .before .before .before .before .before .before .args .terms) (c .before .before .before .before .before .before .loop .work) (c .before .before .before .before .before .before .loop .columns - 1))))
+    ((mid-len 4096 10240 (c .before .before .before .before .before .before .loop .work) (search needs), search needs, omega (arith, c .before .smaller .ensures)), (rw l (search needs), rw l (search needs), rw l (base-within (c .before .before .before .before .before .before .before .before .args .terms) (c .before .before .before .before .before .before .loop .work) (c .before .before .before .before .before .before .loop .columns - 1))))
 
 -- what `pass` answered and left, once its part is back: the update of the column
 at-column : (d : tie.After-slice-known3 Inv-loop μ-loop) → ColumnPassed (d .before .before .before .before .before .before .before .before .before .before .before .args .terms) (d .before .before .before .before .before .before .before .before .before .loop .columns) (d .before .before .before .before .before .before .before .before .before .loop .row) (d .before .before .before .before .before .before .before .before .before .loop .m) (d .before .before .before .before .before .before .before .before .before .loop .left) (d .before .before .before .before .before .before .before .before .before .loop .work) (d .before .before .pass .result) (d .before .before .pass .last .0)

@@ -7,7 +7,7 @@ use Rattle.report.proofs.beginning.begin.Statement.{statement}
 use Rattle.report.proofs.beginning.begin.Tie as tie
 use Rattle.report.proofs.beginning.begin.Reads as reads
 use Rattle.report.proofs.beginning.begin.Lts as lts
-use Rattle.opening.proofs.opening.open.Reads as open-reads
+use Rattle.opening.proofs.calls.open.Reads as open-reads
 use Rattle.report.proofs.beginning.whole.Reads as whole-reads
 use Rattle.report.proofs.filling.cells_left.Reads as cells-left-reads
 use Rattle.report.proofs.lines.put_header.Reads as put-header-reads

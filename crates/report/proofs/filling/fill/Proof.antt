@@ -8,10 +8,10 @@ use mathlib.Core.List.{[], _∷_}
 use lib.ListN.{length}
 use types.Run.{OneOf}
 use denote.Enum.Declared.{tagOf}
-use Rattle.mapper.proofs.walk.Stepped.{the-type}
+use Rattle.mapper.proofs.answer.Stepped.{the-type}
 use Rattle.report.proofs.Going.{Going, Other, going-start, going-found, too-many, not-printed, unheld, fills-stopped, fills-finished, fills-other, fills-full}
-use Rattle.mapper.specs.declared.walk.Stepped.{Stepped}
-use Rattle.mapper.specs.declared.walk.Stepped.the-variants.{Found, Finished, Spent, TooFewWords, BadWords}
+use Rattle.mapper.specs.declared.answer.Stepped.{Stepped}
+use Rattle.mapper.specs.declared.answer.Stepped.the-variants.{Found, Finished, Spent, TooFewWords, BadWords}
 use Rattle.mapper.specs.Promise.{StepPromise}
 use mir.Facts.{toZ-ofZ}
 use borrow.Author.Needs.{needs, sfits-of}

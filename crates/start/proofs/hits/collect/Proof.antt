@@ -11,7 +11,7 @@ use Rattle.start.proofs.hits.collect.Statement.{statement}
 use Rattle.start.proofs.hits.collect.Tie as tie
 use Rattle.start.proofs.hits.collect.Reads as reads
 use Rattle.start.proofs.hits.collect.Lts as lts
-use Rattle.counts.proofs.lower_bound.Reads as lower-bound-reads
+use Rattle.start.proofs.search.lower_bound.Reads as lower-bound-reads
 use Rattle.start.proofs.hits.note.Reads as note-reads
 use Rattle.start.proofs.hits.one_at.Reads as one-at-reads
 use Rattle.start.proofs.words.wide.Reads as wide-reads
@@ -78,7 +78,7 @@ loop-again c =
       ap length indices ∙ length-set (at .index) (at .h) (at .i) ∙ at .inv .1,
       ap length lowers ∙ length-set (at .slots) (at .h) (bound .result) ∙ at .inv .2,
       rw (indices, lowers, c .wide .ensures .0, c .before .one-at .ensures .0)
-          (noting-more (args .text .now) (args .sorted .now) (c .before .before .before .before .before .before .before .before .before .before .before .before .before .before .before .before .before .before .before .pre .2) (at .index) (at .slots) (at .h) (at .i) (bound .result) (at .inv .3) (c .before .before .before .before .before .before .before .before .before .before .before .before .before .loop-test .taken) (bound .ensures .1 (c .before .before .before .before .before .before .before .before .before .before .before .before .before .before .before .before .before .before .before .pre .2))),
+          (noting-more (args .text .now) (args .sorted .now) (c .before .before .before .before .before .before .before .before .before .before .before .before .before .before .before .before .before .before .before .pre .2) (at .index) (at .slots) (at .h) (at .i) (bound .result) (at .inv .3) (c .before .before .before .before .before .before .before .before .before .before .before .before .before .loop-test .taken) (bound .ensures)),
     )
 
 same-length : tie.Need-same-length Inv-loop μ-loop

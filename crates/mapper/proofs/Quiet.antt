@@ -1,0 +1,156 @@
+-- The cells up to one at the threshold, unrolled by one cell, and the column's update by way of them.
+-- Assumes nothing.
+use Prim.Native.Nat.{ℕ, zero, suc, _+_, _-_, _*_, _%_, _≤_, _<_, zero-le}
+use native.Mathlib.Nat.{le-refl, le-suc, mod-lt, mod-eq-of-lt}
+use native.Mathlib.Omega.{arith}
+use native.Mathlib.Numerals.{add-one}
+use mathlib.Core.Path.{_≡_, refl, sym, ap, _∙_, subst}
+use mathlib.Core.Bool.{Bool, true, false, cond, _&&_, false≢true}
+use mathlib.Core.List.{List}
+use borrow.Author.Tests.{le-leb, lt-leb, le-ltb, eqb-true}
+use lib.Arith.{digits-mod}
+use lib.Dec.{leb, ltb, eqb}
+use lib.ListN.{length, getD, set, length-set}
+use Rattle.counts.specs.Lists.{bit}
+use Rattle.mapper.specs.declared.column.Line.{Line}
+use Rattle.mapper.specs.declared.column.Paused.{Paused}
+use Rattle.mapper.specs.Passing.{lowered, lineScore, bestWith, inReach, finalTest, Pause, quietRows, Update, passRows}
+use Rattle.mapper.proofs.Passing.{AtCell, left-suc, best-with, low-score}
+
+-- ---- one cell
+
+module _ (line : Line) (to i m before : ℕ) (part : List ℕ) (s one greatest best : ℕ) (h : i < to) (at : AtCell line i m before part s one greatest best) where
+  unrolled : quietRows line (to - i) i m before part ≡ cond (leb (line .threshold) s) (record { answer = record { row = suc i; m = lowered m one; best = best; score = s; reach = getD part (2048 + i) 0 }; part = set part (4096 + i) best }) (quietRows line (to - (i + 1)) (suc i) (lowered m one) best (set part (4096 + i) best))
+  unrolled = rw (left-suc to i h, at .score, at .reach, ← best-with line to i m before part s one greatest best h at)
+
+  pub quiet-stop : (m′ : ℕ) → line .threshold ≤ s → m′ ≡ lowered m one → quietRows line (to - i) i m before part ≡ record { answer = record { row = i + 1; m = m′; best = best; score = s; reach = getD part (2048 + i) 0 }; part = set part (4096 + i) best }
+  quiet-stop m′ t e = unrolled ∙ rw (le-leb (line .threshold) s t, e, add-one)
+
+  pub quiet-on : (m′ : ℕ) → s < line .threshold → m′ ≡ lowered m one → quietRows line (to - i) i m before part ≡ quietRows line (to - (i + 1)) (i + 1) m′ best (set part (4096 + i) best)
+  quiet-on m′ t e = unrolled ∙ rw (lt-leb (line .threshold) s t, e, add-one)
+
+-- ---- where the cells pause
+
+-- the rows passed, m as a word, and the length of the part
+pub record Paced (i n m : ℕ) (part : List ℕ) (pause : Pause) : Type 0 where
+  pub from : i ≤ pause .answer .row
+  pub to : pause .answer .row ≤ i + n
+  pub moved : 0 < n → i < pause .answer .row
+  pub word : m < 4294967296 → pause .answer .m < 4294967296
+  pub size : length (pause .part) ≡ length part
+
+lowered-word : (m one : ℕ) → lowered m one < 4294967296
+lowered-word m one = mod-lt (m + 4294967296 - one) (let l : 0 < 4294967296 = omega arith in l)
+
+paced : (line : Line) (n i m before : ℕ) (part : List ℕ) → Paced i n m part (quietRows line n i m before part)
+paced line zero i m before part = record { from = le-refl i; to = omega arith; moved = λ l. omega arith; word = λ l. l; size = refl }
+paced line (suc n) i m before part =
+    let s = lineScore line m (getD part i 0) in
+    let best = bestWith part i before s in
+    let one = inReach line part i in
+    go (leb (line .threshold) s) best s one (getD part (2048 + i) 0) (paced line n (suc i) (lowered m one) best (set part (4096 + i) best))
+  where
+    go : (b : Bool) (best s one reach : ℕ) {later : Pause} → Paced (suc i) n (lowered m one) (set part (4096 + i) best) later → Paced i (suc n) m part (cond b (record { answer = record { row = suc i; m = lowered m one; best = best; score = s; reach = reach }; part = set part (4096 + i) best }) later)
+    go true best s one reach r = record {
+      from = le-suc i;
+      to = omega arith;
+      moved = λ l. le-refl (suc i);
+      word = λ l. lowered-word m one;
+      size = length-set part (4096 + i) best;
+    }
+    go false best s one reach r = record {
+      from = omega (arith, r .from);
+      to = omega (arith, r .to);
+      moved = λ l. r .from;
+      word = λ l. r .word (lowered-word m one);
+      size = r .size ∙ length-set part (4096 + i) best;
+    }
+
+-- ---- the column's update, from pause to pause
+
+-- m lowered by one and raised again
+restored : (m : ℕ) → m < 4294967296 → (lowered m 1 + 1) % 4294967296 ≡ m
+restored zero l = refl
+restored (suc k) l =
+    let e : suc k + 4294967296 - 1 ≡ 1 * 4294967296 + k = omega arith in
+    let f : lowered (suc k) 1 ≡ k = ap (λ (n : ℕ). n % 4294967296) e ∙ digits-mod 1 (let g : k < 4294967296 = omega arith in g) in
+    ap (λ (n : ℕ). (n + 1) % 4294967296) f ∙ mod-eq-of-lt (let g : k + 1 < 4294967296 = omega arith in g) ∙ add-one k
+
+-- a final cell's left end is reasonable
+third : (a b c d : Bool) → (a && b && c && d) ≡ true → c ≡ true
+third true true true d e = refl
+third true true false d e = absurd (false≢true e)
+third true false c d e = absurd (false≢true e)
+third false b c d e = absurd (false≢true e)
+
+final-one : (threshold s best one back i : ℕ) → finalTest threshold s best one back i ≡ true → one ≡ 1
+unfolding finalTest
+final-one threshold s best one back i t = eqb-true one 1 (third (leb threshold s) (eqb s best) (eqb one 1) (leb back i) t)
+
+-- where no cell reached the threshold, none is judged final
+none-final : (threshold s best back i : ℕ) → finalTest threshold s best 0 back i ≡ false
+unfolding finalTest
+none-final threshold s best back i = go (leb threshold s) (eqb s best) (leb back i)
+  where
+    go : (a b d : Bool) → (a && b && false && d) ≡ false
+    go true true d = refl
+    go true false d = refl
+    go false b d = refl
+
+-- 1 where a left end with this reach is reasonable in the line's column
+abbrev reaches : Line → ℕ → ℕ
+reaches line reach = bit (ltb (line .column) reach)
+
+-- the update from a pause on: its cell is judged, and where it is not final the update goes on behind it
+abbrev resumed : Line → ℕ → Pause → Update
+resumed line to pause =
+    cond (finalTest (line .threshold) (pause .answer .score) (pause .answer .best) (reaches line (pause .answer .reach)) (line .back) (pause .answer .row - 1))
+    (record { answer = record { found = true; row = pause .answer .row; m = (pause .answer .m + 1) % 4294967296; score = pause .answer .score }; part = pause .part })
+    (passRows line (to - pause .answer .row) (pause .answer .row) (pause .answer .m) (pause .answer .best) (pause .part))
+
+module _ (line : Line) (n i to m s best reach : ℕ) (part : List ℕ) (e : to ≡ i + suc n) (l : m < 4294967296) where
+  abbrev one : ℕ
+  one = reaches line reach
+
+  at-pause : (f : Bool) → finalTest (line .threshold) s best one (line .back) i ≡ f → (later : Update) → cond f (record { answer = record { found = true; row = suc i; m = m; score = s }; part = part }) later ≡ cond f (record { answer = record { found = true; row = suc i; m = (lowered m one + 1) % 4294967296; score = s }; part = part }) later
+  at-pause true t later =
+      let w : (lowered m one + 1) % 4294967296 ≡ m = ap (λ (k : ℕ). (lowered m k + 1) % 4294967296) (final-one (line .threshold) s best one (line .back) i t) ∙ restored m l in
+      rw w
+  at-pause false t later = refl
+
+  one-more : (c : Bool) → leb (line .threshold) s ≡ c → (later : Pause) → passRows line n (suc i) (lowered m one) best part ≡ resumed line to later → cond (finalTest (line .threshold) s best one (line .back) i) (record { answer = record { found = true; row = suc i; m = m; score = s }; part = part }) (passRows line n (suc i) (lowered m one) best part) ≡ resumed line to (cond c (record { answer = record { row = suc i; m = lowered m one; best = best; score = s; reach = reach }; part = part }) later)
+  one-more true t later r =
+      let k : to - suc i ≡ n = omega arith in
+      let j : suc i - 1 ≡ i = omega arith in
+      at-pause (finalTest (line .threshold) s best one (line .back) i) refl (passRows line n (suc i) (lowered m one) best part) ∙ rw (k, j)
+  one-more false t later r = rw (low-score (line .threshold) s best one (line .back) i t) r
+
+by-pauses : (line : Line) (n i to m before : ℕ) (part : List ℕ) → to ≡ i + n → m < 4294967296 → passRows line n i m before part ≡ resumed line to (quietRows line n i m before part)
+unfolding inReach
+by-pauses line zero i to m before part e l =
+    let k : to - i ≡ 0 = omega arith in
+    let none : reaches line 0 ≡ 0 = ap bit (le-ltb (line .column) 0 zero-le) in
+    rw (none, none-final (line .threshold) 0 before (line .back) (i - 1), k)
+by-pauses line (suc n) i to m before part e l =
+    let s = lineScore line m (getD part i 0) in
+    let best = bestWith part i before s in
+    let one = inReach line part i in
+    let updated = set part (4096 + i) best in
+    one-more line n i to m s best (getD part (2048 + i) 0) updated e l (leb (line .threshold) s) refl (quietRows line n (suc i) (lowered m one) best updated)
+    (by-pauses line n (suc i) to (lowered m one) best updated (omega arith) (lowered-word m one))
+
+module _ (line : Line) (to i m before : ℕ) (part : List ℕ) (answer : Paused) (after : List ℕ) (h : i ≤ to) (l : m < 4294967296) (a : answer ≡ quietRows line (to - i) i m before part .answer) (b : after ≡ quietRows line (to - i) i m before part .part) where
+  whole : record { answer = answer; part = after } ≡ quietRows line (to - i) i m before part
+  whole = λ j. record { answer = a j; part = b j }
+
+  pub pace : Paced i (to - i) m part (record { answer = answer; part = after })
+  pace = subst (Paced i (to - i) m part) (sym whole) (paced line (to - i) i m before part)
+
+  resumes : passRows line (to - i) i m before part ≡ resumed line to (record { answer = answer; part = after })
+  resumes = by-pauses line (to - i) i to m before part (omega arith) l ∙ ap (resumed line to) (sym whole)
+
+  pub pause-stop : finalTest (line .threshold) (answer .score) (answer .best) (bit (ltb (line .column) (answer .reach))) (line .back) (answer .row - 1) ≡ true → passRows line (to - i) i m before part ≡ record { answer = record { found = true; row = answer .row; m = (answer .m + 1) % 4294967296; score = answer .score }; part = after }
+  pause-stop t = resumes ∙ rw t
+
+  pub pause-on : finalTest (line .threshold) (answer .score) (answer .best) (bit (ltb (line .column) (answer .reach))) (line .back) (answer .row - 1) ≡ false → passRows line (to - i) i m before part ≡ passRows line (to - answer .row) (answer .row) (answer .m) (answer .best) after
+  pause-on t = resumes ∙ rw t

@@ -1,0 +1,100 @@
+-- Demand 3's hypotheses can be met: for document 01's own example sketch, strike and start accept, with buffers of four words and 16,384
+-- zeros, and every list of steps can be run on the session that start then leaves.
+-- Assumes nothing.
+use Prim.Native.Nat.{ℕ, _+_, _*_, _≤_}
+use native.Mathlib.Omega.{arith}
+use mathlib.Core.Path.{_≡_, refl, ap, _∙_}
+use mathlib.Core.Bool.{Bool, true, false}
+use mathlib.Core.List.{List, [], _∷_, _++_}
+use lib.Dec.{ltb}
+use lib.IntN.{pos}
+use lib.ListN.{length, getD, take, drop, replicate, length-replicate}
+use borrow.Author.Tests.{ltb-true, ltb-false}
+use Rattle.counts.specs.Replies.{accepted}
+use Rattle.mappings.specs.Limits.{workWords}
+use Rattle.mappings.specs.Rule.{Answer, Step}
+use Rattle.mappings.proofs.Compute.{mappings-compute}
+use Rattle.start.specs.Start.{badWeights, startReply, startWords}
+use Rattle.mapper.specs.declared.answer.Stepped.{Stepped}
+use Rattle.mapper.specs.declared.answer.Stepped.the-variants.{TooFewWords, BadWords}
+use Rattle.mapper.specs.declared.walk.Terms.{Terms}
+use Rattle.mapper.specs.Answers.{answerOf}
+use Rattle.mapper.specs.Step.{badWords}
+use Rattle.mapper.specs.Promise.{StepPromise}
+use Rattle.mapper.specs.Sessions.{Ran, none, then, Request, Lent, requested, textCodes, textPositions, readCodes, struckCodes, given, AllAccept, Demand3}
+use Rattle.mapper.proofs.StepPromise.{few-promise, bad-promise, walk-promise}
+use Rattle.mapper.proofs.Demand3.{demand3}
+
+-- ---- sketch, strike and start accept
+
+-- ACAG and ACG, k = w = 1, c = 100, u = v = 1, threshold 1
+abbrev pub asked : Request
+asked = record {
+  text = 65 ∷ 67 ∷ 65 ∷ 71 ∷ [];
+  read = 65 ∷ 67 ∷ 71 ∷ [];
+  k = 1;
+  w = 1;
+  c = 100;
+  u = 1;
+  v = 1;
+  threshold = pos 1;
+}
+
+abbrev four : List ℕ
+four = 0 ∷ 0 ∷ 0 ∷ 0 ∷ []
+
+abbrev pub buffers : Lent
+buffers = record {
+  text-codes = four;
+  text-positions = four;
+  read-codes = four;
+  read-positions = four;
+  struck-codes = four;
+  struck-positions = four;
+  work = replicate workWords 0;
+}
+
+-- start with the number of work words written out, so that no list of them is computed
+starts : startReply (given asked buffers 4 3 4) workWords ≡ accepted (4 ∷ [])
+unfolding mappings-compute badWeights startReply textCodes textPositions readCodes struckCodes given
+starts = refl
+
+-- four entries of the text, three of the read, four that strike keeps, and four hits
+pub all-accept : AllAccept asked buffers 4 3 4 4
+unfolding mappings-compute textCodes textPositions
+all-accept = record {
+  sketch-text = refl;
+  sketch-read = refl;
+  strike = refl;
+  start = ap (startReply (given asked buffers 4 3 4)) (length-replicate {A = ℕ} workWords 0) ∙ starts;
+  threshold-fits = omega arith;
+}
+
+-- ---- steps can be run
+
+-- some answer and some words keep step's promise, whatever the words before it are
+promise-kept : (work : List ℕ) (budget : ℕ) → (answer : Stepped) × (after : List ℕ) × StepPromise work budget answer after
+promise-kept work budget = number (ltb (length work) workWords) refl
+  where
+    words : (b : Bool) → badWords work ≡ b → workWords ≤ length work → (answer : Stepped) × (after : List ℕ) × StepPromise work budget answer after
+    words true e l = (BadWords, work, bad-promise work budget l e)
+    words false e l =
+        let terms : Terms = record { gain = getD work 1 0 + 2 * getD work 2 0; v = getD work 2 0; size = getD work 5 0; threshold = getD work 6 0 } in
+        (_, _, walk-promise work budget l e terms refl refl refl refl)
+
+    number : (b : Bool) → ltb (length work) workWords ≡ b → (answer : Stepped) × (after : List ℕ) × StepPromise work budget answer after
+    number true e = (TooFewWords, work, few-promise work budget (ltb-true (length work) workWords e))
+    number false e = words (badWords work) refl (ltb-false (length work) workWords e)
+
+runs : (work : List ℕ) (steps : List Step) → (heard : List Answer) × (last : List ℕ) × Ran work steps heard last
+runs work [] = ([], work, none)
+runs work (step ∷ steps) =
+    let one = promise-kept (take (step .lent) work) (step .budget) in
+    let rest = runs (one .1 ++ drop (step .lent) work) steps in
+    (answerOf (one .0) ∷ rest .0, rest .1, then (one .2) (rest .2))
+
+-- any list of steps has a run on the example's session, and demand 3 speaks of it
+pub demand3-met : (steps : List Step) → (heard : List Answer) × (last : List ℕ) × Ran (startWords (given asked buffers 4 3 4) (buffers .work)) steps heard last × Demand3 (requested asked) steps heard last
+demand3-met steps =
+    let run = runs (startWords (given asked buffers 4 3 4) (buffers .work)) steps in
+    (run .0, run .1, run .2, demand3 asked buffers 4 3 4 4 all-accept (run .2))

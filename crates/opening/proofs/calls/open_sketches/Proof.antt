@@ -1,0 +1,178 @@
+-- `calls::open_sketches` meets its contract: strike and start, one after the other.
+-- Assumes nothing.
+use Prim.Native.Nat.{ℕ, _≤_}
+use native.Mathlib.Omega.{arith}
+use mathlib.Core.Path.{_≡_, sym, _∙_, subst}
+use mathlib.Core.Logic.{_≢_}
+use mathlib.Core.List.{List}
+use lib.IntN.{ℤ}
+use lib.ListN.{length, take}
+use lib.Seq.{length-take-le}
+use mir.Syntax.{w32}
+use mir.Val.{toZ, ofZ}
+use mir.ValLaws.{toZ-ofZ}
+use Rattle.mappings.specs.Score.{Task}
+use Rattle.start.specs.Start.{startReply, startWords}
+use Rattle.start.specs.Answers.{startedReply, taskOf}
+use Rattle.opening.specs.Opening.{OpensSketches}
+use Rattle.opening.specs.declared.calls.Opened.{Opened}
+use Rattle.opening.specs.declared.calls.Opened.the-variants.{Refused, Session}
+use Rattle.opening.proofs.Sketches.{strike-refused, inside, start-refused, start-accepted}
+use borrow.Author.Needs.{needs}
+use Rattle.opening.proofs.calls.open_sketches.Statement.{statement}
+use Rattle.opening.proofs.calls.open_sketches.Tie as tie
+use Rattle.opening.proofs.calls.open_sketches.Reads as reads
+use Rattle.opening.proofs.calls.open_sketches.Lts as lts
+use Rattle.answers.proofs.of_start.Reads as of-start-reads
+use Rattle.answers.proofs.of_strike.Reads as of-strike-reads
+use Rattle.opening.proofs.calls.zeros_4096.Reads as zeros-4096-reads
+use Rattle.start.proofs.start.Reads as start-reads
+use Rattle.strike.proofs.strike.Reads as strike-reads
+
+-- strike's answer as numbers, and what it says
+module _ (c : tie.After-of-strike) where
+  abbrev at-strike : tie.After-strike
+  at-strike = c .before .before .before .before
+
+  abbrev at-start : tie.Start
+  at-start = at-strike .before .before .before .before .before .before .before .before .before
+
+  -- the struck codes in their buffer, which was of zeros, and the positions behind them
+  abbrev room : List ℕ
+  room = at-strike .before .before .before .zeros-4096 .result
+
+  abbrev written : List ℕ
+  written = at-strike .strike .last .1 .1 .1 .0
+
+  abbrev places′ : List ℕ
+  places′ = at-strike .strike .last .1 .1 .1 .1 .0
+
+  long : length room ≡ 4096
+  long = sym (at-strike .before .before .before .zeros-4096 .ensures .0)
+
+  abbrev n : ℕ
+  n = c .of-strike .result .0
+
+  abbrev m : ℕ
+  m = c .of-strike .result .1
+
+  refused-here : n ≢ 0 → OpensSketches (at-start .args .codes .now) (at-start .args .places .now) (at-start .args .pattern .now) (at-start .args .k) (at-start .args .c) (at-start .args .u) (at-start .args .v) (at-start .args .threshold) (at-start .args .positions .now) (at-start .args .work .now) (Refused n) places′ (at-start .args .work .now)
+  refused-here =
+      let args = at-start .args in
+      strike-refused (args .codes .now) (args .places .now) (args .pattern .now) (args .positions .now) room (args .k) (args .c) (args .u) (args .v) (args .threshold) (args .work .now) long (at-strike .strike .result) (at-strike .strike .ensures .0) written places′ (at-strike .strike .ensures .1 .0) (at-strike .strike .ensures .1 .1) n m (c .of-strike .ensures .0) (c .of-strike .ensures .1)
+
+  few : n ≡ 0 → m ≤ 4096
+  few =
+      let args = at-start .args in
+      inside (args .codes .now) (args .places .now) (args .pattern .now) (args .positions .now) room (args .k) (args .c) (args .u) (args .v) (args .threshold) (args .work .now) long (at-strike .strike .result) (at-strike .strike .ensures .0) written places′ (at-strike .strike .ensures .1 .0) (at-strike .strike .ensures .1 .1) n m (c .of-strike .ensures .0) (c .of-strike .ensures .1)
+
+  same-room : length written ≡ 4096
+  same-room = let l : length written ≡ length room = at-strike .strike .kept .1 .1 .1 .0 in l ∙ long
+
+-- start's answer as numbers, and what it says
+module _ (c : tie.After-of-start) where
+  abbrev call : tie.After-of-strike
+  call = c .before .before .before .before .before .before .before .before
+
+  abbrev at-begin : tie.After-start
+  at-begin = c .before .before .before
+
+  abbrev ended : Opened → Type 0
+  ended r = OpensSketches (at-start call .args .codes .now) (at-start call .args .places .now) (at-start call .args .pattern .now) (at-start call .args .k) (at-start call .args .c) (at-start call .args .u) (at-start call .args .v) (at-start call .args .threshold) (at-start call .args .positions .now) (at-start call .args .work .now) r (places′ call) (at-begin .start .last .1 .1 .1 .1 .1 .0)
+
+  start-ends : (c .of-start .result .0 ≢ 0 → ended (Refused (c .of-start .result .0))) × (c .of-start .result .0 ≡ 0 → ended (Session (at-start call .args .k) (length (at-start call .args .pattern .now))))
+  start-ends =
+      let args = at-start call .args in
+      let same : toZ w32 (ofZ w32 (args .threshold)) ≡ args .threshold = toZ-ofZ w32 (args .threshold) (at-start call .fits .threshold) in
+      let zero : n call ≡ 0 = at-begin .before .before .before .if1 .left in
+      let task : ℤ → Task = λ z. taskOf (take (m call) (written call)) (args .pattern .now) (args .u) (args .v) z in
+      let reply : startedReply (at-begin .start .result) ≡ startReply (task (args .threshold)) (length (args .work .now)) = subst (λ (z : ℤ). startedReply (at-begin .start .result) ≡ startReply (task z) (length (args .work .now))) same (at-begin .start .ensures .0) in
+      let words : at-begin .start .last .1 .1 .1 .1 .1 .0 ≡ startWords (task (args .threshold)) (args .work .now) = subst (λ (z : ℤ). at-begin .start .last .1 .1 .1 .1 .1 .0 ≡ startWords (task z) (args .work .now)) same (at-begin .start .ensures .1) in (
+        start-refused (args .codes .now) (args .places .now) (args .pattern .now) (args .positions .now) (room call) (args .k) (args .c) (args .u) (args .v) (args .threshold) (args .work .now) (long call) (at-strike call .strike .result) (at-strike call .strike .ensures .0) (written call) (places′ call) (at-strike call .strike .ensures .1 .0) (at-strike call .strike .ensures .1 .1) (n call) (m call) (call .of-strike .ensures .0) (call .of-strike .ensures .1) zero (at-begin .start .result) (at-begin .start .last .1 .1 .1 .1 .1 .0) reply words (c .of-start .result .0) (c .of-start .ensures .0),
+        start-accepted (args .codes .now) (args .places .now) (args .pattern .now) (args .positions .now) (room call) (args .k) (args .c) (args .u) (args .v) (args .threshold) (args .work .now) (long call) (at-strike call .strike .result) (at-strike call .strike .ensures .0) (written call) (places′ call) (at-strike call .strike .ensures .1 .0) (at-strike call .strike .ensures .1 .1) (n call) (m call) (call .of-strike .ensures .0) (call .of-strike .ensures .1) zero (at-begin .start .result) (at-begin .start .last .1 .1 .1 .1 .1 .0) reply words (c .of-start .result .0) (c .of-start .ensures .0),
+      )
+
+-- src/calls.rt:43:20
+zeros-4096-requires : tie.Need-zeros-4096-requires
+zeros-4096-requires c κs = search needs
+
+-- src/calls.rt:44:63
+slice-aggregate-strike : tie.Need-slice-aggregate-strike
+slice-aggregate-strike c = search needs
+
+-- src/calls.rt:44:30
+strike-requires : tie.Need-strike-requires
+strike-requires c κs = search needs
+
+-- src/calls.rt:44:9
+of-strike-requires : tie.Need-of-strike-requires
+of-strike-requires c κs = search needs
+
+-- src/calls.rt:46:9
+same-length : tie.Need-same-length
+same-length c = search needs
+
+-- src/calls.rt:46:9
+returns : tie.Need-returns
+returns c = refused-here (c .before .before) (c .if1 .taken)
+
+-- src/calls.rt:49:9
+array-share-prefix-text : tie.Need-array-share-prefix-text
+array-share-prefix-text c = let call = c .before .before in let l : m call ≤ 4096 = few call (c .if1 .left) in omega (arith, same-room call)
+
+-- src/calls.rt:49:9
+slice-aggregate-start : tie.Need-slice-aggregate-start
+slice-aggregate-start c = let call = c .before .before .before in let l : m call ≤ 4096 = few call (c .before .if1 .left) in sym (length-take-le (m call) (written call) (omega (arith, same-room call)))
+
+-- src/calls.rt:48:30
+start-requires : tie.Need-start-requires
+start-requires c κs = search needs
+
+-- src/calls.rt:48:9
+of-start-requires : tie.Need-of-start-requires
+of-start-requires c κs = search needs
+
+-- src/calls.rt:57:9
+same-length-2 : tie.Need-same-length-2
+same-length-2 c = search needs
+
+-- src/calls.rt:57:9
+same-length-3 : tie.Need-same-length-3
+same-length-3 c = search needs
+
+-- src/calls.rt:57:9
+returns-2 : tie.Need-returns-2
+returns-2 c = start-ends (c .before .before) .0 (c .if2 .taken)
+
+-- src/calls.rt:29:1
+same-length-4 : tie.Need-same-length-4
+same-length-4 c = search needs
+
+-- src/calls.rt:29:1
+same-length-5 : tie.Need-same-length-5
+same-length-5 c = search needs
+
+-- src/calls.rt:29:1
+returns-3 : tie.Need-returns-3
+returns-3 c = start-ends (c .before .before) .1 (c .if2 .left)
+
+pub open-sketches-spec : {M : Type 1} → statement M
+open-sketches-spec =
+    tie.close
+    (tie.spec
+    zeros-4096-requires
+    slice-aggregate-strike
+    strike-requires
+    of-strike-requires
+    same-length
+    returns
+    array-share-prefix-text
+    slice-aggregate-start
+    start-requires
+    of-start-requires
+    same-length-2
+    same-length-3
+    returns-2
+    same-length-4
+    same-length-5
+    returns-3)

@@ -1,0 +1,14 @@
+//! Prints how many cases were compared with the brute force and how many differ. Ends with status 1 where one differs, or where a
+//! refusal of document 01's table was not met.
+//! Assumes nothing.
+
+use std::process::ExitCode;
+use std::thread;
+
+fn main() -> ExitCode {
+    let thread = thread::Builder::new().stack_size(8 << 20).spawn(host::crosscheck::run).expect("a thread");
+    match thread.join() {
+        Ok(true) => ExitCode::SUCCESS,
+        _ => ExitCode::FAILURE,
+    }
+}

@@ -1,0 +1,107 @@
+//! Tasks from letters to the list: sketch of text and read, strike, start and steps, beside all intervals of Definition 1.
+//! Assumes nothing.
+
+use super::tally::{Met, Tally};
+use super::tasks::{hold_task, threshold, weights};
+use crate::calls;
+use crate::cases::{cluster, letters};
+use crate::held::{Difference, Held, agree};
+use crate::random::Random;
+use crate::reference::refusal::Refusal;
+use crate::reference::score::Task;
+use crate::reference::sketch::{Entry, codes, positions, sketch_call};
+use crate::reference::strike::strike_call;
+
+const CASES: u64 = 20_000;
+
+/// What a task is made of, before its sketches.
+struct Made {
+    text: Vec<u8>,
+    read: Vec<u8>,
+    k: u32,
+    w: u32,
+    c: u32,
+    weights: (u32, u32),
+}
+
+/// Few letters and small k make few codes and many repeats.
+fn made(random: &mut Random) -> Made {
+    let (text, read) = if random.once_in(2) {
+        let alphabet = random.one_of(&[b"A".as_slice(), b"AC", b"AC", b"ACG", b"ACGT", b"ACacN", b"ACGTacgtN"]);
+        let (longest_text, longest_read) = random.one_of(&[(12, 6), (30, 12), (60, 30)]);
+        let (text, read) = (random.below(longest_text + 1), random.below(longest_read + 1));
+        (letters(random, text, alphabet), letters(random, read, alphabet))
+    } else {
+        cluster(random, 60)
+    };
+    let k = if random.once_in(6) { random.between(0, 16) } else { random.between(1, 3) } as u32;
+    let w = if random.once_in(6) { random.between(0, 65) } else { random.between(1, 4) } as u32;
+    let c = random.one_of(&[0, 1, 2, 3, 5, 100, 65_535, 65_536, 100, 100]);
+    Made { text, read, k, w, c, weights: weights(random) }
+}
+
+/// Codes and positions.
+type Sketch = (Vec<u32>, Vec<u32>);
+
+/// The codes of a text and of a pattern.
+type Codes = (Vec<u32>, Vec<u32>);
+
+/// Asks that what a proved call answered and wrote are the expected entries, and gives what it wrote.
+fn agreed(
+    call: &'static str,
+    given: Result<usize, Refusal>,
+    (mut codes_out, mut positions_out): Sketch,
+    expected: Result<Vec<Entry>, Refusal>,
+) -> Held<Sketch> {
+    agree(call, given, expected.as_ref().map(Vec::len).map_err(|&refusal| refusal))?;
+    let Ok(entries) = expected else {
+        return Ok(Err(expected.expect_err("a refusal")));
+    };
+    codes_out.truncate(entries.len());
+    positions_out.truncate(entries.len());
+    agree(call, (&codes_out, &positions_out), (&codes(&entries), &positions(&entries)))?;
+    Ok(Ok((codes_out, positions_out)))
+}
+
+fn proved_sketch(letters: &[u8], k: u32, w: u32) -> Held<Sketch> {
+    let room = letters.len();
+    let (mut codes_out, mut positions_out) = (vec![0; room], vec![0; room]);
+    let given = calls::sketch(letters, k, w, &mut codes_out, &mut positions_out);
+    agreed("sketch", given, (codes_out, positions_out), sketch_call(letters, k, w, room, room))
+}
+
+fn proved_strike((codes, positions): &Sketch, c: u32) -> Held<Sketch> {
+    let room = codes.len();
+    let (mut codes_out, mut positions_out) = (vec![0; room], vec![0; room]);
+    let given = calls::strike(codes, positions, c, &mut codes_out, &mut positions_out);
+    agreed("strike", given, (codes_out, positions_out), strike_call(codes, positions, c, room, room))
+}
+
+/// The codes of the struck text and of the read, by the proved functions, each held to the reference; none where a call is refused.
+fn proved_codes(made: &Made, met: &mut Met) -> Result<Option<Codes>, Difference> {
+    let mut accepted = |call: &'static str, held: Held<Sketch>| -> Result<Option<Sketch>, Difference> {
+        Ok(held?.map_err(|refusal| met.refusal(call, refusal)).ok())
+    };
+    let Some(text) = accepted("sketch", proved_sketch(&made.text, made.k, made.w))? else { return Ok(None) };
+    let Some(read) = accepted("sketch", proved_sketch(&made.read, made.k, made.w))? else { return Ok(None) };
+    let Some(struck) = accepted("strike", proved_strike(&text, made.c))? else { return Ok(None) };
+    Ok(Some((struck.0, read.0)))
+}
+
+fn hold(random: &mut Random, met: &mut Met) -> Result<(), Difference> {
+    let made = made(random);
+    let Some((text, pattern)) = proved_codes(&made, met)? else {
+        return Ok(());
+    };
+    let (u, v) = made.weights;
+    let task = Task { text, pattern, u, v, threshold: 0 };
+    let task = Task { threshold: threshold(random, &task), ..task };
+    hold_task(random, &task, met)
+}
+
+pub fn random(tally: &mut Tally) {
+    for seed in 0..CASES {
+        tally.compare(|| format!("seed {seed}"), |met| hold(&mut Random::new(seed), met));
+    }
+    tally.end_part("lists from letters, by sketch, strike, start and step");
+}

@@ -1,0 +1,36 @@
+//! The proved functions beside a brute force on random small tasks and at the limits of document 01's table.
+//! Assumes a stack of 8 MiB, which the proved functions are made for.
+
+mod codes;
+mod lists;
+mod per_mille;
+mod session_limits;
+mod session_refusals;
+mod sketches;
+mod stepping;
+mod stores;
+mod strikes;
+mod tally;
+mod tasks;
+
+use tally::Tally;
+
+/// Runs all parts and prints what was compared. Whether nothing differs and the whole table of refusals was met.
+pub fn run() -> bool {
+    let mut tally = Tally::new();
+    println!("Random cases, small, each beside the brute force");
+    lists::random(&mut tally);
+    codes::random(&mut tally);
+    sketches::random(&mut tally);
+    strikes::random(&mut tally);
+    stores::random(&mut tally);
+    per_mille::random(&mut tally);
+    println!("\nCases at the limits");
+    sketches::limits(&mut tally);
+    strikes::limits(&mut tally);
+    stores::limits(&mut tally);
+    session_refusals::limits(&mut tally);
+    session_limits::limits(&mut tally);
+    per_mille::limits(&mut tally);
+    tally.print_end()
+}

@@ -1,0 +1,105 @@
+//! Sessions with 2,048 hits in 65,535 text entries and 4,096 pattern entries, beside the form of Definition 1 over hits.
+//! Assumes nothing.
+
+use super::stepping::hold_list;
+use super::tally::{Met, Tally};
+use crate::held::session::start;
+use crate::held::{Difference, agree};
+use crate::random::Random;
+use crate::reference::by_hits::finals_by_hits;
+use crate::reference::cells::{cell_count, hits};
+use crate::reference::definition1::finals;
+use crate::reference::score::Task;
+use crate::reference::start::{MAX_HITS, MAX_PATTERN, WORK_WORDS};
+use crate::reference::strike::MAX_TEXT;
+
+/// Weights and thresholds: both ends of the 32 bits, and some between.
+const SETTINGS: [((u32, u32), i32); 5] =
+    [((1_000, 1_000), i32::MIN), ((1_000, 1_000), i32::MAX), ((1_000, 1), -30_000), ((1, 1_000), -4_100_000), ((1, 1), -4_000)];
+
+/// Where the hits of a text stand.
+#[derive(Clone, Copy, Debug)]
+enum Places {
+    Anywhere,
+    First,
+    Last,
+    Ends,
+}
+
+/// The 2,048 indices of the text at which hits stand.
+fn places(random: &mut Random, kind: Places) -> Vec<usize> {
+    let half = MAX_HITS / 2;
+    match kind {
+        Places::First => (0..MAX_HITS).collect(),
+        Places::Last => (MAX_TEXT - MAX_HITS..MAX_TEXT).collect(),
+        Places::Ends => (0..half).chain(MAX_TEXT - half..MAX_TEXT).collect(),
+        Places::Anywhere => {
+            let mut all: Vec<usize> = (0..MAX_TEXT).collect();
+            for at in 0..MAX_HITS {
+                all.swap(at, random.between(at, MAX_TEXT - 1));
+            }
+            all.truncate(MAX_HITS);
+            all
+        }
+    }
+}
+
+/// A task with exactly 2,048 hits whose codes are so many; other entries have codes that the pattern lacks.
+fn task(random: &mut Random, kind: Places, codes: usize, (u, v): (u32, u32), threshold: i32) -> Task {
+    let spread = |code: usize| (code as u32).wrapping_mul(2_654_435_761);
+    let mut text: Vec<u32> = (0..MAX_TEXT).map(|_| spread(1_000_000 + random.below(50_000))).collect();
+    for at in places(random, kind) {
+        text[at] = spread(random.below(codes));
+    }
+    let pattern = (0..MAX_PATTERN)
+        .map(|n| {
+            spread(if n < codes {
+                n
+            } else if random.once_in(3) {
+                random.below(codes)
+            } else {
+                500_000 + random.below(900)
+            })
+        })
+        .collect();
+    Task { text, pattern, u, v, threshold }
+}
+
+/// Holds a whole session by few and long steps.
+fn hold(random: &mut Random, task: &Task, met: &mut Met) -> Result<(), Difference> {
+    let finals = finals_by_hits(task);
+    let session = start(random, task, WORK_WORDS, |_| finals.clone())?.map_err(|refusal| format!("refused: {refusal:?}"))?;
+    agree("h", hits(task).len(), MAX_HITS)?;
+    hold_list(random, session, cell_count(MAX_HITS), WORK_WORDS, &finals, met)
+}
+
+/// Asks that the form over hits lists what all intervals of a long text give.
+fn hold_form(task: &Task) -> Result<(), Difference> {
+    let finals = finals(task);
+    agree("mappings are listed", finals.is_empty(), false)?;
+    agree("the form over hits", finals_by_hits(task), finals)
+}
+
+pub fn limits(tally: &mut Tally) {
+    let mut random = Random::new(350_000);
+    let mut whole = task(&mut random, Places::Anywhere, 1_500, (1_000, 1), -3_000_000);
+    whole.text.truncate(16_384);
+    tally.compare(|| "all intervals of 16,384 entries".into(), |_| hold_form(&whole));
+    tally.end_part("the form of Definition 1 over hits beside all 134,225,920 intervals of 16,384 entries");
+    let kinds = [
+        (Places::Anywhere, 1),
+        (Places::Anywhere, 40),
+        (Places::Anywhere, 1_500),
+        (Places::First, 300),
+        (Places::Last, 1),
+        (Places::Ends, 1_500),
+    ];
+    for (kind, codes) in kinds {
+        for (weights, threshold) in SETTINGS {
+            let task = task(&mut random, kind, codes, weights, threshold);
+            let case = || format!("{kind:?}, {codes} codes, weights {weights:?}, threshold {threshold}");
+            tally.compare(case, |met| hold(&mut random, &task, met));
+        }
+    }
+    tally.end_part("sessions: h 2,048, 65,535 and 4,096 entries, weights 1,000, thresholds at both ends of 32 bits");
+}

@@ -1,0 +1,96 @@
+//! The proved functions beside the vectors in data/vectors: each answer as the vector has it, and every word of the lent buffers
+//! beside the reference.
+//! Assumes that the folder stands at its place in the repository.
+
+use host::calls::{self, Loaded, Stepped};
+use host::held::{self, Difference};
+use host::random::Random;
+use host::reference::definition1::finals;
+use host::reference::refusal::{Refusal, refused_with};
+use host::reference::sketch::Entry;
+use host::reference::steps::Step;
+
+use crate::on_usual_stack;
+use crate::vector_files::{Vector, entries, lines, session, sketch_of, store, written};
+
+/// The first n entries of two buffers, as the vectors write them.
+fn shown(codes: &[u32], positions: &[u32], n: usize) -> String {
+    let pairs = codes.iter().zip(positions).take(n);
+    entries(&pairs.map(|(&code, &position)| Entry { code, position }).collect::<Vec<_>>())
+}
+
+/// What was held. Panics where something differs.
+fn same<T>(held: Result<T, Difference>, line: &[String]) -> T {
+    held.unwrap_or_else(|wrong| panic!("{wrong}: {line:?}"))
+}
+
+#[test]
+fn sketches() {
+    let mut random = Random::new(3000);
+    for line in lines("sketch.tsv") {
+        let (k, w, letters, expected) = sketch_of(&line);
+        let (mut codes, mut positions) = (vec![7; letters.len()], vec![9; letters.len()]);
+        let n = calls::sketch(&letters, k, w, &mut codes, &mut positions).expect("an accepted sketch");
+        assert_eq!(shown(&codes, &positions, n), expected, "{line:?}");
+        for rooms in [(n, n), (n + 3, n), (letters.len() + 2, letters.len())] {
+            assert_eq!(same(held::sketch::sketch(&mut random, &letters, k, w, rooms), &line), Ok(n));
+        }
+        for rooms in [(n.wrapping_sub(1), n), (n, n.wrapping_sub(1))] {
+            if n > 0 {
+                assert_eq!(same(held::sketch::sketch(&mut random, &letters, k, w, rooms), &line), Err(refused_with(4, n)));
+            }
+        }
+    }
+}
+
+#[test]
+fn stores() {
+    let mut random = Random::new(3100);
+    for line in lines("store.tsv") {
+        let (words, room, expected) = store(&line);
+        let (mut codes, mut positions) = (vec![7; room], vec![9; room]);
+        let answer = match calls::load(&words, &mut codes, &mut positions) {
+            Ok(Loaded { k, w, entries }) => format!("loaded {k} {w} {}", shown(&codes, &positions, entries)),
+            Err(Refusal { number, value }) => format!("refused {number} {}", value.expect("a second value")),
+        };
+        assert_eq!(answer.trim_end(), expected, "{line:?}");
+        for rooms in [(room, room), (room, room + 1), (room + 8, room)] {
+            let accepted = same(held::store::load(&mut random, &words, rooms), &line).is_ok();
+            assert_eq!(accepted, expected.starts_with("loaded"), "{line:?}");
+        }
+        // what was loaded is saved as the same words
+        if let Ok(Loaded { k, w, entries: n }) = calls::load(&words, &mut codes, &mut positions) {
+            let mut saved = vec![5; words.len() + 1];
+            assert_eq!(calls::save(&codes[..n], &positions[..n], k, w, &mut saved), Ok(words.len()), "{line:?}");
+            assert_eq!((&saved[..words.len()], saved[words.len()]), (&words[..], 5), "{line:?}");
+        }
+    }
+}
+
+/// A step's answer as the vectors write it.
+fn answered(work: &mut [u32], step: Step) -> String {
+    match calls::step(&mut work[..step.lent], step.budget) {
+        Stepped::Found { a, b, score, m, cells } => format!("found,{a},{b},{score},{m},{cells}"),
+        Stepped::Finished(cells) => format!("finished,{cells}"),
+        Stepped::Spent(cells) => format!("spent,{cells}"),
+        Stepped::Refused(number) => format!("refused,{number}"),
+    }
+}
+
+#[test]
+fn sessions() {
+    on_usual_stack(|| {
+        let mut random = Random::new(3200);
+        for line in lines("sessions.tsv") {
+            let Vector { task, h, steps, expected } = session(&line);
+            let mut work = vec![3; 20_000];
+            assert_eq!(calls::start(&task.text, &task.pattern, task.u, task.v, task.threshold, &mut work), Ok(h), "{line:?}");
+            let answers: Vec<String> = steps.iter().map(|&step| answered(&mut work, step)).collect();
+            assert_eq!(answers, expected, "{line:?}");
+            let mut session = same(held::session::start(&mut random, &task, 20_000, finals), &line).expect("an accepted start");
+            for (&step, expected) in steps.iter().zip(&expected) {
+                assert_eq!(&written(&same(session.step(step), &line)), expected, "{line:?}");
+            }
+        }
+    });
+}
