@@ -68,7 +68,7 @@ pub enum Request {
 }
 
 // How many bytes stand before the first that is b: all of them where there is none.
-pub fn find(bytes: &[u8], b: u8) -> usize
+fn find(bytes: &[u8], b: u8) -> usize
     ensures { λ r. ⌜ r ≡ length (firstPart b (now (bytes .entry))) ⌝ }
 {
     let mut i = 0;

@@ -37,7 +37,7 @@ pub struct Filled {
 }
 
 // The cells that remain and one more.
-pub fn cells_left(work: &[u32]) -> u32
+pub(crate) fn cells_left(work: &[u32]) -> u32
     ensures { λ r. ⌜ r ≡ cellsLeft (now (work .entry)) ⌝ }
 {
     if work.len() < WORK_WORDS {

@@ -2,4 +2,4 @@
 // session's mappings and the last line, as many at a time as a lent buffer holds.
 pub mod beginning;
 pub mod filling;
-pub mod lines;
+mod lines;

@@ -2,7 +2,7 @@
 mod blocks;
 mod hits;
 mod per_hit;
-pub mod score;
+mod score;
 mod search;
 pub mod words;
 
