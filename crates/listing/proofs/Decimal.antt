@@ -1,19 +1,16 @@
--- Laws of numbers in decimal: how long they are, and that they read back as the number.
+-- Laws of numbers in decimal: digit by digit, and how long they are.
 -- Assumes nothing.
 use Prim.Native.Nat.{ℕ, zero, suc, _+_, _/_, _%_, _^_, _≤_, _<_}
 use native.Mathlib.Nat.{pow-suc, div-lt-iff-lt-mul}
 use native.Mathlib.Omega.{arith}
 use mathlib.Core.Path.{_≡_, refl, sym, ap, _∙_, subst}
-use mathlib.Core.Bool.{Bool, true, false, not}
+use mathlib.Core.Bool.{Bool, true, false}
 use mathlib.Core.List.{List, [], _∷_}
-use lib.Dec.{ltb, eqb}
+use lib.Dec.{ltb}
 use lib.ListN.{length, length-append}
 use lib.IntN.{ℤ, pos, negsuc}
-use borrow.Author.Tests.{lt-ltb, le-ltb, ltb-true, ltb-false, le-leb, ne-eqb}
-use Rattle.counts.specs.Lists.{every}
-use Rattle.counts.proofs.Lists.{and-both}
+use borrow.Author.Tests.{lt-ltb, le-ltb, ltb-true, ltb-false}
 use Rattle.listing.specs.Line.{digit, digitsBefore, decimal, signed, line}
-use Rattle.listing.specs.Input.{isDigit, isDecimal, decimalValue}
 
 -- ---- one digit more
 
@@ -30,7 +27,7 @@ tenth places n h =
     div-lt-iff-lt-mul {k = 10} {x = n} {y = 10 ^ places} ten .1 (subst (λ (m : ℕ). n < m) (pow-suc 10 places) h)
 
 -- what holds of the digits of n where they are one, and where they are those of its tenth and one more
-digits-by : (P : ℕ → List ℕ → List ℕ → Type 0)
+pub digits-by : (P : ℕ → List ℕ → List ℕ → Type 0)
     → ((n : ℕ) (rest : List ℕ) → n < 10 → P n rest (digit n ∷ rest))
     → ((n : ℕ) (rest l : List ℕ) → 10 ≤ n → P (n / 10) (digit (n % 10) ∷ rest) l → P n rest l)
     → (places n : ℕ) (rest : List ℕ) → n < 10 ^ suc places → P n rest (digitsBefore (suc places) n rest)
@@ -42,42 +39,6 @@ digits-by P last more (suc places) n rest h = go (λ k. digits-by P last more pl
     go rec false e =
         let large : 10 ≤ n = ltb-false n 10 e in
         subst (λ (l : List ℕ). P n rest l) (sym (digits-more (suc places) n rest large)) (more n rest _ large (rec (tenth (suc places) n h)))
-
--- ---- the digits read back
-
-value-digits : (places n : ℕ) (rest : List ℕ) → n < 10 ^ suc places → decimalValue 0 (digitsBefore (suc places) n rest) ≡ decimalValue n rest
-value-digits =
-    digits-by
-    (λ n rest l. decimalValue 0 l ≡ decimalValue n rest)
-    (λ n rest h. ap (λ (m : ℕ). decimalValue m rest) (omega arith))
-    (λ n rest l h e. e ∙ ap (λ (m : ℕ). decimalValue m rest) (omega arith))
-
--- a number of at most ten digits is the value of its digits
-pub value-decimal : (n : ℕ) → n < 10 ^ 10 → decimalValue 0 (decimal n) ≡ n
-unfolding decimal
-value-decimal n h = value-digits 9 n [] h
-
-digit-is-digit : (n : ℕ) → n < 10 → isDigit (digit n) ≡ true
-digit-is-digit n h = and-both (le-leb (digit 0) (digit n) (omega arith)) (le-leb (digit n) (digit 9) (omega arith))
-
-leading : (n : ℕ) (rest : List ℕ) → n < 10 → 1 ≤ n → every isDigit rest ≡ true → isDecimal (digit n ∷ rest) ≡ true
-leading n [] h p e = digit-is-digit n h
-leading n (b ∷ rest) h p e =
-    let nonzero : not (eqb (digit n) (digit 0)) ≡ true = ap not (ne-eqb (digit n) (digit 0) (λ q. omega arith)) in
-    and-both nonzero (and-both (digit-is-digit n h) e)
-
-is-decimal-digits : (places n : ℕ) (rest : List ℕ) → n < 10 ^ suc places → 1 ≤ n → every isDigit rest ≡ true → isDecimal (digitsBefore (suc places) n rest) ≡ true
-is-decimal-digits =
-    digits-by
-    (λ n rest l. 1 ≤ n → every isDigit rest ≡ true → isDecimal l ≡ true)
-    leading
-    (λ n rest l h r p e. r (omega arith) (and-both (digit-is-digit (n % 10) (omega arith)) e))
-
--- it has digits alone, at least one, and no leading zero
-pub is-decimal : (n : ℕ) → n < 10 ^ 10 → isDecimal (decimal n) ≡ true
-unfolding decimal
-is-decimal zero h = refl
-is-decimal (suc n) h = is-decimal-digits 9 (suc n) [] h (omega arith) refl
 
 -- ---- lengths
 

@@ -1,6 +1,5 @@
-// The list that is read by a person: per mille here, the printed line in `writing`, the three lines of the input in `input`.
+// The list that is read by a person: per mille here, the printed line in `writing`.
 // Assumes nothing.
-pub mod input;
 pub mod writing;
 
 ghost use mathlib.Core.Path.{_≡_};

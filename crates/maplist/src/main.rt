@@ -4,7 +4,7 @@ use report::beginning::begin;
 use report::filling::fill;
 ghost use mathlib.Core.Path.{_≡_};
 ghost use lib.ListN.{length};
-ghost use Rattle.listing.specs.Limits.{inputLimit};
+ghost use Rattle.reading.specs.Limits.{inputLimit};
 
 // So many bytes of the input decide what is printed.
 fn input_bytes() -> [u8; 8261]

@@ -15,7 +15,7 @@ use Rattle.strike.specs.Strike.{struck, strikeReply}
 use Rattle.strike.proofs.Laws.{length-codes, length-positions}
 use Rattle.start.specs.Start.{startReply, startWords}
 use Rattle.start.specs.Answers.{taskOf as taskWith}
-use Rattle.listing.specs.Input.{Settings, given}
+use Rattle.reading.specs.Input.{Settings, given}
 use Rattle.answers.specs.Numbers.{numberOf, valueOf}
 use Rattle.answers.proofs.Accepted.{Tells, sketch-tells}
 use Rattle.opening.specs.Calls.{textOf, patternOf, taskOf, andThen, sketchesReply, strikingReply, callsReply}

@@ -4,10 +4,10 @@ use Prim.Native.Nat.{ℕ}
 use mathlib.Core.Path.{_≡_, refl, sym, ap, _∙_, subst}
 use mathlib.Core.List.{List}
 use lib.IntN.{ℤ}
-use Rattle.listing.specs.Input.{Input, malformed, given, inputOf}
-use Rattle.listing.specs.Answers.{part, requestInput, LinesInside, Inside, InputRead}
-use Rattle.listing.specs.declared.input.Request.{Request}
-use Rattle.listing.specs.declared.input.Request.the-variants.{Malformed as noRequest, Given as request}
+use Rattle.reading.specs.Input.{Input, malformed, given, inputOf}
+use Rattle.reading.specs.Answers.{part, requestInput, LinesInside, Inside, InputRead}
+use Rattle.reading.specs.declared.Request.{Request}
+use Rattle.reading.specs.declared.Request.the-variants.{Malformed as noRequest, Given as request}
 use Rattle.opening.specs.Opening.{settings, openedOf, positionsAfter, workAfter, Opens}
 use Rattle.opening.specs.declared.calls.Opened.{Opened}
 use Rattle.opening.specs.declared.calls.Opened.the-variants.{Malformed}

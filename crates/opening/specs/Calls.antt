@@ -8,8 +8,8 @@ use Rattle.sketch.specs.Sketch.{sketch, sketchReply}
 use Rattle.strike.specs.Strike.{struck, strikeReply}
 use Rattle.mappings.specs.Score.{Task}
 use Rattle.start.specs.Start.{startReply}
-use Rattle.listing.specs.Limits.{lineLimit}
-use Rattle.listing.specs.Input.{Settings}
+use Rattle.reading.specs.Limits.{lineLimit}
+use Rattle.reading.specs.Input.{Settings}
 
 -- the struck text and the pattern, as entries
 unfoldable pub textOf : Settings → List ℕ → List Entry

@@ -10,8 +10,8 @@ use Rattle.sketch.specs.Kmers.{codes, positions, entries}
 use Rattle.strike.specs.Strike.{struck, strikeReply}
 use Rattle.start.specs.Start.{startReply, startWords}
 use Rattle.start.specs.Answers.{taskOf as taskWith}
-use Rattle.listing.specs.Limits.{lineLimit}
-use Rattle.listing.specs.Input.{Settings, Input, malformed, given}
+use Rattle.reading.specs.Limits.{lineLimit}
+use Rattle.reading.specs.Input.{Settings, Input, malformed, given}
 use Rattle.opening.specs.Calls.{textOf, patternOf, taskOf, andThen, strikingReply, callsReply}
 use Rattle.opening.specs.declared.calls.Opened.{Opened}
 use Rattle.opening.specs.declared.calls.Opened.the-variants.{Malformed, Refused, Session}

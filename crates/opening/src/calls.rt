@@ -3,12 +3,12 @@
 use answers::of_sketch;
 use answers::of_start;
 use answers::of_strike;
-use listing::input::Request;
-use listing::input::read_input;
+use reading::Request;
+use reading::read_input;
 ghost use mathlib.Core.Path.{_≡_};
 ghost use lib.ListN.{length};
 ghost use Rattle.counts.specs.Keys.{zeros};
-ghost use Rattle.listing.specs.Input.{given, inputOf};
+ghost use Rattle.reading.specs.Input.{given, inputOf};
 ghost use Rattle.opening.specs.Opening.{Opens, OpensSketches, settings};
 
 // A session in the work words, with k and the number of entries of the read's sketch; or why there is none: what is malformed, or

@@ -5,7 +5,7 @@ use native.Mathlib.Omega.{arith}
 use mathlib.Core.Path.{_≡_, refl, sym, ap, _∙_, subst}
 use mathlib.Core.List.{List, [], _∷_, _++_}
 use lib.ListN.{length}
-use Rattle.listing.specs.Input.{Input, inputOf}
+use Rattle.reading.specs.Input.{Input, inputOf}
 use Rattle.opening.specs.Opening.{openedOf, Opens}
 use Rattle.opening.specs.declared.calls.Opened.{Opened}
 use Rattle.listing.specs.Writing.{Written}

@@ -15,7 +15,8 @@ use mathlib.Core.List.{List}
 use borrow.Author.Tests.{le-ltb, lt-ltb, le-leb, ltb-true, ltb-false, leb-true, ne-eqb}
 use Rattle.counts.proofs.Lists.{and-left, and-right}
 use Rattle.mappings.specs.Score.{lengthOf}
-use Rattle.listing.specs.Limits.{lenLimit, sizeLimit, wordLimit}
+use Rattle.listing.specs.Limits.{lenLimit, sizeLimit}
+use Rattle.reading.specs.Limits.{wordLimit}
 use Rattle.listing.specs.PerMille.{perMille, isRefused, perMilleNumber}
 use Rattle.listing.specs.Line.{line}
 use Rattle.report.specs.Pieces.{Holds, isHeld, EndOf, mappingLine}

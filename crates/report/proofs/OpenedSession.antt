@@ -25,8 +25,8 @@ use Rattle.mappings.proofs.Definition1.{test-final}
 use Rattle.start.specs.Start.{startReply, startWords, afterStart}
 use Rattle.start.specs.WorkWords.{sessionWords}
 use Rattle.mapper.proofs.Accepted.{not-refused, admitted}
-use Rattle.listing.specs.Limits.{lineLimit, wordLimit}
-use Rattle.listing.specs.Input.{Settings, given}
+use Rattle.reading.specs.Limits.{lineLimit, wordLimit}
+use Rattle.reading.specs.Input.{Settings, given}
 use Rattle.opening.specs.Calls.{textOf, patternOf, taskOf, andThen, sketchesReply, strikingReply, callsReply}
 use Rattle.opening.specs.Opening.{positionsAfter, workAfter, whereAccepted}
 use Rattle.report.specs.Output.{lineOf, linesOf, finalCells, lastLine, listOf, headerLine}

@@ -13,12 +13,12 @@ use Rattle.mappings.specs.Score.{Task}
 use Rattle.mappings.specs.Cells.{hitCount, cellCount}
 use Rattle.mapper.specs.Promise.{Accepts}
 use Rattle.start.specs.WorkWords.{sessionWords}
-use Rattle.listing.specs.Limits.{lineLimit, inputLimit}
+use Rattle.reading.specs.Limits.{lineLimit, inputLimit}
 use Rattle.listing.specs.Line.{decimal}
 use Rattle.listing.specs.Writing.{Written}
-use Rattle.listing.specs.Input.{Settings, Input, malformed, given, inputOf}
+use Rattle.reading.specs.Input.{Settings, Input, malformed, given, inputOf}
 use Rattle.listing.proofs.Decimal.{length-decimal}
-use Rattle.listing.proofs.Enough.{enough-bytes}
+use Rattle.reading.proofs.Enough.{enough-bytes}
 use Rattle.opening.specs.Calls.{textOf, patternOf, taskOf, callsReply}
 use Rattle.opening.specs.Opening.{openedBy, openedOf, positionsAfter, workAfter}
 use Rattle.opening.specs.declared.calls.Opened.{Opened}

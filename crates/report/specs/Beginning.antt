@@ -4,7 +4,7 @@ use Prim.Native.Nat.{ℕ}
 use mathlib.Core.Path.{_≡_}
 use mathlib.Core.List.{List}
 use lib.ListN.{length}
-use Rattle.listing.specs.Input.{inputOf}
+use Rattle.reading.specs.Input.{inputOf}
 use Rattle.listing.specs.Writing.{Written}
 use Rattle.opening.specs.Opening.{openedOf, positionsAfter, workAfter}
 use Rattle.opening.specs.declared.calls.Opened.{Opened}

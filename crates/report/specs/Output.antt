@@ -9,10 +9,10 @@ use Rattle.sketch.specs.Kmers.{positions}
 use Rattle.mappings.specs.Limits.{workWords}
 use Rattle.mappings.specs.Score.{Task, lengthOf}
 use Rattle.mappings.specs.Cells.{Cell, Mapping, cellsOf, isFinalCell, mappingOf}
-use Rattle.listing.specs.Limits.{lineLimit}
+use Rattle.reading.specs.Limits.{lineLimit}
 use Rattle.listing.specs.PerMille.{perMille}
 use Rattle.listing.specs.Line.{decimal, line, space, lineFeed}
-use Rattle.listing.specs.Input.{Settings, Input, malformed, given, inputOf}
+use Rattle.reading.specs.Input.{Settings, Input, malformed, given, inputOf}
 use Rattle.opening.specs.Calls.{textOf, patternOf, taskOf, callsReply}
 
 -- `refused`, `input`, `found`, `cells` and the header `first last score shared permille`, as bytes

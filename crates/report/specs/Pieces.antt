@@ -16,7 +16,8 @@ use Rattle.mappings.specs.Rule.{reported, ruleAnswer}
 use Rattle.start.specs.WorkWords.{sessionWords}
 use Rattle.mapper.specs.Step.{tooFewWords, badWords}
 use Rattle.mapper.specs.Promise.{Accepts}
-use Rattle.listing.specs.Limits.{lenLimit, sizeLimit, wordLimit}
+use Rattle.listing.specs.Limits.{lenLimit, sizeLimit}
+use Rattle.reading.specs.Limits.{wordLimit}
 use Rattle.listing.specs.PerMille.{perMille}
 use Rattle.listing.specs.Line.{line}
 use Rattle.listing.specs.Writing.{Written}

@@ -7,7 +7,7 @@ use Rattle.opening.proofs.calls.open.Statement.{statement}
 use Rattle.opening.proofs.calls.open.Tie as tie
 use Rattle.opening.proofs.calls.open.Reads as reads
 use Rattle.opening.proofs.calls.open.Lts as lts
-use Rattle.listing.proofs.input.read_input.Reads as read-input-reads
+use Rattle.reading.proofs.read_input.Reads as read-input-reads
 use Rattle.opening.proofs.calls.open_lines.Reads as open-lines-reads
 
 -- src/calls.rt:110:11

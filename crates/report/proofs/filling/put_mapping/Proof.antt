@@ -7,7 +7,8 @@ use mathlib.Core.Path.{_≡_, refl, sym, ap, _∙_}
 use mathlib.Core.Bool.{false≢true}
 use lib.IntN.{pos}
 use lib.ListN.{length, getD}
-use Rattle.listing.specs.Limits.{lenLimit, sizeLimit, wordLimit}
+use Rattle.listing.specs.Limits.{lenLimit, sizeLimit}
+use Rattle.reading.specs.Limits.{wordLimit}
 use Rattle.report.specs.Pieces.{Holds}
 use mir.Facts.{toZ-ofZ}
 use Rattle.mappings.specs.Score.{lengthOf}

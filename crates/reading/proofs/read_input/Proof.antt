@@ -1,0 +1,277 @@
+-- `listing::input::read_input` meets its contract: the lines found are the first three of the bytes' lines. Assumes nothing.
+use Prim.Native.Nat.{ℕ, _+_, _-_, _≤_}
+use native.Mathlib.Omega.{arith}
+use mathlib.Core.Path.{_≡_, sym, ap, _∙_}
+use mathlib.Core.List.{List, [], _∷_}
+use lib.ListN.{length, take, drop, length-drop}
+use lib.Seq.{length-take-le}
+use lib.IntN.{ℤ}
+use mir.Facts.{toZ-ofZ}
+use denote.Ref.{now}
+use Rattle.listing.specs.Line.{lineFeed}
+use Rattle.reading.specs.Input.{lines, malformed, given, inputOf}
+use Rattle.reading.specs.Answers.{part, InputRead}
+use Rattle.reading.specs.declared.FirstLine.{FirstLine}
+use Rattle.reading.specs.declared.Request.the-variants.{Malformed as noRequest}
+use Rattle.reading.proofs.Parts.{parts, found-inside, found-end, found-more}
+use Rattle.reading.proofs.Lines.{inputFrom, input-from, asInput, few-lines, long-text, long-read, by-first-line, some-part, first-inside, first-end, first-more}
+use borrow.Author.Needs.{needs, sfits-of}
+use Rattle.reading.proofs.read_input.Statement.{statement}
+use Rattle.reading.proofs.read_input.Tie as tie
+
+-- a refusal, from the lines
+refused : (bytes : List ℕ) {ls : List (List ℕ)} → lines bytes ≡ ls → inputFrom ls ≡ malformed → InputRead bytes noRequest
+refused bytes e m = record { input = sym (input-from bytes ∙ ap inputFrom e ∙ m); inside = tt }
+
+-- ---- the first line
+
+module _ (c : tie.After-find) where
+  abbrev bytes : List ℕ
+  bytes = now (c .before .before .args .bytes)
+
+  abbrev n₁ : ℕ
+  n₁ = c .find .result
+
+  inside₁ : n₁ ≤ length bytes
+  inside₁ = first-inside bytes n₁ (c .find .ensures)
+
+-- with a line feed behind it
+module _ (c : tie.Else1) where
+  abbrev text : ℕ
+  text = n₁ (c .before) + 1
+
+  text-inside : text ≤ length (bytes (c .before))
+  text-inside = omega (arith, inside₁ (c .before), c .if1 .left)
+
+  lines₁ : lines (bytes (c .before)) ≡ take (n₁ (c .before)) (bytes (c .before)) ∷ parts lineFeed (drop text (bytes (c .before)))
+  lines₁ = first-more (bytes (c .before)) (n₁ (c .before)) (c .before .find .ensures) (omega (arith, text-inside))
+
+-- ---- the text line
+
+module _ (c : tie.After-find2) where
+  abbrev bytes₂ : List ℕ
+  bytes₂ = bytes (c .before .before .before)
+
+  abbrev text₂ : ℕ
+  text₂ = text (c .before .before)
+
+  abbrev n₂ : ℕ
+  n₂ = c .find2 .result
+
+  inside₂ : text₂ + n₂ ≤ length bytes₂
+  inside₂ = found-inside lineFeed bytes₂ text₂ n₂ (text-inside (c .before .before)) (c .find2 .ensures)
+
+  two-lines : text₂ + n₂ ≡ length bytes₂ → lines bytes₂ ≡ take (n₁ (c .before .before .before)) bytes₂ ∷ drop text₂ bytes₂ ∷ []
+  two-lines e =
+      lines₁ (c .before .before)
+      ∙ ap (λ (ls : List (List ℕ)). take (n₁ (c .before .before .before)) bytes₂ ∷ ls) (found-end lineFeed bytes₂ text₂ n₂ (text-inside (c .before .before)) (c .find2 .ensures) e)
+
+-- with a line feed behind it
+module _ (c : tie.Else2) where
+  abbrev read : ℕ
+  read = text₂ (c .before) + n₂ (c .before) + 1
+
+  read-inside : read ≤ length (bytes₂ (c .before))
+  read-inside = omega (arith, inside₂ (c .before), c .if2 .left)
+
+  lines₂ : lines (bytes₂ (c .before))
+      ≡ take (n₁ (c .before .before .before .before)) (bytes₂ (c .before))
+      ∷ take (n₂ (c .before)) (drop (text₂ (c .before)) (bytes₂ (c .before)))
+      ∷ parts lineFeed (drop read (bytes₂ (c .before)))
+  lines₂ =
+      lines₁ (c .before .before .before)
+      ∙ ap (λ (ls : List (List ℕ)). take (n₁ (c .before .before .before .before)) (bytes₂ (c .before)) ∷ ls)
+      (found-more lineFeed (bytes₂ (c .before)) (text₂ (c .before)) (n₂ (c .before)) (text-inside (c .before .before .before)) (c .before .find2 .ensures) (omega (arith, read-inside)))
+
+-- ---- the read line
+
+module _ (c : tie.After-find3) where
+  abbrev bytes₃ : List ℕ
+  bytes₃ = bytes₂ (c .before .before .before)
+
+  abbrev text₃ : ℕ
+  text₃ = text₂ (c .before .before .before)
+
+  abbrev read₃ : ℕ
+  read₃ = read (c .before .before)
+
+  abbrev n₃ : ℕ
+  n₃ = c .find3 .result
+
+  abbrev line₁ : List ℕ
+  line₁ = take (n₁ (c .before .before .before .before .before .before)) bytes₃
+
+  abbrev line₂ : List ℕ
+  line₂ = take (n₂ (c .before .before .before)) (drop text₃ bytes₃)
+
+  inside₃ : read₃ + n₃ ≤ length bytes₃
+  inside₃ = found-inside lineFeed bytes₃ read₃ n₃ (read-inside (c .before .before)) (c .find3 .ensures)
+
+  three-lines : read₃ + n₃ ≡ length bytes₃ → lines bytes₃ ≡ line₁ ∷ line₂ ∷ drop read₃ bytes₃ ∷ []
+  three-lines e =
+      lines₂ (c .before .before)
+      ∙ ap (λ (ls : List (List ℕ)). line₁ ∷ line₂ ∷ ls) (found-end lineFeed bytes₃ read₃ n₃ (read-inside (c .before .before)) (c .find3 .ensures) e)
+
+-- with a line feed behind it
+module _ (c : tie.Else3) where
+  abbrev line₃ : List ℕ
+  line₃ = take (n₃ (c .before)) (drop (read₃ (c .before)) (bytes₃ (c .before)))
+
+  abbrev rest : List (List ℕ)
+  rest = parts lineFeed (drop (read₃ (c .before) + n₃ (c .before) + 1) (bytes₃ (c .before)))
+
+  lines₃ : lines (bytes₃ (c .before)) ≡ line₁ (c .before) ∷ line₂ (c .before) ∷ line₃ ∷ rest
+  lines₃ =
+      lines₂ (c .before .before .before)
+      ∙ ap (λ (ls : List (List ℕ)). line₁ (c .before) ∷ line₂ (c .before) ∷ ls)
+      (found-more lineFeed (bytes₃ (c .before)) (read₃ (c .before)) (n₃ (c .before)) (read-inside (c .before .before .before)) (c .before .find3 .ensures) (omega (arith, inside₃ (c .before), c .if3 .left)))
+
+  length-text : length (line₂ (c .before)) ≡ n₂ (c .before .before .before .before)
+  length-text = length-take-le _ _ (omega (arith, length-drop (text₃ (c .before)) (bytes₃ (c .before)), inside₂ (c .before .before .before .before)))
+
+  length-read : length line₃ ≡ n₃ (c .before)
+  length-read = length-take-le _ _ (omega (arith, length-drop (read₃ (c .before)) (bytes₃ (c .before)), inside₃ (c .before)))
+
+-- ---- the answer
+
+-- the three lines decide, with what was read of the first
+module _ (c : tie.After-read-first-line) where
+  abbrev third : tie.Else3
+  third = c .before .before .before .before
+
+  first-line-decides : {other : FirstLine} → c .read-first-line .result ≡ other → inputOf (bytes₃ (third .before)) ≡ asInput other (line₂ (third .before)) (line₃ third)
+  first-line-decides e =
+      input-from (bytes₃ (third .before))
+      ∙ ap inputFrom (lines₃ third)
+      ∙ by-first-line (line₁ (third .before) ∷ line₂ (third .before) ∷ line₃ third ∷ rest third)
+      (omega (arith, some-part lineFeed (drop (read₃ (third .before) + n₃ (third .before) + 1) (bytes₃ (third .before)))))
+      (omega (arith, length-text third, c .before .before .before .if4 .left))
+      (omega (arith, length-read third, c .before .before .if5 .left))
+      ∙ ap (λ (a : FirstLine). asInput a (line₂ (third .before)) (line₃ third)) (sym (c .read-first-line .ensures) ∙ e)
+
+same-given : (k w c u v : ℕ) {t t′ : ℤ} {a a′ b b′ : List ℕ} → t ≡ t′ → a ≡ a′ → b ≡ b′
+    → given (record { k = k; w = w; c = c; u = u; v = v; threshold = t }) a b ≡ given (record { k = k; w = w; c = c; u = u; v = v; threshold = t′ }) a′ b′
+same-given k w c u v p q r = λ i. given (record { k = k; w = w; c = c; u = u; v = v; threshold = p i }) (q i) (r i)
+
+-- a line by its two ends
+part-is : (from n : ℕ) (l : List ℕ) → part from (from + n) l ≡ take n (drop from l)
+part-is from n l = let e : from + n - from ≡ n = omega arith in ap (λ (k : ℕ). take k (drop from l)) e
+
+find-requires : tie.Need-find-requires
+find-requires c κs = search needs
+
+returns : tie.Need-returns
+returns c = refused _ (first-end (bytes (c .before)) (n₁ (c .before)) (c .before .find .ensures) (c .if1 .taken)) (few-lines _ (omega arith))
+
+add-text : tie.Need-add-text
+add-text c = omega (arith, text-inside c)
+
+sub-find : tie.Need-sub-find
+sub-find c = text-inside c
+
+part-find-start : tie.Need-part-find-start
+part-find-start c = text-inside c
+
+part-find-end : tie.Need-part-find-end
+part-find-end c = search needs
+
+find-requires-2 : tie.Need-find-requires-2
+find-requires-2 c κs = search needs
+
+add-text-end : tie.Need-add-text-end
+add-text-end c = omega (arith, inside₂ c)
+
+returns-2 : tie.Need-returns-2
+returns-2 c = refused _ (two-lines (c .before) (c .if2 .taken)) (few-lines _ (omega arith))
+
+add-read : tie.Need-add-read
+add-read c = omega (arith, read-inside c)
+
+sub-find-2 : tie.Need-sub-find-2
+sub-find-2 c = read-inside c
+
+part-find-start-2 : tie.Need-part-find-start-2
+part-find-start-2 c = read-inside c
+
+part-find-end-2 : tie.Need-part-find-end-2
+part-find-end-2 c = search needs
+
+find-requires-3 : tie.Need-find-requires-3
+find-requires-3 c κs = search needs
+
+add-read-end : tie.Need-add-read-end
+add-read-end c = omega (arith, inside₃ c)
+
+returns-3 : tie.Need-returns-3
+returns-3 c = refused _ (three-lines (c .before) (c .if3 .taken)) (few-lines _ (omega arith))
+
+returns-4 : tie.Need-returns-4
+returns-4 c = refused _ (lines₃ (c .before)) (long-text _ (omega (arith, length-text (c .before), c .if4 .taken)))
+
+returns-5 : tie.Need-returns-5
+returns-5 c = refused _ (lines₃ (c .before .before)) (long-read _ (omega (arith, length-read (c .before .before), c .if5 .taken)))
+
+slice-aggregate-read-first-line : tie.Need-slice-aggregate-read-first-line
+slice-aggregate-read-first-line c = let at-find = c .before .before .before .before .before .before .before .before .before .before in sym (length-take-le _ _ (inside₁ at-find))
+
+read-first-line-requires : tie.Need-read-first-line-requires
+read-first-line-requires c κs = search needs
+
+enum-told : tie.Need-enum-told
+enum-told c = search needs
+
+enum-known-k : tie.Need-enum-known-k
+enum-known-k c = search needs
+
+returns-6 : tie.Need-returns-6
+returns-6 c = record { input = sym (first-line-decides (c .before .before) (c .enum-told .given .1)); inside = tt }
+
+returns-7 : tie.Need-returns-7
+returns-7 c =
+    let at-line = c .before .before .before in
+    let at-third = third at-line in
+    let at-find3 = at-third .before in
+    let at-find2 = at-find3 .before .before .before in
+    record {
+      input =
+          same-given _ _ _ _ _ (toZ-ofZ (sfits-of (c .known-told .given .1 .1 .1 .1 .1 .0 .1))) (part-is _ (n₂ at-find2) _) (part-is _ (n₃ at-find3) _)
+          ∙ sym (first-line-decides at-line (c .before .k .given .1));
+      inside =
+          record {
+            text-order = omega arith;
+            text-inside = inside₂ at-find2;
+            text-short = omega (arith, at-line .before .before .before .if4 .left);
+            read-order = omega arith;
+            read-inside = inside₃ at-find3;
+            read-short = omega (arith, at-line .before .before .if5 .left);
+          };
+    }
+
+pub read-input-spec : {M : Type 1} → statement M
+read-input-spec =
+    tie.close
+    (tie.spec
+    find-requires
+    returns
+    add-text
+    sub-find
+    part-find-start
+    part-find-end
+    find-requires-2
+    add-text-end
+    returns-2
+    add-read
+    sub-find-2
+    part-find-start-2
+    part-find-end-2
+    find-requires-3
+    add-read-end
+    returns-3
+    returns-4
+    returns-5
+    slice-aggregate-read-first-line
+    read-first-line-requires
+    enum-told
+    enum-known-k
+    returns-6
+    returns-7)

@@ -1,0 +1,4 @@
+-- The three lines of the input.
+pub mod Limits
+pub mod Input
+pub mod Answers
