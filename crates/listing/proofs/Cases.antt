@@ -1,9 +1,8 @@
 -- Examples of per mille and of printed lines, among them document 01's: each is computed from the definitions.
 -- Assumes nothing.
-use Prim.Native.Nat.{ℕ}
 use mathlib.Core.Path.{_≡_, refl}
-use mathlib.Core.List.{List, [], _∷_, _++_}
-use lib.IntN.{ℤ, pos, negsuc}
+use mathlib.Core.List.{[], _∷_}
+use lib.IntN.{pos, negsuc}
 use Rattle.listing.specs.PerMille.{perMilleNumber}
 use Rattle.listing.specs.Line.{space, lineFeed, signed, line}
 use Rattle.listing.specs.Writing.{fitting}

@@ -2,7 +2,7 @@
 -- Assumes nothing.
 use Prim.Native.Nat.{ℕ, _≤_}
 use native.Mathlib.Omega.{arith}
-use mathlib.Core.Path.{_≡_, refl, sym, ap, _∙_}
+use mathlib.Core.Path.{_≡_, refl}
 use mathlib.Core.Bool.{Bool, true, false, cond, _||_}
 use mathlib.Core.List.{List, [], _∷_}
 use lib.Dec.{ltb, eqb}
@@ -10,8 +10,6 @@ use lib.ListN.{length}
 use borrow.Author.Tests.{ltb-false}
 use Rattle.counts.specs.Replies.{Reply, accepted, refused}
 use Rattle.counts.proofs.Lists.{or-neither}
-use Rattle.sketch.specs.Limits.{textLimit}
-use Rattle.mappings.specs.Limits.{weightLimit, patternLimit, hitLimit, workWords}
 use Rattle.mappings.specs.Score.{Task}
 use Rattle.mappings.specs.Cells.{hitCount}
 use Rattle.mappings.proofs.Range.{Limited}

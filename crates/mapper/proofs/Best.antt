@@ -1,13 +1,11 @@
 -- What the column in hand knows: the greatest biased score of the cells passed in the rows up to each row.
 -- Assumes nothing.
 use Prim.Native.Nat.{ℕ, zero, suc, _+_, _-_, _≤_, _<_, max, zero-le}
-use native.Mathlib.Nat.{le-refl, le-trans, not-suc-le-zero}
+use native.Mathlib.Nat.{le-refl, not-suc-le-zero}
 use native.Mathlib.Omega.{arith}
 use mathlib.Core.Path.{_≡_, refl, sym, ap, _∙_, subst}
 use mathlib.Core.Logic.{_⊎_, inl, inr}
-use mathlib.Core.Bool.{Bool, true, false, cond}
 use mathlib.Core.List.{List, [], _∷_, _++_}
-use lib.Dec.{ltb, leb}
 use lib.ListN.{length, getD, set, take, replicate, getD-replicate}
 use lib.Seq.{take-suc, getD-set-same, getD-set-other}
 use Rattle.counts.proofs.Lists.{eq-or-ne}

@@ -1,23 +1,19 @@
 -- At a cell of a session, the code's numbers are those of the definitions: the score word, m along the column, and the four tests of
 -- Definition 1.
 -- Assumes nothing.
-use Prim.Native.Nat.{ℕ, zero, suc, _+_, _-_, _*_, _%_, _≤_, _<_, max}
-use native.Mathlib.Nat.{le-refl, le-trans, mul-add, mul-le-mul}
+use Prim.Native.Nat.{ℕ, suc, _+_, _-_, _*_, _%_, _≤_, _<_, max}
+use native.Mathlib.Nat.{le-trans, mul-add, mul-le-mul}
 use native.Mathlib.Omega.{arith}
 use mathlib.Core.Path.{_≡_, refl, sym, ap, _∙_, subst}
-use mathlib.Core.Bool.{Bool, true, false, cond, _&&_}
-use mathlib.Core.List.{List}
+use mathlib.Core.Bool.{Bool, true, false, _&&_}
 use lib.Arith.{digits-mod}
 use lib.Dec.{leb, ltb, eqb}
-use lib.IntN.{ℤ}
 use lib.ListN.{length, getD}
 use lib.Signed.{leZ, mag}
 use borrow.Author.Tests.{eq-eqb, eqb-true, le-leb, leb-true}
 use Rattle.counts.specs.Lists.{bit}
-use Rattle.counts.specs.Counts.{occ}
-use Rattle.counts.proofs.Lists.{same-test}
 use Rattle.mappings.specs.Score.{Task, interval, shared, sharedOf, lengthOf, scoreOf}
-use Rattle.mappings.specs.Definition1.{AtMost, isReasonable, isFinal}
+use Rattle.mappings.specs.Definition1.{AtMost, isReasonable}
 use Rattle.mappings.specs.Bias.{bias, biased, biasedOf, biasedZ}
 use Rattle.mappings.specs.Cells.{hits, hitCodes, hitCount, isFinalCell, leftEnd, rightEnd}
 use Rattle.mappings.proofs.Cells.{cellAt}

@@ -1,12 +1,12 @@
 -- Passing the next rows of a column in the words of a session is passing the next cells by the rule: up to the first final one.
 -- Assumes nothing.
 use Prim.Native.Nat.{ℕ, zero, suc, _+_, _-_, _*_, _≤_, _<_, max, zero-le, suc-le-suc}
-use native.Mathlib.Nat.{le-refl, le-trans}
+use native.Mathlib.Nat.{le-refl}
 use native.Mathlib.Omega.{arith}
 use mathlib.Core.Path.{_≡_, refl, sym, ap, _∙_, subst}
 use mathlib.Core.Logic.{_⊎_, inl, inr}
-use mathlib.Core.Bool.{Bool, true, false, cond, _&&_}
-use mathlib.Core.List.{List, [], _∷_}
+use mathlib.Core.Bool.{Bool, true, false, _&&_}
+use mathlib.Core.List.{List, _∷_}
 use lib.Dec.{ltb, leb, eqb}
 use borrow.Author.Tests.{eqb-true}
 use lib.ListN.{length, getD, set, drop, length-set}
@@ -16,7 +16,7 @@ use Rattle.counts.specs.Lists.{bit}
 use Rattle.counts.proofs.Lists.{eq-or-ne, and-left, and-right}
 use Rattle.mappings.specs.Score.{Task}
 use Rattle.mappings.specs.Bias.{bias, biasedZ}
-use Rattle.mappings.specs.Cells.{Cell, hits, hitCodes, hitCount, cellsOf, isFinalCell, mappingOf, leftEnd, rightEnd, place}
+use Rattle.mappings.specs.Cells.{hits, hitCodes, hitCount, cellsOf, isFinalCell, mappingOf, leftEnd, rightEnd, place}
 use Rattle.mappings.specs.Rule.{Answer, found, finished, spent, refused, moreCells, ruleAnswer}
 use Rattle.mappings.proofs.Cells.{cellAt, drop-cells, place-row}
 use Rattle.mappings.proofs.Range.{Limited}

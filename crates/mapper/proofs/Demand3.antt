@@ -1,33 +1,29 @@
 -- Demand 3, whole: for every list of steps from a fresh session, as step promises each; over any codes that start accepts, and over the
 -- letters of text and read.
 -- Assumes nothing.
-use Prim.Native.Nat.{ℕ, zero, suc, _+_, _-_, _≤_, _<_}
-use native.Mathlib.Nat.{le-refl, le-trans}
+use Prim.Native.Nat.{ℕ, _+_, _-_, _≤_, _<_}
 use native.Mathlib.Omega.{arith}
-use mathlib.Core.Path.{_≡_, refl, sym, ap, ap₂, _∙_, subst, subst₂}
-use mathlib.Core.Logic.{_⊎_, inl, inr}
+use mathlib.Core.Path.{_≡_, refl, sym, ap, ap₂, _∙_, subst}
 use mathlib.Core.Bool.{Bool, true, false, cond, not, _||_}
 use mathlib.Core.List.{List, [], _∷_, _++_, append-nil}
 use lib.Dec.{ltb, eqb}
 use lib.ListN.{length, getD, take, drop, length-take, take-append-drop, drop-of-length-le}
-use lib.Seq.{length-take-le, take-all, drop-append-le, take-append-seam}
+use lib.Seq.{length-take-le, take-all, take-append-seam}
 use borrow.Author.Tests.{lt-ltb, le-ltb, ltb-true, ltb-false}
-use Rattle.counts.specs.Replies.{Reply, accepted, over, after}
+use Rattle.counts.specs.Replies.{Reply, accepted, after}
 use Rattle.sketch.specs.Limits.{kLimit, wLimit, letterLimit, textLimit, outside}
-use Rattle.counts.proofs.Lists.{or-neither}
 use Rattle.sketch.specs.Kmers.{Entry, codes, positions, entries}
 use Rattle.sketch.specs.Sketch.{sketch, checkedLetters, roomFor, sketchReply, sketchCodes, sketchPositions}
 use Rattle.sketch.proofs.Laws.{codes-positions, entries-same}
 use Rattle.strike.specs.Strike.{strikeLimit, struck, strikeReply, strikeCodes}
-use Rattle.strike.proofs.Laws.{length-codes, length-positions}
+use Rattle.strike.proofs.Laws.{length-codes}
 use Rattle.mappings.specs.Limits.{workWords}
 use Rattle.mappings.specs.Score.{Task}
 use Rattle.mappings.specs.Cells.{hitCount, cellCount}
 use Rattle.mappings.specs.Rule.{Answer, refused, Step, reported, passed, isAccepted, stepAnswer, ruleAnswer, answers}
-use Rattle.mappings.specs.Demand.{Demanded}
 use Rattle.mappings.proofs.Demand.{demand}
 use Rattle.mappings.proofs.Rule.{outcome, outcome-within, passing}
-use Rattle.start.specs.Start.{startReply, startWords, afterStart}
+use Rattle.start.specs.Start.{startReply, startWords}
 use Rattle.start.specs.WorkWords.{sessionWords}
 use Rattle.start.proofs.WorkWords.{words-hold, session-number, take-session, drop-session}
 use Rattle.mapper.specs.declared.answer.Stepped.{Stepped}

@@ -11,7 +11,6 @@ use borrow.Author.Tests.{lt-leb}
 use lib.Dec.{leb}
 use lib.ListN.{length, getD, set, length-set}
 use Rattle.mapper.specs.declared.column.Line.{Line}
-use Rattle.mapper.specs.declared.column.Passed.{Passed}
 use Rattle.mapper.specs.Passing.{lowered, lineScore, bestWith, inReach, finalTest, Update, passRows}
 
 pub left-suc : (to i : ℕ) → i < to → to - i ≡ suc (to - (i + 1))

@@ -1,28 +1,25 @@
 -- Step keeps its promise, way by way: refused for too few words or for bad ones, words that no session has, and the walk.
 -- Assumes nothing.
-use Prim.Native.Nat.{ℕ, zero, suc, _+_, _-_, _*_, _≤_, _<_, zero-le}
+use Prim.Native.Nat.{ℕ, zero, suc, _+_, _-_, _*_, _≤_, _<_}
 use native.Mathlib.Nat.{le-refl}
 use native.Mathlib.Omega.{arith}
 use mathlib.Core.Path.{_≡_, refl, sym, ap, _∙_, subst}
 use mathlib.Core.Logic.{_⊎_, inl, inr}
-use mathlib.Core.Bool.{Bool, true, false, cond, true≢false, false≢true}
+use mathlib.Core.Bool.{Bool, true, false, cond}
 use mathlib.Core.List.{List, [], _∷_}
 use lib.Dec.{ltb}
 use lib.ListN.{length, getD}
-use borrow.Author.Tests.{lt-ltb, le-ltb, ltb-true, ltb-false}
-use Rattle.counts.specs.Replies.{accepted}
+use borrow.Author.Tests.{lt-ltb, le-ltb, ltb-true}
 use Rattle.counts.proofs.Lists.{clash, eq-or-ne}
-use Rattle.mappings.specs.Bias.{biasedZ}
 use Rattle.mappings.specs.Score.{Task}
-use Rattle.mappings.specs.Cells.{hits, hitCount, cells, cellCount, place}
-use Rattle.mappings.specs.Rule.{Answer, refused, reported, moreCells, ruleAnswer}
+use Rattle.mappings.specs.Cells.{hitCount, cells, cellCount}
+use Rattle.mappings.specs.Rule.{Answer, reported, moreCells, ruleAnswer}
 use Rattle.mappings.proofs.Cells.{cellAt, stands}
 use Rattle.mappings.proofs.HitCodes.{cell-shared}
 use Rattle.start.specs.Start.{badWeights}
 use Rattle.start.specs.WorkWords.{columnsLeft, nextRow, nextShared, sessionWords}
-use Rattle.start.proofs.WorkWords.{HoldsBlocks, Holds, words-hold}
-use Rattle.mapper.specs.declared.answer.Stepped.{Stepped}
-use Rattle.mapper.specs.declared.answer.Stepped.the-variants.{Found, Finished, Spent, TooFewWords, BadWords}
+use Rattle.start.proofs.WorkWords.{Holds, words-hold}
+use Rattle.mapper.specs.declared.answer.Stepped.the-variants.{Spent, TooFewWords, BadWords}
 use Rattle.mapper.specs.declared.walk.Terms.{Terms}
 use Rattle.mapper.specs.Answers.{answerOf}
 use Rattle.mapper.specs.Step.{tooFewWords, badWords}
@@ -30,7 +27,7 @@ use Rattle.mapper.specs.Walking.{Walk, walkOn}
 use Rattle.mapper.specs.Promise.{Accepts, StepPromise}
 use Rattle.mapper.proofs.Accepted.{Admitted, admitted}
 use Rattle.mapper.proofs.Chunk.{more-none}
-use Rattle.mapper.proofs.Places.{PlaceIs, at-cell, at-end}
+use Rattle.mapper.proofs.Places.{at-cell, at-end}
 use Rattle.mapper.proofs.WalkRule.{termsOf, PlaceAt, Ruled, walk-rule}
 use Rattle.mapper.proofs.Within.{Kept, kept-walk}
 

@@ -1,21 +1,20 @@
 -- A walk in the words of a session answers as the rule does, and leaves the words of the session further on.
 -- Assumes nothing.
 use Prim.Native.Nat.{ℕ, zero, suc, _+_, _-_, _*_, _≤_, _<_, min, zero-le, suc-le-suc}
-use native.Mathlib.Nat.{le-refl, le-trans}
 use native.Mathlib.Omega.{arith}
 use mathlib.Core.Path.{_≡_, refl, sym, ap, _∙_, subst}
 use mathlib.Core.Logic.{_⊎_, inl, inr}
 use mathlib.Core.Bool.{Bool, true, false, cond}
 use mathlib.Core.List.{List}
-use lib.Dec.{ltb, eqb}
+use lib.Dec.{ltb}
 use lib.ListN.{length, getD}
 use lib.Signed.{mag}
-use borrow.Author.Tests.{ne-eqb, lt-ltb, le-ltb, ltb-true, ltb-false}
+use borrow.Author.Tests.{ne-eqb, ltb-true, ltb-false}
 use Rattle.counts.proofs.Lists.{eq-or-ne}
 use Rattle.mappings.specs.Score.{Task, scoreOf, sharedOf}
-use Rattle.mappings.specs.Bias.{bias, biasedOf, biasedZ, unbiased}
-use Rattle.mappings.specs.Cells.{Cell, hits, hitCodes, hitCount, cellCount, mappingOf, leftEnd, rightEnd, place}
-use Rattle.mappings.specs.Rule.{Answer, found, finished, spent, reported, moreCells, ruleAnswer}
+use Rattle.mappings.specs.Bias.{bias, biasedZ, unbiased}
+use Rattle.mappings.specs.Cells.{hits, hitCount, cellCount, mappingOf, leftEnd, rightEnd, place}
+use Rattle.mappings.specs.Rule.{found, finished, spent, reported, moreCells, ruleAnswer}
 use Rattle.mappings.proofs.Cells.{cellAt, cellCount-mono, place-row, place-column, place-last, place-within}
 use Rattle.mappings.proofs.HitCodes.{cell-shared}
 use Rattle.mappings.proofs.Hits.{hit-within}
@@ -23,16 +22,16 @@ use Rattle.mappings.proofs.Range.{Limited, score-biased}
 use Rattle.mappings.proofs.Rule.{rule-no-budget, rule-none-left, more-cells}
 use Rattle.start.specs.Tables.{whole}
 use Rattle.start.specs.WorkWords.{bestBefore, bestAfter, columnsLeft, nextRow, nextShared, sessionWords}
-use Rattle.start.proofs.WorkWords.{HoldsBlocks, Holds, hold-words}
+use Rattle.start.proofs.WorkWords.{HoldsBlocks, hold-words}
 use Rattle.mapper.specs.declared.walk.Terms.{Terms}
 use Rattle.mapper.specs.declared.place.Place.{Place}
 use Rattle.mapper.specs.Answers.{answerOf}
-use Rattle.mapper.specs.Passing.{lowered, seenBefore, Update, passRows}
+use Rattle.mapper.specs.Passing.{lowered, seenBefore, Update}
 use Rattle.mapper.specs.Walking.{topShared, settled, saved, lineOf, Walk, spentWalk, finishedWalk, foundWalk, partOf, withPart, columnUpdate, walkOn}
 use Rattle.mapper.proofs.Best.{scoreAt}
 use Rattle.mapper.proofs.CellTests.{sharedAt}
-use Rattle.mapper.proofs.Chunk.{PartHolds, SameOutside, sessionLine, Chunk, all-passed, one-found, chunk, more-none}
-use Rattle.mapper.proofs.Places.{PlaceIs, at-cell, at-end}
+use Rattle.mapper.proofs.Chunk.{PartHolds, sessionLine, Chunk, all-passed, one-found, chunk, more-none}
+use Rattle.mapper.proofs.Places.{at-cell, at-end}
 use Rattle.mapper.proofs.SessionWords.{blocks-part, part-blocks, passed-back, place-saved}
 use Rattle.mapper.proofs.Walking.{walk-spent, walk-found, walk-part, walk-next}
 

@@ -1,9 +1,9 @@
 -- Laws of a walk: where a place settles, and a walk unrolled by one column.
 -- Assumes nothing.
-use Prim.Native.Nat.{ℕ, zero, suc, _+_, _-_, _%_, _≤_, _<_, min, zero-le}
-use native.Mathlib.Nat.{le-refl, sub-le}
+use Prim.Native.Nat.{ℕ, suc, _+_, _-_, _%_, _≤_, _<_, min, zero-le}
+use native.Mathlib.Nat.{le-refl}
 use native.Mathlib.Omega.{arith}
-use mathlib.Core.Path.{_≡_, refl, sym, ap, _∙_, subst}
+use mathlib.Core.Path.{_≡_, sym, ap, _∙_, subst}
 use mathlib.Core.Bool.{Bool, true, false, cond}
 use mathlib.Core.List.{List}
 use mathlib.Core.Logic.{_≢_}
@@ -19,7 +19,7 @@ use Rattle.mapper.proofs.Passing.{Bounded, bounded}
 use Rattle.mapper.specs.declared.walk.Terms.{Terms}
 use Rattle.mapper.specs.declared.place.Place.{Place}
 use Rattle.mapper.specs.declared.answer.Stepped.the-variants.{Found}
-use Rattle.mapper.specs.Walking.{saved, settled, topShared, Walk, spentWalk, foundWalk, withPart, partOf, lineOf, columnUpdate, walkOn}
+use Rattle.mapper.specs.Walking.{saved, settled, topShared, spentWalk, foundWalk, withPart, partOf, lineOf, columnUpdate, walkOn}
 
 -- a place settles within the columns and rows that it came from
 pub settled-within : (work : List ℕ) (columns row m : ℕ) → (settled work columns row m .columns ≤ columns) × (settled work columns row m .row ≤ row)

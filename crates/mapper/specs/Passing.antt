@@ -1,11 +1,10 @@
 -- What a column's update does to any work words, made by start and steps or not.
 -- Assumes nothing.
-use Prim.Native.Nat.{ℕ, zero, suc, _+_, _-_, _*_, _%_, _^_, min, max}
+use Prim.Native.Nat.{ℕ, zero, suc, _+_, _-_, _*_, _%_, max}
 use mathlib.Core.Bool.{Bool, true, false, cond, _&&_}
-use mathlib.Core.List.{List, [], _∷_}
+use mathlib.Core.List.{List}
 use lib.Dec.{leb, ltb, eqb}
-use lib.ListN.{length, getD, take, drop, set}
-use lib.Seq.{slice, sets}
+use lib.ListN.{getD, set}
 use Rattle.counts.specs.Lists.{bit}
 use Rattle.mapper.specs.declared.column.Line.{Line}
 use Rattle.mapper.specs.declared.column.Passed.{Passed}

@@ -6,12 +6,12 @@ use mathlib.Core.Path.{_≡_}
 use mathlib.Core.List.{List, [], _∷_}
 use lib.ListN.{length, drop}
 use lib.Signed.{mag}
-use Rattle.counts.specs.Replies.{Reply, accepted}
+use Rattle.counts.specs.Replies.{accepted}
 use Rattle.mappings.specs.Limits.{workWords}
 use Rattle.mappings.specs.Bias.{bias}
 use Rattle.mappings.specs.Score.{Task}
 use Rattle.mappings.specs.Cells.{hitCount, cellCount}
-use Rattle.mappings.specs.Rule.{Answer, refused, reported, ruleAnswer}
+use Rattle.mappings.specs.Rule.{refused, reported, ruleAnswer}
 use Rattle.start.specs.Start.{startReply}
 use Rattle.start.specs.WorkWords.{sessionWords}
 use Rattle.mapper.specs.Step.{tooFewWords, badWords}

@@ -6,15 +6,15 @@ use mathlib.Core.List.{List, [], _∷_, _++_}
 use lib.IntN.{ℤ}
 use lib.ListN.{length, getD, take, drop}
 use lib.Signed.{mag}
-use Rattle.counts.specs.Replies.{Reply, accepted}
-use Rattle.sketch.specs.Kmers.{Entry, codes, positions}
+use Rattle.counts.specs.Replies.{accepted}
+use Rattle.sketch.specs.Kmers.{codes}
 use Rattle.sketch.specs.Sketch.{sketch, sketchReply, sketchCodes, sketchPositions}
 use Rattle.strike.specs.Strike.{struck, strikeReply, strikeCodes}
 use Rattle.mappings.specs.Bias.{bias}
 use Rattle.mappings.specs.Score.{Task}
 use Rattle.mappings.specs.Rule.{Answer, Step, passed}
 use Rattle.mappings.specs.Demand.{Demanded}
-use Rattle.start.specs.Start.{startReply, startWords}
+use Rattle.start.specs.Start.{startReply}
 use Rattle.mapper.specs.declared.answer.Stepped.{Stepped}
 use Rattle.mapper.specs.Answers.{answerOf}
 use Rattle.mapper.specs.Promise.{StepPromise}

@@ -1,11 +1,10 @@
 -- What a step does to any work words from a place on, made by start and steps or not: column after column.
 -- Assumes nothing.
 use Prim.Native.Nat.{ℕ, zero, suc, _+_, _-_, _*_, _%_, min}
-use mathlib.Core.Bool.{Bool, cond}
-use mathlib.Core.List.{List, [], _∷_, _++_}
+use mathlib.Core.Bool.{cond}
+use mathlib.Core.List.{List, _++_}
 use lib.Dec.{ltb, eqb}
-use lib.ListN.{length, getD, take, drop, set}
-use lib.Seq.{slice}
+use lib.ListN.{getD, take, drop, set}
 use Rattle.mappings.specs.Bias.{unbiased}
 use Rattle.mapper.specs.Passing.{lowered, seenBefore, Update, passRows}
 use Rattle.mapper.specs.declared.column.Line.{Line}

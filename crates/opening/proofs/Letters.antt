@@ -5,21 +5,20 @@ use mathlib.Core.Path.{_≡_, refl, sym, ap, _∙_}
 use mathlib.Core.Logic.{_≢_}
 use mathlib.Core.List.{List, [], _∷_}
 use lib.ListN.{length, take}
-use Rattle.counts.specs.Replies.{Reply, accepted, refused, over, after}
+use Rattle.counts.specs.Replies.{Reply, accepted, refused, after}
 use Rattle.sketch.specs.Kmers.{Entry, codes, positions, entries}
 use Rattle.sketch.specs.Sketch.{sketch, sketchReply, sketchCodes, sketchPositions}
 use Rattle.sketch.specs.Answers.{replyOf, Sketches}
 use Rattle.sketch.specs.declared.Sketched.{Sketched}
 use Rattle.sketch.proofs.Laws.{entries-same}
-use Rattle.strike.specs.Strike.{struck, strikeReply}
+use Rattle.strike.specs.Strike.{strikeReply}
 use Rattle.strike.proofs.Laws.{length-codes, length-positions}
 use Rattle.start.specs.Start.{startReply, startWords}
-use Rattle.start.specs.Answers.{taskOf as taskWith}
 use Rattle.reading.specs.Input.{Settings, given}
 use Rattle.answers.specs.Numbers.{numberOf, valueOf}
-use Rattle.answers.proofs.Accepted.{Tells, sketch-tells}
+use Rattle.answers.proofs.Accepted.{sketch-tells}
 use Rattle.opening.specs.Calls.{textOf, patternOf, taskOf, andThen, sketchesReply, strikingReply, callsReply}
-use Rattle.opening.specs.Opening.{openedBy, openedOf, positionsAfter, whereAccepted, workAfter, Opens, OpensSketches}
+use Rattle.opening.specs.Opening.{openedOf, positionsAfter, workAfter, Opens, OpensSketches}
 use Rattle.opening.specs.declared.calls.Opened.{Opened}
 use Rattle.opening.specs.declared.calls.Opened.the-variants.{Refused}
 use Rattle.opening.proofs.Replies.{Held, sketch-held, refused-opened, refused-after, refused-where, front-over}

@@ -2,10 +2,10 @@
 -- Assumes nothing.
 use Prim.Native.Nat.{ℕ, _≤_}
 use native.Mathlib.Omega.{arith}
-use mathlib.Core.Path.{_≡_, refl, sym, ap, _∙_}
+use mathlib.Core.Path.{_≡_, refl, sym}
 use mathlib.Core.Logic.{_≢_}
 use mathlib.Core.Bool.{Bool, true, false, cond, not, _||_}
-use mathlib.Core.List.{List, [], _∷_, _++_}
+use mathlib.Core.List.{List, [], _∷_}
 use lib.Dec.{ltb, eqb}
 use lib.ListN.{length, take, drop}
 use lib.Seq.{take-at}
@@ -13,13 +13,12 @@ use borrow.Author.Tests.{ltb-false}
 use Rattle.counts.specs.Replies.{Reply, accepted, refused, over, after}
 use Rattle.counts.proofs.Lists.{or-neither}
 use Rattle.sketch.specs.Limits.{kLimit, wLimit, letterLimit, textLimit, outside}
-use Rattle.sketch.specs.Kmers.{Entry, codes, positions, entries}
+use Rattle.sketch.specs.Kmers.{entries}
 use Rattle.sketch.specs.Sketch.{sketch, checkedLetters, roomFor, sketchReply}
 use Rattle.strike.specs.Strike.{strikeLimit, struck, strikeReply}
 use Rattle.answers.specs.Numbers.{numberOf}
 use Rattle.opening.specs.Calls.{andThen}
 use Rattle.opening.specs.Opening.{openedBy, whereAccepted}
-use Rattle.opening.specs.declared.calls.Opened.{Opened}
 use Rattle.opening.specs.declared.calls.Opened.the-variants.{Refused}
 
 -- ---- room

@@ -1,7 +1,7 @@
 -- What the reading of the input says of the bytes, by the cases of its answer.
 -- Assumes nothing.
 use Prim.Native.Nat.{ℕ}
-use mathlib.Core.Path.{_≡_, refl, sym, ap, _∙_, subst}
+use mathlib.Core.Path.{_≡_, refl, ap, _∙_, subst}
 use mathlib.Core.List.{List}
 use lib.IntN.{ℤ}
 use Rattle.reading.specs.Input.{Input, malformed, given, inputOf}

@@ -2,12 +2,12 @@
 -- Assumes nothing.
 use Prim.Native.Nat.{ℕ, _≤_}
 use native.Mathlib.Omega.{arith}
-use mathlib.Core.Path.{_≡_, refl, sym, ap, _∙_}
+use mathlib.Core.Path.{_≡_, sym, ap, _∙_}
 use mathlib.Core.Logic.{_≢_}
-use mathlib.Core.List.{List, [], _∷_, _++_}
+use mathlib.Core.List.{List, [], _∷_}
 use lib.IntN.{ℤ}
-use lib.ListN.{length, take, drop, length-append}
-use Rattle.counts.specs.Replies.{Reply, accepted, refused, over, after}
+use lib.ListN.{length, take}
+use Rattle.counts.specs.Replies.{Reply, accepted, over, after}
 use Rattle.sketch.specs.Kmers.{Entry, codes, positions, entries}
 use Rattle.strike.specs.Strike.{struck, strikeReply, strikeCodes, strikePositions}
 use Rattle.strike.specs.Answers.{replyOf as struckReply}
@@ -18,7 +18,7 @@ use Rattle.start.specs.Start.{startReply, startWords}
 use Rattle.start.specs.Answers.{startedReply, taskOf}
 use Rattle.start.specs.declared.Started.{Started}
 use Rattle.answers.specs.Numbers.{numberOf, valueOf}
-use Rattle.answers.proofs.Accepted.{Tells, strike-tells, start-tells}
+use Rattle.answers.proofs.Accepted.{strike-tells, start-tells}
 use Rattle.opening.specs.Calls.{andThen}
 use Rattle.opening.specs.Opening.{openedBy, whereAccepted, OpensSketches}
 use Rattle.opening.specs.declared.calls.Opened.the-variants.{Refused, Session}

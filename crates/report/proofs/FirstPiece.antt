@@ -1,12 +1,11 @@
 -- The first piece from the answer of the calls, and the session that it leaves to be printed.
 -- Assumes nothing.
-use Prim.Native.Nat.{ℕ, zero, suc, _+_, _-_, _^_, _≤_, _<_}
+use Prim.Native.Nat.{ℕ, _-_}
 use native.Mathlib.Omega.{arith}
-use mathlib.Core.Path.{_≡_, refl, sym, ap, _∙_, subst}
-use mathlib.Core.List.{List, [], _∷_, _++_}
-use lib.ListN.{length}
-use Rattle.reading.specs.Input.{Input, inputOf}
-use Rattle.opening.specs.Opening.{openedOf, Opens}
+use mathlib.Core.Path.{_≡_, sym, _∙_, subst}
+use mathlib.Core.List.{List}
+use Rattle.reading.specs.Input.{inputOf}
+use Rattle.opening.specs.Opening.{Opens}
 use Rattle.opening.specs.declared.calls.Opened.{Opened}
 use Rattle.listing.specs.Writing.{Written}
 use Rattle.report.specs.Beginning.{firstLine, kOf, sizeOf, leftOf, BeginsWith, Begins}

@@ -1,10 +1,10 @@
 -- The session that accepted calls open: what belongs to it, and what is left to print.
 -- Assumes nothing.
-use Prim.Native.Nat.{ℕ, zero, suc, _+_, _-_, _^_, _≤_, _<_}
+use Prim.Native.Nat.{ℕ, zero, suc, _+_, _-_, _≤_, _<_}
 use native.Mathlib.Nat.{zero-add}
 use native.Mathlib.Omega.{arith}
-use mathlib.Core.Path.{_≡_, refl, sym, ap, ap₂, _∙_, subst}
-use mathlib.Core.Bool.{Bool, true, false, cond}
+use mathlib.Core.Path.{_≡_, refl, sym, ap, ap₂, _∙_}
+use mathlib.Core.Bool.{Bool, true, false}
 use mathlib.Core.List.{List, [], _∷_, _++_, map, Sublistᴰ, Sublistᴰ·slnil, Sublistᴰ·cons, Sublistᴰ·cons-cons}
 use lib.Dec.{ltb}
 use lib.ListN.{length, getD, drop, length-append, length-map, List·getD-append}
@@ -13,24 +13,24 @@ use Rattle.counts.specs.Lists.{keep}
 use Rattle.counts.specs.Replies.{Reply, accepted, refused, over, after}
 use Rattle.counts.proofs.Lists.{or-neither}
 use Rattle.sketch.specs.Limits.{kLimit, wLimit, letterLimit, outside}
-use Rattle.sketch.specs.Kmers.{Entry, codes, positions}
-use Rattle.sketch.specs.Sketch.{sketch, checkedLetters, sketchReply, roomFor}
+use Rattle.sketch.specs.Kmers.{codes, positions}
+use Rattle.sketch.specs.Sketch.{sketch, checkedLetters, sketchReply}
 use Rattle.sketch.proofs.Laws.{positions-below}
-use Rattle.strike.specs.Strike.{struck, strikeReply}
+use Rattle.strike.specs.Strike.{strikeReply}
 use Rattle.strike.proofs.Laws.{struck-positions-sublist, length-codes, length-positions}
 use Rattle.mappings.specs.Score.{Task}
 use Rattle.mappings.specs.Definition1.{Final}
-use Rattle.mappings.specs.Cells.{Cell, Mapping, cellsOf, hitCount, isFinalCell, mappingOf, leftEnd, rightEnd}
+use Rattle.mappings.specs.Cells.{Cell, cellsOf, hitCount, isFinalCell, mappingOf, leftEnd, rightEnd}
 use Rattle.mappings.proofs.Definition1.{test-final}
 use Rattle.start.specs.Start.{startReply, startWords, afterStart}
 use Rattle.start.specs.WorkWords.{sessionWords}
 use Rattle.mapper.proofs.Accepted.{not-refused, admitted}
-use Rattle.reading.specs.Limits.{lineLimit, wordLimit}
+use Rattle.reading.specs.Limits.{lineLimit}
 use Rattle.reading.specs.Input.{Settings, given}
 use Rattle.opening.specs.Calls.{textOf, patternOf, taskOf, andThen, sketchesReply, strikingReply, callsReply}
 use Rattle.opening.specs.Opening.{positionsAfter, workAfter, whereAccepted}
 use Rattle.report.specs.Output.{lineOf, linesOf, finalCells, lastLine, listOf, headerLine}
-use Rattle.report.specs.Pieces.{mappingLine, mappingLines, finalsAfter, restOf, Belongs}
+use Rattle.report.specs.Pieces.{mappingLine, mappingLines, restOf, Belongs}
 
 and-accepted : (first next : Reply) (values : List ℕ) → andThen first next ≡ accepted values → ((ns : List ℕ) × (first ≡ accepted ns)) × (next ≡ accepted values)
 and-accepted (accepted ns) next values e = ((ns, refl), e)

@@ -1,19 +1,19 @@
 -- The threshold of an input that is not malformed is a signed number of 32 bits.
 -- Assumes nothing.
-use Prim.Native.Nat.{ℕ, zero, suc, _+_, _*_, _^_, _≤_, _<_}
+use Prim.Native.Nat.{ℕ, zero, suc, _≤_, _<_}
 use native.Mathlib.Omega.{arith}
-use mathlib.Core.Path.{_≡_, refl, sym, ap, _∙_, subst}
+use mathlib.Core.Path.{_≡_, refl, subst}
 use mathlib.Core.Bool.{Bool, true, false, cond, _&&_, false≢true}
 use mathlib.Core.List.{List, [], _∷_}
 use lib.Dec.{leb, ltb, eqb}
 use lib.ListN.{length, getD}
-use lib.IntN.{ℤ, pos, negsuc, negℤ}
+use lib.IntN.{pos, negℤ}
 use lib.Signed.{mag}
 use borrow.Author.Tests.{ltb-true, leb-true}
 use Rattle.counts.proofs.Lists.{and-left, and-right}
 use Rattle.reading.specs.Limits.{lineLimit, signedLimit}
 use Rattle.listing.specs.Line.{minus}
-use Rattle.reading.specs.Input.{isDecimal, decimalValue, isUnsigned, isSigned, signedValue, fields, lines, isFirstLine, isWellFormed, Settings, settingsOf, Input, malformed, given, inputOf}
+use Rattle.reading.specs.Input.{isDecimal, decimalValue, isUnsigned, isSigned, signedValue, fields, lines, isFirstLine, isWellFormed, Settings, settingsOf, malformed, given, inputOf}
 
 negative-fits : (n : ℕ) → 0 < n → n ≤ signedLimit → mag (negℤ (pos n)) < signedLimit
 negative-fits zero h l = absurd (omega arith)

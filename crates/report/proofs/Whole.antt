@@ -1,8 +1,8 @@
 -- The pieces together are the output: what `begin` writes is its front, and each piece that `fill` writes comes next, until nothing is left.
 -- Assumes nothing.
-use Prim.Native.Nat.{ℕ, zero, suc, _+_, _-_, _≤_, _<_, zero-le}
+use Prim.Native.Nat.{ℕ, suc, _+_, _-_, _≤_, _<_, zero-le}
 use native.Mathlib.Omega.{arith}
-use mathlib.Core.Path.{_≡_, refl, sym, ap, _∙_, subst}
+use mathlib.Core.Path.{_≡_, refl, sym, ap, _∙_}
 use mathlib.Core.Logic.{_⊎_, inl, inr}
 use mathlib.Core.List.{List, _++_, append-assoc}
 use lib.ListN.{length, take, length-append}
@@ -15,7 +15,6 @@ use Rattle.mapper.specs.Promise.{Accepts}
 use Rattle.start.specs.WorkWords.{sessionWords}
 use Rattle.reading.specs.Limits.{lineLimit, inputLimit}
 use Rattle.listing.specs.Line.{decimal}
-use Rattle.listing.specs.Writing.{Written}
 use Rattle.reading.specs.Input.{Settings, Input, malformed, given, inputOf}
 use Rattle.listing.proofs.Decimal.{length-decimal}
 use Rattle.reading.proofs.Enough.{enough-bytes}
@@ -23,9 +22,9 @@ use Rattle.opening.specs.Calls.{textOf, patternOf, taskOf, callsReply}
 use Rattle.opening.specs.Opening.{openedBy, openedOf, positionsAfter, workAfter}
 use Rattle.opening.specs.declared.calls.Opened.{Opened}
 use Rattle.opening.specs.declared.calls.Opened.the-variants.{Malformed, Refused, Session}
-use Rattle.report.specs.Output.{headerLine, malformedLine, refusedLine, unlessRefused, listOf, printed, printedFor, outputOf}
+use Rattle.report.specs.Output.{headerLine, unlessRefused, listOf, printed, printedFor, outputOf}
 use Rattle.report.specs.Pieces.{restOf, Done, Full, Piece, Fills}
-use Rattle.report.specs.Beginning.{firstLine, leftOf, BeginsWith, Begins}
+use Rattle.report.specs.Beginning.{firstLine, BeginsWith, Begins}
 use Rattle.report.specs.Whole.{Printing}
 use Rattle.report.specs.declared.beginning.Begun.{Begun}
 use Rattle.report.specs.declared.filling.Filled.{Filled}

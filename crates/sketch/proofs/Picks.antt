@@ -12,7 +12,7 @@ use lib.ListN.{length, take, length-map}
 use borrow.Author.Tests.{ltb-true, ltb-false, eqb-true, eqb-false, leb-true, leb-false, le-leb, lt-leb, lt-ltb, le-ltb, eq-eqb, ne-eqb}
 use Rattle.counts.specs.Lists.{addIf, keep, any, range}
 use Rattle.counts.proofs.Lists.{length-range, or-left}
-use Rattle.sketch.specs.Kmers.{Entry, rank}
+use Rattle.sketch.specs.Kmers.{Entry}
 use Rattle.sketch.specs.Windows.{neighbours, windows, lower, lowest, picks}
 use Rattle.sketch.specs.Sketch.{pickedBy}
 use Rattle.sketch.specs.Places.{rankAt, entryAt, span, spanSketch}

@@ -16,7 +16,7 @@ use Rattle.sketch.specs.Letters.{value, isForeign, runs}
 use Rattle.sketch.specs.Kmers.{Entry, kmers}
 use Rattle.sketch.specs.Windows.{windows}
 use Rattle.sketch.specs.Sketch.{pickedBy, runSketch, sketchRuns}
-use Rattle.sketch.specs.Places.{span, spanSketch, runLength, runEnd, sketchFrom}
+use Rattle.sketch.specs.Places.{spanSketch, runLength, runEnd, sketchFrom}
 use Rattle.sketch.proofs.Spans.{kmers-span}
 
 run-within : (l : List ℕ) → runLength l ≤ length l

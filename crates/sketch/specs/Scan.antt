@@ -9,7 +9,7 @@ use lib.ListN.{length, getD, set}
 use Rattle.counts.specs.Lists.{keep, any}
 use Rattle.sketch.specs.Limits.{kLimit, letterLimit}
 use Rattle.sketch.specs.Letters.{value}
-use Rattle.sketch.specs.Kmers.{Entry, rank, rankModulus}
+use Rattle.sketch.specs.Kmers.{Entry, rankModulus}
 use Rattle.sketch.specs.Windows.{neighbours, picks}
 use Rattle.sketch.specs.Places.{codeAt, rankAt, span, runEnd}
 

@@ -1,19 +1,16 @@
 -- Linking the hits by their slots: what the loop over the hits asks and keeps, with the words at the slots as the hits' codes.
 -- Assumes nothing.
-use Prim.Native.Nat.{ℕ, zero, suc, _+_, _*_, _≤_, _<_}
+use Prim.Native.Nat.{ℕ, zero, suc, _+_, _*_, _<_}
 use native.Mathlib.Omega.{arith}
 use native.Mathlib.Numerals.{add-one}
 use native.Mathlib.Nat.{not-suc-le-zero, le-of-suc-le-suc}
-use mathlib.Core.Path.{_≡_, refl, sym, ap, _∙_, subst}
+use mathlib.Core.Path.{_≡_, refl, sym, ap, _∙_}
 use mathlib.Core.List.{List, [], _∷_}
 use lib.ListN.{length, getD, take, set, length-map}
-use Rattle.counts.specs.Lists.{range}
-use Rattle.counts.specs.Counts.{occ}
 use Rattle.counts.specs.Sorting.{LowerBound}
 use Rattle.counts.specs.Keys.{zeros}
 use Rattle.counts.proofs.Counts.{occ-mem}
 use Rattle.mappings.proofs.Rising.{getD-mem}
-use Rattle.start.specs.Tables.{back}
 use Rattle.start.specs.Noting.{oneAt, wordsAt, Begin, AllIn, backs}
 use Rattle.start.proofs.Reaching.{getD-backs}
 use Rattle.start.proofs.Ring.{Ring, ring-back, ring-more, place-within}

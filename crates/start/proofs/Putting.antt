@@ -2,13 +2,11 @@
 -- session.
 -- Assumes nothing.
 use Prim.Native.Nat.{ℕ, zero, suc, _+_, _-_, _≤_, _<_, zero-le}
-use native.Mathlib.Nat.{le-refl}
 use native.Mathlib.Omega.{arith}
 use mathlib.Core.Path.{_≡_, refl, sym, ap, ap₂, _∙_}
-use mathlib.Core.Logic.{_⊎_, inl, inr}
-use mathlib.Core.Bool.{Bool, cond}
-use mathlib.Core.List.{List, [], _∷_, _++_}
-use lib.ListN.{length, getD, take, drop, replicate, length-append, length-drop, length-replicate, getD-replicate, List·getD-append}
+use mathlib.Core.Logic.{inl, inr}
+use mathlib.Core.List.{List, _++_}
+use lib.ListN.{length, getD, take, drop, replicate, length-append, length-drop, length-replicate, List·getD-append}
 use lib.Seq.{length-take-le, getD-append-add, getD-take, getD-drop, take-all}
 use borrow.Author.Tests.{lt-ltb}
 use borrow.Rule.Slice.PartMut.{putMid, post-is}
@@ -23,7 +21,7 @@ use Rattle.start.specs.WorkWords.{columnsLeft, nextRow, nextShared, best
 use Rattle.start.specs.Noting.{backs, reaches, zerosUpTo, freshHeading, Prepared}
 use Rattle.start.proofs.Tables.{hit-codes-in}
 use Rattle.start.proofs.Reaching.{length-backs, getD-backs, length-zerosUpTo, getD-zerosUpTo, whole-zeros}
-use Rattle.start.proofs.WorkWords.{Outside, Free, HoldsBlocks, Holds, hold-words, getD-table, length-table}
+use Rattle.start.proofs.WorkWords.{Outside, Free, hold-words, getD-table, length-table}
 
 -- ---- one block
 

@@ -6,7 +6,7 @@ use native.Mathlib.Numerals.{add-one}
 use mathlib.Core.Path.{_≡_, refl, sym, ap, _∙_}
 use mathlib.Core.Logic.{_⊎_, inl, inr, _≢_}
 use mathlib.Core.Bool.{Bool, true, false, cond}
-use mathlib.Core.List.{List, [], _∷_}
+use mathlib.Core.List.{List}
 use lib.Dec.{ltb, eqb, eqb·zero-suc, eqb·suc-zero}
 use lib.ListN.{length, getD, take, set, replicate, length-set, getD-replicate}
 use lib.Seq.{ext-getD, getD-set-same, getD-set-other}
@@ -17,7 +17,7 @@ use Rattle.counts.proofs.Lists.{eq-or-ne}
 use Rattle.counts.proofs.Counts.{occ-take-suc}
 use Rattle.start.specs.Tables.{reach, back, whole}
 use Rattle.start.specs.Noting.{AllIn, backs, reaches, withPair, zerosUpTo}
-use Rattle.start.proofs.Tables.{reach-within, back-within, Pair, reach-pair, pair-reach, back-pair, pair-back, whole-first, whole-suc}
+use Rattle.start.proofs.Tables.{reach-within, reach-pair, pair-reach, back-pair, pair-back, whole-first, whole-suc}
 use Rattle.start.proofs.WorkWords.{length-table, getD-table}
 
 pub length-backs : (p g : List ℕ) → length (backs p g) ≡ length g

@@ -2,23 +2,23 @@
 -- code has occurred before; whole counts the hits whose back is 0.
 -- Assumes nothing.
 use Prim.Native.Nat.{ℕ, zero, suc, _+_, _-_, _≤_, _<_, zero-le}
-use native.Mathlib.Nat.{le-refl, le-trans}
+use native.Mathlib.Nat.{le-refl}
 use native.Mathlib.Omega.{arith}
 use mathlib.Core.Path.{_≡_, refl, sym, ap, ap₂, _∙_}
 use mathlib.Core.Logic.{_⊎_, inl, inr}
 use mathlib.Core.Bool.{Bool, true, false, cond}
-use mathlib.Core.List.{List, [], _∷_}
+use mathlib.Core.List.{List}
 use lib.Dec.{leb, ltb, eqb}
 use lib.ListN.{length, getD, take, drop}
 use lib.Seq.{take-take, slice-empty}
-use borrow.Author.Tests.{lt-ltb, le-ltb, le-leb, lt-leb, leb-true, leb-false, ltb-true, ltb-false, eqb-true, eqb-false, eq-eqb, ne-eqb}
+use borrow.Author.Tests.{lt-ltb, le-ltb, le-leb, lt-leb, leb-true, leb-false, ltb-true, ltb-false, eq-eqb, ne-eqb}
 use Rattle.counts.specs.Lists.{bit}
 use Rattle.counts.specs.Counts.{occ}
 use Rattle.counts.proofs.Lists.{eq-or-ne, clash}
 use Rattle.counts.proofs.Counts.{occ-split, occ-take-suc, bit-same, bit-other}
 use Rattle.mappings.specs.Score.{Task, interval, shared}
 use Rattle.mappings.specs.Cells.{hitCodes, hitCount}
-use Rattle.mappings.proofs.Shared.{interval-left, shared-left-end, shared-right-end, shared-nil}
+use Rattle.mappings.proofs.Shared.{shared-left-end, shared-right-end, shared-nil}
 use Rattle.mappings.proofs.Hits.{hit-in-pattern}
 use Rattle.mappings.proofs.HitCodes.{length-hitCodes, getD-hitCodes}
 use Rattle.start.specs.Tables.{firstFrom, reach, back, whole}

@@ -2,8 +2,8 @@
 mod blocks;
 mod hits;
 mod per_hit;
-mod score;
 mod search;
+mod threshold;
 pub mod words;
 
 use crate::blocks::copy;
@@ -15,7 +15,7 @@ use crate::hits::collect;
 use crate::per_hit::put_back;
 use crate::per_hit::put_reach;
 use crate::per_hit::put_whole;
-use crate::score::biased;
+use crate::threshold::biased;
 use crate::words::BACK;
 use crate::words::BEST;
 use crate::words::HEADING;

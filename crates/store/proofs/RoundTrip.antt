@@ -1,22 +1,22 @@
 -- Saving then loading gives the sketch back, and whatever loads is what saving its content gives: for any k, w and entries.
 -- Assumes nothing.
-use Prim.Native.Nat.{ℕ, zero, suc, _+_, _*_, _^_, _≤_, _<_}
+use Prim.Native.Nat.{ℕ, suc, _+_, _*_, _≤_, _<_}
 use native.Mathlib.Omega.{arith}
 use mathlib.Core.Path.{_≡_, refl, ap, ap₂, subst, subst⁻¹, _∙_}
 use mathlib.Core.Logic.{_⊎_, inl, inr}
-use mathlib.Core.Bool.{Bool, true, false, _&&_}
+use mathlib.Core.Bool.{true, false}
 use mathlib.Core.List.{List, [], _∷_}
 use lib.Dec.{eqb}
 use lib.ListN.{length, getD}
 use borrow.Author.Tests.{eq-eqb, eqb-true}
-use Rattle.counts.proofs.Lists.{and-both, and-left, and-right, decided, clash}
+use Rattle.counts.proofs.Lists.{and-both, and-left, and-right, decided}
 use Rattle.sketch.specs.Limits.{kLimit, wLimit, letterLimit}
 use Rattle.sketch.specs.Kmers.{Entry, codes, positions}
-use Rattle.store.specs.Words.{kindUnit, kind, content, word, header, headerK, headerW, isHeader, isCode, isPosition, isCodeWord, isPositionWord}
+use Rattle.store.specs.Words.{kindUnit, kind, content, word, headerK, isHeader, isCode, isPosition, isCodeWord, isPositionWord}
 use Rattle.store.specs.Save.{entryWords, stored, storable}
 use Rattle.store.specs.Load.{Judged, good, bad, withEntry, lastWord, judgeFrom, judge, storeK, storeW}
-use Rattle.store.proofs.WordLaws.{kind-word, content-word, word-content, code-fits, isPosition-range, Header, isHeader-holds, header-whole, header-isHeader, headerK-header, headerW-header}
-use Rattle.store.proofs.Entries.{Storable, storable-parts, storable-length, storable-at, entryWords-at, length-stored}
+use Rattle.store.proofs.WordLaws.{kind-word, content-word, word-content, code-fits, isPosition-range, isHeader-holds, header-whole, header-isHeader, headerK-header, headerW-header}
+use Rattle.store.proofs.Entries.{storable-parts, storable-length, storable-at, entryWords-at, length-stored}
 use Rattle.store.proofs.Judging.{judge-last, judge-entry, Way, run-out, last, more, miscount, first, half, second, entry, way}
 
 -- ---- saving, then loading

@@ -1,12 +1,12 @@
 -- Laws of the words of a store: a kind and a content make a word and are read off it again, and so do k and w of word 0.
 -- Assumes nothing.
-use Prim.Native.Nat.{ℕ, zero, suc, _+_, _*_, _^_, _≤_, _<_}
+use Prim.Native.Nat.{ℕ, _+_, _*_, _^_, _≤_, _<_}
 use native.Mathlib.Nat.{le-trans, pow-le-pow-right}
 use native.Mathlib.Omega.{arith}
-use mathlib.Core.Path.{_≡_, refl}
-use mathlib.Core.Bool.{Bool, true, false, not, _&&_, _||_}
+use mathlib.Core.Path.{_≡_}
+use mathlib.Core.Bool.{true, false, not, _&&_}
 use lib.Dec.{eqb, ltb, leb, lit<}
-use borrow.Author.Tests.{lt-ltb, le-ltb, le-leb, eq-eqb, ltb-true, ltb-false, leb-true, eqb-true, not-true}
+use borrow.Author.Tests.{lt-ltb, le-ltb, eq-eqb, ltb-true, ltb-false, leb-true, not-true}
 use Rattle.counts.proofs.Lists.{and-both, and-left, and-right, or-neither}
 use Rattle.sketch.specs.Limits.{kLimit, wLimit, letterLimit, outside}
 use Rattle.store.specs.Words.{kindUnit, kind, content, word, header, headerK, headerW, isHeader, isCode, isPosition}

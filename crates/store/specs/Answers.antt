@@ -1,7 +1,7 @@
 -- What the answers of `save` and `load` stand for: document 01's numbers and values.
 -- Assumes nothing.
 use Prim.Native.Nat.{ℕ, _+_}
-use mathlib.Core.List.{List, [], _∷_}
+use mathlib.Core.List.{[], _∷_}
 use lib.ListN.{length}
 use Rattle.counts.specs.Replies.{Reply, accepted, refused}
 use Rattle.store.specs.declared.Saved.{Saved}

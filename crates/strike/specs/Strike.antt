@@ -1,13 +1,13 @@
 -- Striking frequent k-mers from a sketch, and what the call answers.
 -- Assumes nothing.
 use Prim.Native.Nat.{ℕ}
-use mathlib.Core.Bool.{Bool, cond, not}
-use mathlib.Core.List.{List, [], _∷_}
+use mathlib.Core.Bool.{cond, not}
+use mathlib.Core.List.{List, []}
 use lib.Dec.{leb, ltb, eqb}
 use lib.ListN.{length}
 use Rattle.counts.specs.Lists.{keep}
 use Rattle.counts.specs.Counts.{occ}
-use Rattle.counts.specs.Replies.{Reply, accepted, refused, after}
+use Rattle.counts.specs.Replies.{Reply, refused, after}
 use Rattle.sketch.specs.Limits.{textLimit, outside}
 use Rattle.sketch.specs.Kmers.{Entry, codes, positions, entries}
 use Rattle.sketch.specs.Sketch.{roomFor}

@@ -1,14 +1,13 @@
 -- `main` ends and stays within its buffers. Its loop keeps what `report` asks of it: the session in hand is one whose pieces so far and whose
 -- rest make up an output. That the pieces are written, each once and in order, is no part of the statement, since `io` says nothing of it.
 -- Assumes nothing.
-use Prim.Native.Nat.{ℕ, _≤_, _<_, zero-le}
+use Prim.Native.Nat.{ℕ, _≤_, zero-le}
 use native.Mathlib.Omega.{arith}
-use mathlib.Core.Path.{_≡_, refl, sym, _∙_}
-use mathlib.Core.List.{List, _++_}
-use lib.ListN.{length, take, length-replicate}
+use mathlib.Core.Path.{_≡_, sym, _∙_}
+use mathlib.Core.List.{List}
+use lib.ListN.{length, length-replicate}
 use lib.Seq.{length-take-le}
 use borrow.Author.Needs.{needs}
-use Rattle.report.specs.Whole.{Printing}
 use Rattle.report.proofs.Writers.{written-inside}
 use Rattle.report.proofs.Whole.{After, begin-prints, next-prints}
 use Rattle.maplist.proofs.main.Statement.{statement}

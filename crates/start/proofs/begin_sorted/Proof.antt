@@ -21,7 +21,7 @@ use Rattle.start.proofs.blocks.zeros_2048.Reads as zeros-2048-reads
 use Rattle.start.proofs.hits.collect.Reads as collect-reads
 use Rattle.start.proofs.per_hit.put_back.Reads as put-back-reads
 use Rattle.start.proofs.put_words.Reads as put-words-reads
-use Rattle.start.proofs.score.biased.Reads as biased-reads
+use Rattle.start.proofs.threshold.biased.Reads as biased-reads
 
 zeros-2048-requires : tie.Need-zeros-2048-requires
 zeros-2048-requires c κs = search needs

@@ -1,21 +1,21 @@
 -- `store::load` meets its contract: at each return the tests that led there, and what judging found, say which case of `loadReply` holds.
 -- Assumes nothing.
-use Prim.Native.Nat.{ℕ, _+_, _≤_, _<_}
+use Prim.Native.Nat.{ℕ, _≤_}
 use native.Mathlib.Omega.{arith}
-use mathlib.Core.Path.{_≡_, refl, sym, ap, ap₂, _∙_}
+use mathlib.Core.Path.{_≡_, sym, ap, _∙_}
 use mathlib.Core.Logic.{⊎-elim}
-use mathlib.Core.Bool.{Bool, true, false, _||_}
+use mathlib.Core.Bool.{true, _||_}
 use mathlib.Core.List.{List, [], _∷_}
 use lib.ListN.{length, drop, getD}
 use lib.Dec.{ltb}
 use borrow.Author.Needs.{needs}
-use borrow.Author.Tests.{lt-ltb, le-ltb, ltb-false, not-true, not-false}
+use borrow.Author.Tests.{lt-ltb, ltb-false, not-true, not-false}
 use denote.Ref.{now}
-use Rattle.counts.specs.Replies.{Reply, accepted, refused, after, over}
+use Rattle.counts.specs.Replies.{Reply, refused, after}
 use Rattle.counts.proofs.Lists.{or-left, or-right}
 use Rattle.sketch.specs.Limits.{kLimit}
 use Rattle.sketch.specs.Kmers.{codes as codesOf, positions as positionsOf}
-use Rattle.store.specs.Words.{headerK, headerW, isHeader}
+use Rattle.store.specs.Words.{headerK, isHeader}
 use Rattle.store.specs.Load.{Judged, good, bad, judgeFrom, judge, storeK, storeW, loadRoom, judgedReply, loadReply, entriesOf, loadCodes, loadPositions}
 use Rattle.store.specs.Answers.{counted, verdictReply}
 use Rattle.store.proofs.WordLaws.{isHeader-holds}

@@ -1,8 +1,7 @@
 -- `score::score_word` meets its contract: the factors are small enough that nothing wraps in 64 bits. Assumes nothing.
-use Prim.Native.Nat.{ℕ, _*_, _≤_, _<_, _^_}
+use Prim.Native.Nat.{_*_, _≤_}
 use native.Mathlib.Nat.{mul-le-mul, le-of-lt}
 use native.Mathlib.Omega.{arith}
-use mathlib.Core.Path.{_≡_, refl, ap}
 use borrow.Author.Needs.{needs}
 use Rattle.mapper.proofs.score.score_word.Statement.{statement}
 use Rattle.mapper.proofs.score.score_word.Tie as tie

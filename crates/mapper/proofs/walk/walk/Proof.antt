@@ -2,13 +2,11 @@
 -- whole. The measure is the number of columns left. Assumes nothing.
 use Prim.Native.Nat.{_-_, _≤_}
 use native.Mathlib.Omega.{arith}
-use mathlib.Core.Path.{_≡_, refl, sym, ap, _∙_}
+use mathlib.Core.Path.{_≡_, sym, ap, _∙_}
 use borrow.Author.Needs.{needs}
 use borrow.Rule.Slice.PartMut.{putMid, mid-len, same-len-mid}
 use lib.ListN.{length}
-use Rattle.mapper.specs.declared.column.Passed.{Passed}
-use Rattle.mapper.specs.declared.place.Place.{Place}
-use Rattle.mapper.specs.Walking.{Walk, withPart, partOf, lineOf, spentWalk, foundWalk, finishedWalk, walkOn}
+use Rattle.mapper.specs.Walking.{Walk, withPart, partOf, lineOf, walkOn}
 use Rattle.mapper.proofs.Walking.{ColumnPassed, column-passed, base-within, walk-spent, walk-found, walk-part, walk-next}
 use Rattle.mapper.proofs.walk.walk.Statement.{statement}
 use Rattle.mapper.proofs.walk.walk.Tie as tie

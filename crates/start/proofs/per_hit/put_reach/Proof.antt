@@ -8,7 +8,7 @@ use Rattle.start.proofs.Reaching.{Told, told-filled, told-next, told-en
 use Rattle.start.specs.Noting.{AllIn, backs as backsOf}
 use lib.ListN.{length}
 use mathlib.Core.List.{List}
-use mathlib.Core.Path.{_≡_, refl}
+use mathlib.Core.Path.{_≡_}
 use native.Mathlib.Omega.{arith}
 use Prim.Native.Nat.{ℕ, _-_, _≤_, zero-le}
 use Rattle.start.proofs.per_hit.put_reach.Statement.{statement}

@@ -4,7 +4,7 @@ use Prim.Native.Nat.{ℕ, suc, _+_, _*_, _-_, _≤_, _<_}
 use native.Mathlib.Numerals.{add-one, add-two}
 use native.Mathlib.Omega.{arith}
 use mathlib.Core.Path.{_≡_, refl, sym, ap, _∙_}
-use mathlib.Core.Bool.{Bool, true, false}
+use mathlib.Core.Bool.{true, false}
 use mathlib.Core.List.{List, [], _∷_}
 use lib.Dec.{eqb}
 use lib.ListN.{length, drop, getD, drop-of-length-le}
@@ -15,7 +15,7 @@ use denote.Ref.{now}
 use Rattle.counts.specs.Replies.{refused}
 use Rattle.counts.proofs.Lists.{and-right}
 use Rattle.store.specs.Words.{kind, content, isCode, isPosition, isCodeWord, isPositionWord}
-use Rattle.store.specs.Load.{Judged, good, bad, judgeFrom}
+use Rattle.store.specs.Load.{Judged, judgeFrom}
 use Rattle.store.specs.Answers.{counted}
 use Rattle.store.proofs.WordLaws.{isPosition-range}
 use Rattle.store.proofs.Judging.{judge-last, judge-first, judge-half, judge-second, judge-entry, counted-entry}

@@ -1,18 +1,14 @@
 -- `store::loading::judge_last` meets its contract: each return is one case of `lastWord`. Assumes nothing.
-use Prim.Native.Nat.{ℕ, suc, _≤_, _<_}
+use Prim.Native.Nat.{suc, _≤_, _<_}
 use native.Mathlib.Nat.{add-zero}
 use native.Mathlib.Numerals.{add-one}
 use native.Mathlib.Omega.{arith}
-use mathlib.Core.Path.{_≡_, refl, sym, ap, _∙_}
-use mathlib.Core.List.{List, [], _∷_}
-use lib.ListN.{length, drop, getD, drop-of-length-le}
+use lib.ListN.{length, drop-of-length-le}
 use lib.Seq.{drop-cons}
 use borrow.Author.Needs.{needs}
 use borrow.Author.Tests.{eq-eqb, ne-eqb}
 use denote.Ref.{now}
-use Rattle.counts.specs.Replies.{Reply, refused}
 use Rattle.store.specs.Load.{lastWord}
-use Rattle.store.specs.Answers.{counted}
 use Rattle.store.proofs.loading.judge_last.Statement.{statement}
 use Rattle.store.proofs.loading.judge_last.Tie as tie
 

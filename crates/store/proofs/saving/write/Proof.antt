@@ -1,12 +1,12 @@
 -- `store::saving::write` meets its contract. The loop's invariant: word 0 and the words of i entries stand at the front of the buffer,
 -- and those of the other entries are to come. Assumes nothing.
-use Prim.Native.Nat.{ℕ, zero, suc, _+_, _*_, _-_, _≤_, _<_}
+use Prim.Native.Nat.{ℕ, suc, _+_, _*_, _-_, _≤_, _<_}
 use native.Mathlib.Numerals.{add-one}
 use native.Mathlib.Omega.{arith}
 use mathlib.Core.Path.{_≡_, refl, sym, ap, ap₂, _∙_}
 use mathlib.Core.Bool.{true}
-use mathlib.Core.List.{List, [], _∷_, _++_}
-use lib.ListN.{length, take, drop, getD, set, length-set, drop-of-length-le}
+use mathlib.Core.List.{List, _∷_, _++_}
+use lib.ListN.{length, drop, getD, length-set, drop-of-length-le}
 use lib.Seq.{take-suc-set, drop-set-lt}
 use lib.Dec.{lit<}
 use borrow.Author.Needs.{needs}

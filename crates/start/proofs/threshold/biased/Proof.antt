@@ -1,8 +1,8 @@
--- `score::biased` meets its contract. Assumes nothing.
+-- `threshold::biased` meets its contract. Assumes nothing.
 use borrow.Author.Needs.{needs}
 use Rattle.start.proofs.Bias.{pos-cast, pos-add, pos-biased, neg-sub, neg-cast, neg-within, neg-biased}
-use Rattle.start.proofs.score.biased.Statement.{statement}
-use Rattle.start.proofs.score.biased.Tie as tie
+use Rattle.start.proofs.threshold.biased.Statement.{statement}
+use Rattle.start.proofs.threshold.biased.Tie as tie
 
 cast-result : tie.Need-cast-result
 cast-result c = pos-cast (c .before .args .z) (c .before .fits .z) (c .if1 .taken)
