@@ -1,7 +1,9 @@
--- Sessions: what step answers, and what it does to the work words.
+-- What step answers, and when it refuses, as document 01 says it.
 pub mod Answers
 pub mod Step
+-- what a column's update and a walk do to any words, as the code goes
 pub mod Passing
 pub mod Walking
+-- what step promises, and demand 3 over lists of such steps
 pub mod Promise
 pub mod Sessions

@@ -1,5 +1,6 @@
--- The whole of what `maplist` prints, from the bytes of its input, and the pieces in which it prints.
+-- The whole of what `maplist` prints, from the bytes of its input, as document 01 says it.
 pub mod Output
+-- the pieces in which it prints, and what is left after each
 pub mod Pieces
 pub mod Beginning
 pub mod Whole
