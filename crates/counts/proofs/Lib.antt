@@ -1,6 +1,7 @@
 -- Laws about lists and counts, which the crates above cite.
 pub mod Lists
 pub mod Counts
+pub mod Replies
 pub mod Writing
 pub mod Buckets
 pub mod Keys

@@ -2,23 +2,19 @@
 -- Assumes nothing.
 use Prim.Native.Nat.{ℕ, _≤_}
 use native.Mathlib.Omega.{arith}
-use mathlib.Core.Path.{_≡_, refl}
-use mathlib.Core.Bool.{Bool, true, false, cond, _||_}
+use mathlib.Core.Path.{_≡_}
+use mathlib.Core.Bool.{_||_}
 use mathlib.Core.List.{List, [], _∷_}
 use lib.Dec.{ltb, eqb}
 use lib.ListN.{length}
 use borrow.Author.Tests.{ltb-false}
-use Rattle.counts.specs.Replies.{Reply, accepted, refused}
+use Rattle.counts.specs.Replies.{accepted}
 use Rattle.counts.proofs.Lists.{or-neither}
+use Rattle.counts.proofs.Replies.{not-refused}
 use Rattle.mappings.specs.Score.{Task}
 use Rattle.mappings.specs.Cells.{hitCount}
 use Rattle.mappings.proofs.Range.{Limited}
 use Rattle.start.specs.Start.{badWeights, startReply}
-
--- an accepted call passed the check
-pub not-refused : (b : Bool) (number : ℕ) (values : List ℕ) (rest : Reply) (answered : List ℕ) → cond b (refused number values) rest ≡ accepted answered → (b ≡ false) × (rest ≡ accepted answered)
-not-refused true number values rest answered e = absurd (let z : _≡_ {A = ℕ} 0 1 = cc in omega arith)
-not-refused false number values rest answered e = (refl, e)
 
 -- u and v, text and pattern, the work words and h are within their limits, and h is answered
 pub record Admitted (task : Task) (lent : ℕ) (values : List ℕ) : Type 0 where

@@ -5,24 +5,21 @@
 use Prim.Native.Nat.{ℕ, _+_, _-_, _≤_}
 use native.Mathlib.Omega.{arith}
 use mathlib.Core.Path.{_≡_, sym, ap, ap₂, _∙_}
-use mathlib.Core.Logic.{inr}
 use mathlib.Core.List.{List, [], _∷_, _++_}
-use lib.Dec.{ltb}
 use lib.ListN.{length, getD, take, drop, length-append, length-drop, take-append-drop}
 use lib.Seq.{ext-getD, length-take-le, getD-drop, take-at, drop-at}
-use borrow.Author.Tests.{le-ltb}
 use Rattle.mappings.specs.Limits.{workWords}
 use Rattle.mappings.specs.Score.{Task}
 use Rattle.mappings.specs.Cells.{hitCount, cellCount}
 use Rattle.mappings.specs.Rule.{Answer, Step, passed, handedOut}
 use Rattle.mappings.proofs.Demand.{demanded-same}
-use Rattle.start.specs.Start.{startReply, startWords}
+use Rattle.start.specs.Start.{startWords}
 use Rattle.start.specs.WorkWords.{sessionWords}
-use Rattle.start.proofs.WorkWords.{Free, words-hold, take-session}
+use Rattle.start.proofs.WorkWords.{words-hold, beyond-free, take-session}
 use Rattle.mapper.specs.Promise.{Accepts}
 use Rattle.mapper.specs.Sessions.{Ran}
 use Rattle.mapper.proofs.Accepted.{Admitted, admitted}
-use Rattle.mapper.proofs.Demand3.{fresh, ran-on, demand3-codes}
+use Rattle.mapper.proofs.Demand3.{accepts-in, fresh, ran-on, demand3-codes}
 
 -- the same list of steps, run on a session's words after q cells and on a copy of them: the answers and the words of both afterwards
 pub record Continues (q : ℕ) (words copy : List ℕ) (one other : List Answer) (last last′ : List ℕ) : Type 0 where
@@ -39,27 +36,7 @@ module _ (task : Task) (before : List ℕ) (a : Accepts task before) where
   limits : Admitted task (length before) (hitCount task ∷ [])
   limits = admitted task (length before) (hitCount task ∷ []) (a .accepts)
 
-  -- start accepts the task with any other words too, where they are enough
-  accepts-in : (other : List ℕ) → 16384 ≤ length other → Accepts task other
-  unfolding startReply
-  accepts-in other l =
-      let e : ltb (length other) 16384 ≡ ltb (length before) 16384 = le-ltb (length other) 16384 l ∙ sym (le-ltb (length before) 16384 (limits .many-words)) in
-      record { accepts = rw e (a .accepts); threshold-fits = a .threshold-fits }
-
-  -- no word beyond the first 16,384 is a block's
-  free-beyond : (n : ℕ) → 16384 ≤ n → Free (hitCount task) n
-  free-beyond n l =
-      let few : hitCount task ≤ 2048 = limits .few-hits in
-      record {
-        heading-before = omega arith;
-        no-back = inr (omega arith);
-        no-index = inr (omega arith);
-        no-reach = inr (omega arith);
-        no-best = inr (omega arith);
-        no-whole = inr (omega arith);
-      }
-
-  -- so a session's words there are those before start
+  -- beyond the first 16,384 a session's words are those before start
   beyond-session : (words : List ℕ) → 16384 ≤ length words → (q : ℕ) → drop 16384 (sessionWords task words q) ≡ drop 16384 words
   beyond-session words l q =
       let holds = words-hold task words q (limits .few-hits) l .held in
@@ -67,7 +44,7 @@ module _ (task : Task) (before : List ℕ) (a : Accepts task before) where
       (length-drop 16384 (sessionWords task words q) ∙ ap (λ (n : ℕ). n - 16384) (holds .number) ∙ sym (length-drop 16384 words))
       (λ i k.
       (getD-drop 16384 (sessionWords task words q) i 0
-      ∙ holds .free-word (16384 + i) (free-beyond (16384 + i) (omega arith))
+      ∙ holds .free-word (16384 + i) (beyond-free task (limits .few-hits) words 16384 (omega arith) l (16384 + i) (omega arith))
       ∙ sym (getD-drop 16384 words i 0)))
 
   -- a copy is the words of a session itself: of the task begun in the original's first 16,384 words, with the copy's own words behind them
@@ -102,7 +79,7 @@ module _ (task : Task) (before : List ℕ) (a : Accepts task before) where
   pub copied : (q : ℕ) {words copy last last′ : List ℕ} {steps : List Step} {one other : List Answer} → q ≤ cellCount (hitCount task) → words ≡ sessionWords task before q → workWords ≤ length copy → take workWords copy ≡ take workWords words → Ran words steps one last → Ran copy steps other last′ → Continues q words copy one other last last′
   copied q {words} {copy} {last} {last′} {steps} {one} {other} k e long same run run′ =
       let r = ran-on task before a q k e run in
-      let r′ = ran-on task (begun copy long) (accepts-in (begun copy long) (begun-long copy long)) q k (copy-session copy long q (same ∙ ap (take 16384) e)) run′ in
+      let r′ = ran-on task (begun copy long) (accepts-in task before a (begun copy long) (begun-long copy long)) q k (copy-session copy long q (same ∙ ap (take 16384) e)) run′ in
       let same-answers : one ≡ other = r .0 ∙ sym (r′ .0) in
       let left : last′ ≡ sessionWords task (begun copy long) (q + passed one) = r′ .1 ∙ ap (λ (answers : List Answer). sessionWords task (begun copy long) (q + passed answers)) (sym same-answers) in
       record {

@@ -4,18 +4,19 @@
 use Prim.Native.Nat.{ℕ, _+_, _-_, _≤_, _<_}
 use native.Mathlib.Omega.{arith}
 use mathlib.Core.Path.{_≡_, refl, sym, ap, ap₂, _∙_, subst}
-use mathlib.Core.Bool.{Bool, true, false, cond, not, _||_}
+use mathlib.Core.Bool.{Bool, true, false, cond, not}
 use mathlib.Core.List.{List, [], _∷_, _++_, append-nil}
-use lib.Dec.{ltb, eqb}
+use lib.Dec.{ltb}
 use lib.ListN.{length, getD, take, drop, length-take, take-append-drop, drop-of-length-le}
 use lib.Seq.{length-take-le, take-all, take-append-seam}
 use borrow.Author.Tests.{lt-ltb, le-ltb, ltb-true, ltb-false}
 use Rattle.counts.specs.Replies.{Reply, accepted, after}
-use Rattle.sketch.specs.Limits.{kLimit, wLimit, letterLimit, textLimit, outside}
 use Rattle.sketch.specs.Kmers.{Entry, codes, positions, entries}
-use Rattle.sketch.specs.Sketch.{sketch, checkedLetters, roomFor, sketchReply, sketchCodes, sketchPositions}
+use Rattle.sketch.specs.Sketch.{sketch, sketchCodes, sketchPositions}
+use Rattle.sketch.proofs.Accepted.{sketch-held}
 use Rattle.sketch.proofs.Laws.{codes-positions, entries-same}
-use Rattle.strike.specs.Strike.{strikeLimit, struck, strikeReply, strikeCodes}
+use Rattle.strike.specs.Strike.{struck, strikeCodes}
+use Rattle.strike.proofs.Accepted.{strike-held}
 use Rattle.strike.proofs.Laws.{length-codes}
 use Rattle.mappings.specs.Limits.{workWords}
 use Rattle.mappings.specs.Score.{Task}
@@ -31,7 +32,7 @@ use Rattle.mapper.specs.Answers.{answerOf}
 use Rattle.mapper.specs.Step.{tooFewWords}
 use Rattle.mapper.specs.Promise.{Accepts, StepPromise}
 use Rattle.mapper.specs.Sessions.{Ran, none, then, Request, Lent, requested, textCodes, textPositions, readCodes, struckCodes, given, AllAccept, Demand3}
-use Rattle.mapper.proofs.Accepted.{not-refused, Admitted, admitted}
+use Rattle.mapper.proofs.Accepted.{Admitted, admitted}
 
 -- ---- one step of a list
 
@@ -42,13 +43,11 @@ module _ (task : Task) (before : List ℕ) (a : Accepts task before) where
   number : (q : ℕ) → length (sessionWords task before q) ≡ length before
   number q = session-number task before q (limits .few-hits) (limits .many-words)
 
-  -- start accepts with a first part of the words too, where it is long enough
-  first-accepts : (lent : ℕ) → 16384 ≤ lent → lent ≤ length before → Accepts task (take lent before)
+  -- start accepts with any other words too, where they are enough
+  pub accepts-in : (other : List ℕ) → 16384 ≤ length other → Accepts task other
   unfolding startReply
-  first-accepts lent l k =
-      let e : ltb (length (take lent before)) 16384 ≡ ltb (length before) 16384 =
-      le-ltb (length (take lent before)) 16384 (rw (length-take-le lent before k) l) ∙ sym (le-ltb (length before) 16384 (limits .many-words))
-      in
+  accepts-in other l =
+      let e : ltb (length other) 16384 ≡ ltb (length before) 16384 = le-ltb (length other) 16384 l ∙ sym (le-ltb (length before) 16384 (limits .many-words)) in
       record { accepts = rw e (a .accepts); threshold-fits = a .threshold-fits }
 
   -- what a step of a list answers and leaves, where q cells have been passed
@@ -79,7 +78,7 @@ module _ (task : Task) (before : List ℕ) (a : Accepts task before) where
             (p .0, ap₂ (λ (xs ys : List ℕ). xs ++ ys) (p .1) (drop-of-length-le (sessionWords task before q) whole) ∙ append-nil (sessionWords task before q′))
         go false e =
             let m : step .lent ≤ length before = ltb-false (length before) (step .lent) e in
-            let p = promise .session task (take (step .lent) before) q (first-accepts (step .lent) l m) k (take-session task (limits .few-hits) before (step .lent) l m q) in (
+            let p = promise .session task (take (step .lent) before) q (accepts-in (take (step .lent) before) (rw (length-take-le (step .lent) before m) l)) k (take-session task (limits .few-hits) before (step .lent) l m q) in (
               p .0,
               ap₂ (λ (xs ys : List ℕ). xs ++ ys) (p .1 ∙ sym (take-session task (limits .few-hits) before (step .lent) l m q′)) (drop-session task (limits .few-hits) before (step .lent) l m q q′)
                   ∙ take-append-drop (step .lent) (sessionWords task before q′),
@@ -134,30 +133,6 @@ module _ (task : Task) (before : List ℕ) (a : Accepts task before) where
 written : (reply : Reply) (n : ℕ) (values new old : List ℕ) → reply ≡ accepted values → length new ≡ n → take n (after reply new old) ≡ new
 written reply n values new old e l = rw (e, ← l) (take-append-seam new (drop (length new) old))
 
--- an accepted answer counts the entries
-room-counts : (n codeRoom positionRoom m : ℕ) → roomFor n codeRoom positionRoom ≡ accepted (m ∷ []) → n ≡ m
-unfolding roomFor
-room-counts n codeRoom positionRoom m e =
-    let r = not-refused (ltb codeRoom n || ltb positionRoom n) 4 (n ∷ []) (accepted (n ∷ [])) (m ∷ []) e in
-    let f : accepted (n ∷ []) ≡ accepted (m ∷ []) = r .1 in
-    cc
-
-sketch-counts : (k w : ℕ) (letters : List ℕ) (codeRoom positionRoom n : ℕ) → sketchReply k w letters codeRoom positionRoom ≡ accepted (n ∷ []) → length (sketch k w letters) ≡ n
-unfolding sketchReply checkedLetters
-sketch-counts k w letters codeRoom positionRoom n e =
-    let x = not-refused (outside 1 kLimit k) 1 [] _ (n ∷ []) e in
-    let y = not-refused (outside 1 wLimit w) 2 [] _ (n ∷ []) (x .1) in
-    let z = not-refused (ltb letterLimit (length letters)) 3 [] _ (n ∷ []) (y .1) in
-    room-counts (length (sketch k w letters)) codeRoom positionRoom n (z .1)
-
-strike-counts : (cs ps : List ℕ) (c codeRoom positionRoom n : ℕ) → strikeReply cs ps c codeRoom positionRoom ≡ accepted (n ∷ []) → length (struck c (entries cs ps)) ≡ n
-unfolding strikeReply
-strike-counts cs ps c codeRoom positionRoom n e =
-    let x = not-refused (not (eqb (length cs) (length ps))) 5 [] _ (n ∷ []) e in
-    let y = not-refused (ltb textLimit (length cs)) 8 [] _ (n ∷ []) (x .1) in
-    let z = not-refused (outside 1 strikeLimit c) 6 [] _ (n ∷ []) (y .1) in
-    room-counts (length (struck c (entries cs ps))) codeRoom positionRoom n (z .1)
-
 module _ (r : Request) (lent : Lent) (n m s h : ℕ) (all : AllAccept r lent n m s h) where
   text-sketch : List Entry
   text-sketch = sketch (r .k) (r .w) (r .text)
@@ -167,15 +142,15 @@ module _ (r : Request) (lent : Lent) (n m s h : ℕ) (all : AllAccept r lent n m
 
   text-codes-are : textCodes r lent n m s ≡ codes text-sketch
   unfolding textCodes sketchCodes text-sketch
-  text-codes-are = written _ n (n ∷ []) (codes text-sketch) (lent .text-codes) (all .sketch-text) (length-codes text-sketch ∙ sketch-counts (r .k) (r .w) (r .text) _ _ n (all .sketch-text))
+  text-codes-are = written _ n (n ∷ []) (codes text-sketch) (lent .text-codes) (all .sketch-text) (length-codes text-sketch ∙ sym (sketch-held (r .k) (r .w) (r .text) _ _ n (all .sketch-text) .number))
 
   text-positions-are : textPositions r lent n m s ≡ positions text-sketch
   unfolding textPositions sketchPositions text-sketch
-  text-positions-are = written _ n (n ∷ []) (positions text-sketch) (lent .text-positions) (all .sketch-text) (sym (codes-positions text-sketch) ∙ length-codes text-sketch ∙ sketch-counts (r .k) (r .w) (r .text) _ _ n (all .sketch-text))
+  text-positions-are = written _ n (n ∷ []) (positions text-sketch) (lent .text-positions) (all .sketch-text) (sym (codes-positions text-sketch) ∙ length-codes text-sketch ∙ sym (sketch-held (r .k) (r .w) (r .text) _ _ n (all .sketch-text) .number))
 
   read-codes-are : readCodes r lent n m s ≡ codes read-sketch
   unfolding readCodes sketchCodes read-sketch
-  read-codes-are = written _ m (m ∷ []) (codes read-sketch) (lent .read-codes) (all .sketch-read) (length-codes read-sketch ∙ sketch-counts (r .k) (r .w) (r .read) _ _ m (all .sketch-read))
+  read-codes-are = written _ m (m ∷ []) (codes read-sketch) (lent .read-codes) (all .sketch-read) (length-codes read-sketch ∙ sym (sketch-held (r .k) (r .w) (r .read) _ _ m (all .sketch-read) .number))
 
   -- the two buffers hold the text's entries
   entries-are : entries (textCodes r lent n m s) (textPositions r lent n m s) ≡ text-sketch
@@ -184,7 +159,7 @@ module _ (r : Request) (lent : Lent) (n m s h : ℕ) (all : AllAccept r lent n m
   struck-codes-are : struckCodes r lent n m s ≡ codes (struck (r .c) text-sketch)
   unfolding struckCodes strikeCodes
   struck-codes-are =
-      written _ s (s ∷ []) (codes (struck (r .c) (entries (textCodes r lent n m s) (textPositions r lent n m s)))) (lent .struck-codes) (all .strike) (length-codes (struck (r .c) (entries (textCodes r lent n m s) (textPositions r lent n m s))) ∙ strike-counts (textCodes r lent n m s) (textPositions r lent n m s) (r .c) _ _ s (all .strike))
+      written _ s (s ∷ []) (codes (struck (r .c) (entries (textCodes r lent n m s) (textPositions r lent n m s)))) (lent .struck-codes) (all .strike) (length-codes (struck (r .c) (entries (textCodes r lent n m s) (textPositions r lent n m s))) ∙ sym (strike-held (textCodes r lent n m s) (textPositions r lent n m s) (r .c) _ _ s (all .strike) .number))
       ∙ ap (λ (es : List Entry). codes (struck (r .c) es)) entries-are
 
   given-is : given r lent n m s ≡ requested r

@@ -4,11 +4,11 @@ use Prim.Native.Nat.{ℕ, zero, suc, _+_, _-_, _*_, _≤_, _<_, zero-le}
 use native.Mathlib.Nat.{le-refl, le-antisymm, mul-sub, mul-le-mul-left}
 use native.Mathlib.Omega.{arith}
 use mathlib.Core.Path.{_≡_, refl, sym, ap, ap₂, _∙_}
-use mathlib.Core.Bool.{Bool, true, false, false≢true, true≢false}
+use mathlib.Core.Bool.{Bool, true, false, false≢true}
 use lib.Dec.{leb, ltb}
 use lib.IntN.{ℤ, pos, negsuc, subℕ, _-ℤ_}
 use lib.Signed.{leZ, mag}
-use borrow.Author.Tests.{ltb-true, ltb-false, le-ltb, leb-true, leb-false, le-leb, lt-leb}
+use borrow.Author.Tests.{ltb-true, ltb-false, le-ltb, leb-true, le-leb, lt-leb}
 use Rattle.counts.proofs.Lists.{same-test}
 use Rattle.mappings.specs.Score.{distance, linear}
 use Rattle.mappings.specs.Bias.{bias, biased, unbiased, biasedZ}
@@ -27,12 +27,6 @@ leZ-trans (negsuc a) (pos b) (pos c) h k = refl
 leZ-trans (negsuc a) (pos b) (negsuc c) h k = absurd (false≢true k)
 leZ-trans (negsuc a) (negsuc b) (pos c) h k = refl
 leZ-trans (negsuc a) (negsuc b) (negsuc c) h k = le-leb c a (omega (arith, leb-true b a h, leb-true c b k))
-
-pub leZ-total : (y z : ℤ) → leZ y z ≡ false → leZ z y ≡ true
-leZ-total (pos a) (pos b) h = le-leb b a (omega (arith, leb-false a b h))
-leZ-total (pos a) (negsuc b) h = refl
-leZ-total (negsuc a) (pos b) h = absurd (true≢false h)
-leZ-total (negsuc a) (negsuc b) h = le-leb a b (omega (arith, leb-false b a h))
 
 pub leZ-antisym : (y z : ℤ) → leZ y z ≡ true → leZ z y ≡ true → y ≡ z
 leZ-antisym (pos a) (pos b) h k = ap pos (le-antisymm (leb-true a b h) (leb-true b a k))
@@ -117,8 +111,3 @@ unbiased-biasedZ (negsuc n) h = go (difference (bias - suc n) bias)
     go : Difference (bias - suc n) bias → pos (bias - suc n) -ℤ pos bias ≡ negsuc n
     go (up n′ p e) = absurd (omega arith)
     go (down n′ p e) = e ∙ ap negsuc (omega arith)
-
--- and its word has 32 bits
-pub biasedZ-fits : (z : ℤ) → mag z < bias → biasedZ z < 2 * bias
-biasedZ-fits (pos n) h = omega arith
-biasedZ-fits (negsuc n) h = omega arith

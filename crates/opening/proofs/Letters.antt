@@ -12,6 +12,7 @@ use Rattle.sketch.specs.Answers.{replyOf, Sketches}
 use Rattle.sketch.specs.declared.Sketched.{Sketched}
 use Rattle.sketch.proofs.Laws.{entries-same}
 use Rattle.strike.specs.Strike.{strikeReply}
+use Rattle.sketch.proofs.Accepted.{Held, sketch-held}
 use Rattle.strike.proofs.Laws.{length-codes, length-positions}
 use Rattle.start.specs.Start.{startReply, startWords}
 use Rattle.reading.specs.Input.{Settings, given}
@@ -21,7 +22,7 @@ use Rattle.opening.specs.Calls.{textOf, patternOf, taskOf, andThen, sket
 use Rattle.opening.specs.Opening.{openedOf, positionsAfter, workAfter, Opens, OpensSketches}
 use Rattle.opening.specs.declared.calls.Opened.{Opened}
 use Rattle.opening.specs.declared.calls.Opened.the-variants.{Refused}
-use Rattle.opening.proofs.Replies.{Held, sketch-held, refused-opened, refused-after, refused-where, front-over}
+use Rattle.opening.proofs.Replies.{refused-opened, refused-after, refused-where, front-over}
 
 -- ---- one sketch in two buffers of 4,096 words, and its answer as numbers
 

@@ -12,6 +12,8 @@ use Rattle.sketch.specs.Kmers.{Entry, codes, positions, entries}
 use Rattle.strike.specs.Strike.{struck, strikeReply, strikeCodes, strikePositions}
 use Rattle.strike.specs.Answers.{replyOf as struckReply}
 use Rattle.strike.specs.declared.Struck.{Struck}
+use Rattle.sketch.proofs.Accepted.{Held}
+use Rattle.strike.proofs.Accepted.{strike-held}
 use Rattle.strike.proofs.Laws.{length-codes}
 use Rattle.mappings.specs.Score.{Task}
 use Rattle.start.specs.Start.{startReply, startWords}
@@ -22,7 +24,7 @@ use Rattle.answers.proofs.Accepted.{strike-tells, start-tells}
 use Rattle.opening.specs.Calls.{andThen}
 use Rattle.opening.specs.Opening.{openedBy, whereAccepted, OpensSketches}
 use Rattle.opening.specs.declared.calls.Opened.the-variants.{Refused, Session}
-use Rattle.opening.proofs.Replies.{Held, strike-held, refused-opened, refused-only, refused-where, front-over}
+use Rattle.opening.proofs.Replies.{refused-opened, refused-only, refused-where, front-over}
 
 module _ (cs ps pattern places room : List ℕ) (k c u v : ℕ) (threshold : ℤ) (work : List ℕ) (long : length room ≡ 4096) where
   es : List Entry

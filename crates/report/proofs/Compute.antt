@@ -4,8 +4,8 @@ use Rattle.listing.proofs.Compute.{listing-computes}
 use Rattle.reading.proofs.Compute.{reading-computes}
 use Rattle.start.specs.Start.{badWeights, startReply}
 use Rattle.opening.specs.Calls.{textOf, patternOf, taskOf, sketchesReply, strikingReply, callsReply}
-use Rattle.report.specs.Output.{lineOf, finalCells, lastLine, listOf, printed, outputOf}
+use Rattle.report.specs.Output.{mappingLine, finalCells, lastLine, listOf, printed, outputOf}
 
 unfoldable pub report-computes : Unit {0}
-unfolding mappings-compute listing-computes reading-computes badWeights startReply textOf patternOf taskOf sketchesReply strikingReply callsReply lineOf finalCells lastLine listOf printed outputOf
+unfolding mappings-compute listing-computes reading-computes badWeights startReply textOf patternOf taskOf sketchesReply strikingReply callsReply mappingLine finalCells lastLine listOf printed outputOf
 report-computes = tt

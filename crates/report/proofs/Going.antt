@@ -27,8 +27,8 @@ use Rattle.listing.specs.Line.{line}
 use Rattle.listing.specs.Writing.{Written}
 use Rattle.listing.proofs.Buffers.{written-index}
 use Rattle.listing.proofs.Decimal.{length-line}
-use Rattle.report.specs.Output.{lastLine}
-use Rattle.report.specs.Pieces.{mappingLine, MappingWritten, finalsAfter, restOf, cellsLeft, isHeld, isPrinted, linesIn, stepBudget, passedFor, Piece, refusedWords, Unmoved, Fills}
+use Rattle.report.specs.Output.{mappingLine, lastLine}
+use Rattle.report.specs.Pieces.{MappingWritten, finalsAfter, restOf, cellsLeft, isHeld, isPrinted, linesIn, stepBudget, passedFor, Piece, refusedWords, Unmoved, Fills}
 use Rattle.report.specs.declared.filling.Filled.{Filled}
 use Rattle.report.proofs.Writers.{take-written, drop-later, written-onward, written-inside, written-past}
 use Rattle.report.proofs.Rest.{length-last, found-next, found-within, finished-next, never-spent, never-refused, few-cells, rest-found, rest-finished}

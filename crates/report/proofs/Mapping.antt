@@ -19,7 +19,8 @@ use Rattle.listing.specs.Limits.{lenLimit, sizeLimit}
 use Rattle.reading.specs.Limits.{wordLimit}
 use Rattle.listing.specs.PerMille.{perMille, isRefused, perMilleNumber}
 use Rattle.listing.specs.Line.{line}
-use Rattle.report.specs.Pieces.{Holds, isHeld, EndOf, mappingLine}
+use Rattle.report.specs.Output.{mappingLine}
+use Rattle.report.specs.Pieces.{Holds, isHeld, EndOf}
 
 -- ---- the test
 

@@ -6,15 +6,13 @@ use native.Mathlib.Omega.{arith}
 use mathlib.Core.Path.{_≡_, refl, sym, ap, ap₂, _∙_}
 use mathlib.Core.Bool.{Bool, true, false}
 use mathlib.Core.List.{List, [], _∷_, _++_, map, Sublistᴰ, Sublistᴰ·slnil, Sublistᴰ·cons, Sublistᴰ·cons-cons}
-use lib.Dec.{ltb}
 use lib.ListN.{length, getD, drop, length-append, length-map, List·getD-append}
-use borrow.Author.Tests.{ltb-false}
 use Rattle.counts.specs.Lists.{keep}
 use Rattle.counts.specs.Replies.{Reply, accepted, refused, over, after}
-use Rattle.counts.proofs.Lists.{or-neither}
-use Rattle.sketch.specs.Limits.{kLimit, wLimit, letterLimit, outside}
+use Rattle.sketch.specs.Limits.{kLimit, letterLimit}
 use Rattle.sketch.specs.Kmers.{codes, positions}
-use Rattle.sketch.specs.Sketch.{sketch, checkedLetters, sketchReply}
+use Rattle.sketch.specs.Sketch.{sketch, sketchReply}
+use Rattle.sketch.proofs.Accepted.{sketch-limits}
 use Rattle.sketch.proofs.Laws.{positions-below}
 use Rattle.strike.specs.Strike.{strikeReply}
 use Rattle.strike.proofs.Laws.{struck-positions-sublist, length-codes, length-positions}
@@ -24,27 +22,17 @@ use Rattle.mappings.specs.Cells.{Cell, cellsOf, hitCount, isFinalCell, mappingO
 use Rattle.mappings.proofs.Definition1.{test-final}
 use Rattle.start.specs.Start.{startReply, startWords, afterStart}
 use Rattle.start.specs.WorkWords.{sessionWords}
-use Rattle.mapper.proofs.Accepted.{not-refused, admitted}
+use Rattle.mapper.proofs.Accepted.{admitted}
 use Rattle.reading.specs.Limits.{lineLimit}
 use Rattle.reading.specs.Input.{Settings, given}
 use Rattle.opening.specs.Calls.{textOf, patternOf, taskOf, andThen, sketchesReply, strikingReply, callsReply}
 use Rattle.opening.specs.Opening.{positionsAfter, workAfter, whereAccepted}
-use Rattle.report.specs.Output.{lineOf, linesOf, finalCells, lastLine, listOf, headerLine}
-use Rattle.report.specs.Pieces.{mappingLine, mappingLines, restOf, Belongs}
+use Rattle.report.specs.Output.{mappingLine, mappingLines, finalCells, lastLine, listOf, headerLine}
+use Rattle.report.specs.Pieces.{restOf, Belongs}
 
 and-accepted : (first next : Reply) (values : List ℕ) → andThen first next ≡ accepted values → ((ns : List ℕ) × (first ≡ accepted ns)) × (next ≡ accepted values)
 and-accepted (accepted ns) next values e = ((ns, refl), e)
 and-accepted (refused number ns) next values e = absurd (let z : _≡_ {A = ℕ} 0 1 = cc in omega arith)
-
--- a sketch that is accepted has k within its limits, and so many letters
-sketch-limits : (k w : ℕ) (letters : List ℕ) (a b : ℕ) (values : List ℕ) → sketchReply k w letters a b ≡ accepted values → (1 ≤ k) × (k ≤ kLimit) × (length letters ≤ letterLimit)
-unfolding sketchReply checkedLetters
-sketch-limits k w letters a b values e =
-    let p = not-refused (outside 1 kLimit k) 1 [] _ values e in
-    let q = not-refused (outside 1 wLimit w) 2 [] _ values (p .1) in
-    let r = not-refused (ltb letterLimit (length letters)) 3 [] _ values (q .1) in
-    let ks = or-neither (ltb k 1) (ltb kLimit k) (p .0) in
-    (ltb-false k 1 (ks .0), ltb-false kLimit k (ks .1), ltb-false letterLimit (length letters) (r .0))
 
 -- what is below a bound in a list is so in a sublist
 sublist-below : (n : ℕ) {l r : List ℕ} → Sublistᴰ l r → ((j : ℕ) → j < length r → getD r j 0 < n) → (i : ℕ) → i < length l → getD l i 0 < n
@@ -108,19 +96,19 @@ module _ (s : Settings) (text read places work : List ℕ) (values : List ℕ) (
   }
 
   -- the lines from the lent positions are those of the definition
-  line-same : (cell : Cell) → isFinalCell task cell ≡ true → mappingLine (over of-text places) (s .k) (length (patternOf s read)) (mappingOf task cell) ≡ lineOf s text read (mappingOf task cell)
-  unfolding mappingLine lineOf isFinalCell mappingOf
+  line-same : (cell : Cell) → isFinalCell task cell ≡ true → mappingLine (over of-text places) (s .k) (length (patternOf s read)) (mappingOf task cell) ≡ mappingLine of-text (s .k) (length (patternOf s read)) (mappingOf task cell)
+  unfolding mappingLine isFinalCell mappingOf
   line-same cell t =
       let f : Final task (leftEnd task cell) (rightEnd task cell) = test-final task (leftEnd task cell) (rightEnd task cell) t in
       let l : leftEnd task cell < length (task .text) = omega (arith, f .ordered, f .within) in
       rw (place (leftEnd task cell) l, place (rightEnd task cell) (f .within))
 
-  lines-same : (l : List Cell) → mappingLines (over of-text places) (s .k) (length (patternOf s read)) (map (mappingOf task) (keep (isFinalCell task) l)) ≡ linesOf s text read (keep (isFinalCell task) l)
+  lines-same : (l : List Cell) → mappingLines (over of-text places) (s .k) (length (patternOf s read)) (map (mappingOf task) (keep (isFinalCell task) l)) ≡ mappingLines of-text (s .k) (length (patternOf s read)) (map (mappingOf task) (keep (isFinalCell task) l))
   lines-same [] = refl
   lines-same (cell ∷ l) = go (isFinalCell task cell) refl (lines-same l)
     where
-      go : (t : Bool) → isFinalCell task cell ≡ t → mappingLines (over of-text places) (s .k) (length (patternOf s read)) (map (mappingOf task) (keep (isFinalCell task) l)) ≡ linesOf s text read (keep (isFinalCell task) l)
-          → mappingLines (over of-text places) (s .k) (length (patternOf s read)) (map (mappingOf task) (keep (isFinalCell task) (cell ∷ l))) ≡ linesOf s text read (keep (isFinalCell task) (cell ∷ l))
+      go : (t : Bool) → isFinalCell task cell ≡ t → mappingLines (over of-text places) (s .k) (length (patternOf s read)) (map (mappingOf task) (keep (isFinalCell task) l)) ≡ mappingLines of-text (s .k) (length (patternOf s read)) (map (mappingOf task) (keep (isFinalCell task) l))
+          → mappingLines (over of-text places) (s .k) (length (patternOf s read)) (map (mappingOf task) (keep (isFinalCell task) (cell ∷ l))) ≡ mappingLines of-text (s .k) (length (patternOf s read)) (map (mappingOf task) (keep (isFinalCell task) (cell ∷ l)))
       go true t rec = rw t (ap₂ _++_ (line-same cell t) rec)
       go false t rec = rw t rec
 

@@ -19,8 +19,8 @@ use Rattle.mappings.proofs.Range.{Limited, shared-le-len, shared-le-size}
 use Rattle.mappings.proofs.Rule.{total, finalsOf, passing, passing-list, Outcome, as-found, as-finished, as-spent, outcome}
 use Rattle.listing.specs.Line.{decimal}
 use Rattle.listing.proofs.Decimal.{length-decimal}
-use Rattle.report.specs.Output.{lastLine}
-use Rattle.report.specs.Pieces.{mappingLine, mappingLines, Holds, finalsAfter, restOf, Belongs}
+use Rattle.report.specs.Output.{mappingLine, mappingLines, lastLine}
+use Rattle.report.specs.Pieces.{Holds, finalsAfter, restOf, Belongs}
 
 -- ---- lengths
 

@@ -1,7 +1,7 @@
 -- What `maplist` prints for the bytes of its standard input.
 -- Assumes nothing.
 use Prim.Native.Nat.{ℕ, _+_, _-_}
-use mathlib.Core.List.{List, [], _∷_, _++_}
+use mathlib.Core.List.{List, [], _∷_, _++_, map}
 use lib.ListN.{length, getD}
 use Rattle.counts.specs.Lists.{keep}
 use Rattle.counts.specs.Replies.{Reply, accepted, refused}
@@ -47,19 +47,20 @@ abbrev pub unlessRefused : Reply → List ℕ → List ℕ
 unlessRefused (accepted values) rest = rest
 unlessRefused (refused number values) rest = refusedLine number
 
--- the line of a mapping: first letter, last letter (position of entry b, + k − 1), score, m, per mille
-unfoldable pub lineOf : Settings → List ℕ → List ℕ → Mapping → List ℕ
-lineOf s text read mapping =
+-- the line of a mapping: first letter, last letter (position of entry b, + k − 1), score, m, per mille; from the positions of the text's
+-- entries, k and the number of entries of the pattern
+unfoldable pub mappingLine : List ℕ → ℕ → ℕ → Mapping → List ℕ
+mappingLine places k size mapping =
     line
-    (getD (positions (textOf s text)) (mapping .a) 0)
-    (getD (positions (textOf s text)) (mapping .b) 0 + s .k - 1)
+    (getD places (mapping .a) 0)
+    (getD places (mapping .b) 0 + k - 1)
     (mapping .score)
     (mapping .m)
-    (perMille (mapping .m) (lengthOf (mapping .a) (mapping .b)) (length (patternOf s read)))
+    (perMille (mapping .m) (lengthOf (mapping .a) (mapping .b)) size)
 
-abbrev pub linesOf : Settings → List ℕ → List ℕ → List Cell → List ℕ
-linesOf s text read [] = []
-linesOf s text read (cell ∷ rest) = lineOf s text read (mappingOf (taskOf s text read) cell) ++ linesOf s text read rest
+abbrev pub mappingLines : List ℕ → ℕ → ℕ → List Mapping → List ℕ
+mappingLines places k size [] = []
+mappingLines places k size (mapping ∷ rest) = mappingLine places k size mapping ++ mappingLines places k size rest
 
 -- the final cells, in the order of the list
 unfoldable pub finalCells : Task → List Cell
@@ -73,7 +74,7 @@ lastLine found cells = foundWord ++ space ∷ decimal found ++ space ∷ cellsWo
 unfoldable pub listOf : Settings → List ℕ → List ℕ → List ℕ
 listOf s text read =
     headerLine
-    ++ linesOf s text read (finalCells (taskOf s text read))
+    ++ mappingLines (positions (textOf s text)) (s .k) (length (patternOf s read)) (map (mappingOf (taskOf s text read)) (finalCells (taskOf s text read)))
     ++ lastLine (length (finalCells (taskOf s text read))) (length (cellsOf (taskOf s text read)))
 
 -- the calls in their order, each with a place for each letter, and 16,384 work words; then the list

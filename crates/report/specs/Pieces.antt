@@ -18,27 +18,11 @@ use Rattle.mapper.specs.Step.{tooFewWords, badWords}
 use Rattle.mapper.specs.Promise.{Accepts}
 use Rattle.listing.specs.Limits.{lenLimit, sizeLimit}
 use Rattle.reading.specs.Limits.{wordLimit}
-use Rattle.listing.specs.PerMille.{perMille}
-use Rattle.listing.specs.Line.{line}
 use Rattle.listing.specs.Writing.{Written}
-use Rattle.report.specs.Output.{lastLine}
+use Rattle.report.specs.Output.{mappingLine, mappingLines, lastLine}
 use Rattle.report.specs.declared.filling.Filled.{Filled}
 
 -- ---- lines
-
--- the line of a mapping, from the positions of the text's entries, k and the number of entries of the pattern
-unfoldable pub mappingLine : List ℕ → ℕ → ℕ → Mapping → List ℕ
-mappingLine places k size mapping =
-    line
-    (getD places (mapping .a) 0)
-    (getD places (mapping .b) 0 + k - 1)
-    (mapping .score)
-    (mapping .m)
-    (perMille (mapping .m) (lengthOf (mapping .a) (mapping .b)) size)
-
-abbrev pub mappingLines : List ℕ → ℕ → ℕ → List Mapping → List ℕ
-mappingLines places k size [] = []
-mappingLines places k size (mapping ∷ rest) = mappingLine places k size mapping ++ mappingLines places k size rest
 
 -- the line's numbers hold what [a, b] asks
 pub record Holds (places : List ℕ) (k size a b : ℕ) : Type 0 where

@@ -10,4 +10,5 @@ pub mod Picks
 pub mod Passing
 pub mod Buffers
 pub mod Answering
+pub mod Accepted
 pub mod Laws

@@ -320,7 +320,7 @@ module _ (task : Task) (small : hitCount task ≤ 2048) (before : List ℕ) (len
       ∙ sym (word-at task (take lent before) q small (rw first-number enough) i (rw first-number inside))))
 
   -- the words behind it are not the session's
-  beyond-free : (i : ℕ) → lent ≤ i → Free (hitCount task) i
+  pub beyond-free : (i : ℕ) → lent ≤ i → Free (hitCount task) i
   beyond-free i l = record {
     heading-before = omega arith;
     no-back = inr (omega arith);

@@ -37,9 +37,6 @@ pub struck-sublist : (c : ℕ) (es : List Entry) → Sublistᴰ (struck c es) es
 unfolding struck strike
 struck-sublist c es = keep-sublist (λ (e : Entry). leb (occ (e .code) (codes es)) c) es
 
-pub struck-codes-sublist : (c : ℕ) (es : List Entry) → Sublistᴰ (codes (struck c es)) (codes es)
-struck-codes-sublist c es = map-sublist (λ (e : Entry). e .code) (struck-sublist c es)
-
 pub struck-positions-sublist : (c : ℕ) (es : List Entry) → Sublistᴰ (positions (struck c es)) (positions es)
 struck-positions-sublist c es = map-sublist (λ (e : Entry). e .position) (struck-sublist c es)
 

@@ -4,3 +4,4 @@ pub mod Marked
 pub mod Laws
 pub mod Cases
 pub mod Replies
+pub mod Accepted
