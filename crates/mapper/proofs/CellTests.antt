@@ -2,7 +2,7 @@
 -- Definition 1.
 -- Assumes nothing.
 use Prim.Native.Nat.{ℕ, suc, _+_, _-_, _*_, _%_, _≤_, _<_, max}
-use native.Mathlib.Nat.{le-trans, mul-add, mul-le-mul}
+use native.Mathlib.Nat.{le-trans, mul-add, mul-le-mul, add-mod-mod}
 use native.Mathlib.Omega.{arith}
 use mathlib.Core.Path.{_≡_, refl, sym, ap, _∙_, subst}
 use mathlib.Core.Bool.{Bool, true, false, _&&_}
@@ -24,7 +24,7 @@ use Rattle.mappings.proofs.Range.{Limited, shared-le-size, biased-within, score
 use Rattle.mappings.proofs.Shared.{shared-left-end}
 use Rattle.start.specs.Tables.{reach, back}
 use Rattle.start.proofs.Tables.{reach-test, back-test, hit-codes-in}
-use Rattle.mapper.specs.Passing.{lowered, finalTest}
+use Rattle.column.specs.Passing.{lowered, finalTest}
 use Rattle.mapper.proofs.Best.{scoreAt, Top, TopBefore, top-cell}
 
 one-is : (b : Bool) → eqb (bit b) 1 ≡ b
@@ -47,20 +47,22 @@ shifted : (gained left right both : ℕ) → both ≡ left + right → both ≤ 
 shifted gained left right both e l = omega arith
 
 -- gain·m + v·x + base, where base has the column's part and 2^44 added: the remainder is the biased score
-word-is : (u v size m x y : ℕ) → x ≤ y → v * (y + 1 + size) ≤ 2147483648 → biased u v size m (suc y - x) < 4294967296 → ((u + 2 * v) * m + v * x + (17594333528064 - v * (y + 1 + size))) % 4294967296 ≡ biased u v size m (suc y - x)
+word-is : (u v size m x y : ℕ) → x ≤ y → v * (y + 1 + size) ≤ 2147483648 → biased u v size m (suc y - x) < 4294967296 → ((u + 2 * v) * m + v * x + (17594333528064 - v * (y + 1 + size)) % 4294967296) % 4294967296 ≡ biased u v size m (suc y - x)
 unfolding biased
 word-is u v size m x y a b d =
     let e : y + 1 + size ≡ x + (suc y - x + size) = omega arith in
     let f : v * (y + 1 + size) ≡ v * x + v * (suc y - x + size) = ap (λ (n : ℕ). v * n) e ∙ mul-add v x (suc y - x + size) in
     let g : (u + 2 * v) * m + v * x + (17594333528064 - v * (y + 1 + size)) ≡ 4096 * 4294967296 + ((u + 2 * v) * m + 2147483648 - v * (suc y - x + size)) = shifted ((u + 2 * v) * m) (v * x) (v * (suc y - x + size)) (v * (y + 1 + size)) f b in
-    ap (λ (n : ℕ). n % 4294967296) g ∙ digits-mod 4096 d
+    add-mod-mod ((u + 2 * v) * m + v * x) (17594333528064 - v * (y + 1 + size)) 4294967296
+    ∙ ap (λ (n : ℕ). n % 4294967296) g
+    ∙ digits-mod 4096 d
 
 -- m of the hits i to j
 abbrev pub sharedAt : Task → ℕ → ℕ → ℕ
 sharedAt task i j = shared (task .pattern) (interval (hitCodes task) i j)
 
 module _ (task : Task) (limited : Limited task) (threshold-fits : mag (task .threshold) < bias) where
-  pub score-word : (i j : ℕ) → i ≤ j → j < hitCount task → ((task .u + 2 * task .v) * sharedAt task i j + task .v * getD (hits task) i 0 + (17594333528064 - task .v * (getD (hits task) j 0 + 1 + length (task .pattern)))) % 4294967296 ≡ scoreAt task i j
+  pub score-word : (i j : ℕ) → i ≤ j → j < hitCount task → ((task .u + 2 * task .v) * sharedAt task i j + task .v * getD (hits task) i 0 + (17594333528064 - task .v * (getD (hits task) j 0 + 1 + length (task .pattern))) % 4294967296) % 4294967296 ≡ scoreAt task i j
   unfolding scoreAt biasedOf lengthOf
   score-word i j a l =
       let inside : getD (hits task) j 0 < length (task .text) = hit-within task j l in

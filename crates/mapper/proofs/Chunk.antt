@@ -1,6 +1,6 @@
 -- Passing the next rows of a column in the words of a session is passing the next cells by the rule: up to the first final one.
 -- Assumes nothing.
-use Prim.Native.Nat.{ℕ, zero, suc, _+_, _-_, _*_, _≤_, _<_, max, zero-le, suc-le-suc}
+use Prim.Native.Nat.{ℕ, zero, suc, _+_, _-_, _*_, _%_, _≤_, _<_, max, zero-le, suc-le-suc}
 use native.Mathlib.Nat.{le-refl}
 use native.Mathlib.Omega.{arith}
 use mathlib.Core.Path.{_≡_, refl, sym, ap, _∙_, subst}
@@ -24,8 +24,8 @@ use Rattle.mappings.proofs.Rule.{rule-found, rule-pass, more-cells}
 use Rattle.start.specs.Tables.{reach, back}
 use Rattle.start.specs.WorkWords.{bestBefore, withCell, bestAfter}
 use Rattle.start.proofs.WorkWords.{Outside, length-bestAfter}
-use Rattle.mapper.specs.declared.column.Line.{Line}
-use Rattle.mapper.specs.Passing.{lowered, lineScore, bestWith, inReach, finalTest, Update, passRows}
+use Rattle.column.specs.declared.cells.Line.{Line}
+use Rattle.column.specs.Passing.{lowered, lineScore, bestWith, inReach, finalTest, Update, passRows}
 use Rattle.mapper.proofs.Best.{scoreAt, BestAt, before-top, best-at, best-suc}
 use Rattle.mapper.proofs.CellTests.{sharedAt, score-word, shared-next, final-test}
 
@@ -49,7 +49,7 @@ module _ (task : Task) (limited : Limited task) (threshold-fits : mag (task .thr
     column = j;
     gain = task .u + 2 * task .v;
     v = task .v;
-    base = 17594333528064 - task .v * (getD (hits task) j 0 + 1 + length (task .pattern));
+    base = (17594333528064 - task .v * (getD (hits task) j 0 + 1 + length (task .pattern))) % 4294967296;
     back = back (task .pattern) (hitCodes task) j;
     threshold = biasedZ (task .threshold);
   }

@@ -1,7 +1,5 @@
 -- Laws about the work words, the column's update and sessions, and examples that compute.
 pub mod Bias
-pub mod Passing
-pub mod Quiet
 pub mod Walking
 pub mod Places
 pub mod Best

@@ -20,7 +20,7 @@ use Rattle.start.specs.Start.{badWeights}
 use Rattle.start.specs.WorkWords.{columnsLeft, nextRow, nextShared, sessionWords}
 use Rattle.start.proofs.WorkWords.{Holds, words-hold}
 use Rattle.mapper.specs.declared.answer.Stepped.the-variants.{Spent, TooFewWords, BadWords}
-use Rattle.mapper.specs.declared.walk.Terms.{Terms}
+use Rattle.mapper.specs.declared.update.Terms.{Terms}
 use Rattle.mapper.specs.Answers.{answerOf}
 use Rattle.mapper.specs.Step.{tooFewWords, badWords}
 use Rattle.mapper.specs.Walking.{Walk, walkOn}

@@ -23,10 +23,10 @@ use Rattle.mappings.proofs.Rule.{rule-no-budget, rule-none-left, more-cells}
 use Rattle.start.specs.Tables.{whole}
 use Rattle.start.specs.WorkWords.{bestBefore, bestAfter, columnsLeft, nextRow, nextShared, sessionWords}
 use Rattle.start.proofs.WorkWords.{HoldsBlocks, hold-words}
-use Rattle.mapper.specs.declared.walk.Terms.{Terms}
+use Rattle.mapper.specs.declared.update.Terms.{Terms}
 use Rattle.mapper.specs.declared.place.Place.{Place}
 use Rattle.mapper.specs.Answers.{answerOf}
-use Rattle.mapper.specs.Passing.{lowered, seenBefore, Update}
+use Rattle.column.specs.Passing.{lowered, seenBefore, Update}
 use Rattle.mapper.specs.Walking.{topShared, settled, saved, lineOf, Walk, spentWalk, finishedWalk, foundWalk, partOf, withPart, columnUpdate, walkOn}
 use Rattle.mapper.proofs.Best.{scoreAt}
 use Rattle.mapper.proofs.CellTests.{sharedAt}
@@ -242,13 +242,19 @@ module _ (task : Task) (limited : Limited task) (threshold-fits : mag (task .thr
         same-column : columnUpdate (termsOf task) (suc j - 1) row m left work ≡ update
         same-column = let z : suc j - 1 ≡ j = omega arith in ap (λ (i : ℕ). columnUpdate (termsOf task) i row m left work) z
 
+        same-answer : update .answer ≡ columnUpdate (termsOf task) (suc j - 1) row m left work .answer
+        same-answer = ap (λ (u : Update). u .answer) (sym same-column)
+
+        same-words : withPart work (update .part) ≡ withPart work (columnUpdate (termsOf task) (suc j - 1) row m left work .part)
+        same-words = ap (λ (u : Update). withPart work (u .part)) (sym same-column)
+
         go : (left ≡ 0) ⊎ (left ≡ 0 → ⊥) → Chunk task limited threshold-fits j row (min left (suc j - row)) q (partOf work) update → ((q′ : ℕ) → HoldsBlocks task before q′ words → q₀ + (budget - (left - (update .answer .row - row))) ≡ q′ → PlaceAt task q′ j 0 (topShared words j) → Ruled q′ (left - (update .answer .row - row)) (walkOn (termsOf task) budget j 0 (topShared words j) (left - (update .answer .row - row)) words)) → Ruled q left (walkOn (termsOf task) budget (suc j) row m left work)
         go (inl z) c rec =
             by (walk-spent (termsOf task) budget (suc j) row m left work (suc-le-suc zero-le) z)
             (spent-ruled q left q 0 j row m budget work h e₀ (omega arith) at (rw z (sym (more-none (ruleAnswer task q 0)))) (omega arith))
         go (inr n) (one-found k within f r em es lower p same rule) rec =
             let inside : row + k ≤ j = omega (arith, at .1) in
-            by (walk-found (termsOf task) budget (suc j) row m left work (suc-le-suc zero-le) n update same-column f)
+            by (walk-found (termsOf task) budget (suc j) row m left work (suc-le-suc zero-le) n (update .answer) (withPart work (update .part)) same-answer same-words f)
             (at-final q j row k m left work update h e₀ e fits (omega arith) (at .0) inside (at .2) r em es lower (part-blocks task limited threshold-fits small before many q (q + suc k) work (update .part) h p same) rule)
         go (inr n) (all-passed f r em p same rule) rec = ends (ltb (update .answer .row) (suc j)) refl
           where
@@ -277,7 +283,7 @@ module _ (task : Task) (limited : Limited task) (threshold-fits : mag (task .thr
             ends true t =
                 let l : update .answer .row < suc j = ltb-true (update .answer .row) (suc j) t in
                 let all : passed ≡ left = all-of left j row (update .answer .row) r l in
-                by (walk-part (termsOf task) budget (suc j) row m left work (suc-le-suc zero-le) n update same-column f l)
+                by (walk-part (termsOf task) budget (suc j) row m left work (suc-le-suc zero-le) n (update .answer) (withPart work (update .part)) same-answer same-words f l)
                 (spent-ruled q left (q + passed) passed j (update .answer .row) (update .answer .m) (budget - rest) words held (passed-back task limited threshold-fits small before many q work (update .part) h ∙ e₀) counted (at .0, omega arith, further, em ∙ ap (λ (i : ℕ). sharedAt task i j) (sym r)) (let z : left ≡ passed + 0 = omega arith in ap (ruleAnswer task q) z ∙ rule 0) (more-passed budget left passed rest rest-is few fits))
             ends false t =
                 let l : suc j ≤ update .answer .row = ltb-false (update .answer .row) (suc j) t in
@@ -286,7 +292,7 @@ module _ (task : Task) (limited : Limited task) (threshold-fits : mag (task .thr
                 let whole-budget : left ≡ passed + rest = rest-of left passed rest rest-is few in
                 let count : budget - rest ≡ budget - left + passed = more-passed budget left passed rest rest-is few fits in
                 let one-less : suc j - 1 ≡ j = before-suc j in
-                by (walk-next (termsOf task) budget (suc j) row m left work (suc-le-suc zero-le) n update same-column f l)
+                by (walk-next (termsOf task) budget (suc j) row m left work (suc-le-suc zero-le) n (update .answer) (withPart work (update .part)) same-answer same-words f l)
                 (rw one-less
                 (record {
                   answer-is =

@@ -10,10 +10,10 @@ use lib.ListN.{length, drop, set, length-set}
 use lib.Seq.{drop-set-lt, drop-drop}
 use borrow.Rule.Slice.PartMut.{mid-len, same-len-mid, drop-put}
 use Rattle.mapper.specs.declared.place.Place.{Place}
-use Rattle.mapper.specs.declared.walk.Terms.{Terms}
-use Rattle.mapper.specs.Passing.{lowered, seenBefore}
+use Rattle.mapper.specs.declared.update.Terms.{Terms}
+use Rattle.column.specs.Passing.{lowered, seenBefore}
 use Rattle.mapper.specs.Walking.{saved, settled, lineOf, spentWalk, finishedWalk, foundWalk, partOf, withPart, columnUpdate, topShared, Walk, walkOn}
-use Rattle.mapper.proofs.Passing.{bounded}
+use Rattle.column.proofs.Passing.{bounded}
 
 -- the same number of words, and the same beyond
 pub record Kept (work after : List ℕ) : Type 0 where

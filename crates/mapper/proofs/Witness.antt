@@ -17,7 +17,7 @@ use Rattle.mappings.proofs.Compute.{mappings-compute}
 use Rattle.start.specs.Start.{badWeights, startReply, startWords}
 use Rattle.mapper.specs.declared.answer.Stepped.{Stepped}
 use Rattle.mapper.specs.declared.answer.Stepped.the-variants.{TooFewWords, BadWords}
-use Rattle.mapper.specs.declared.walk.Terms.{Terms}
+use Rattle.mapper.specs.declared.update.Terms.{Terms}
 use Rattle.mapper.specs.Answers.{answerOf}
 use Rattle.mapper.specs.Step.{badWords}
 use Rattle.mapper.specs.Promise.{StepPromise}

@@ -1,8 +1,7 @@
 -- What step answers, and when it refuses, as document 01 says it.
 pub mod Answers
 pub mod Step
--- what a column's update and a walk do to any words, as the code goes
-pub mod Passing
+-- what a walk does to any words, as the code goes
 pub mod Walking
 -- what step promises, and demand 3 over lists of such steps
 pub mod Promise

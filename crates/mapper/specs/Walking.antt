@@ -6,11 +6,11 @@ use mathlib.Core.List.{List, _++_}
 use lib.Dec.{ltb, eqb}
 use lib.ListN.{getD, take, drop, set}
 use Rattle.mappings.specs.Bias.{unbiased}
-use Rattle.mapper.specs.Passing.{lowered, seenBefore, Update, passRows}
-use Rattle.mapper.specs.declared.column.Line.{Line}
-use Rattle.mapper.specs.declared.column.Passed.{Passed}
+use Rattle.column.specs.Passing.{lowered, seenBefore, Update, passRows}
+use Rattle.column.specs.declared.cells.Line.{Line}
+use Rattle.column.specs.declared.cells.Passed.{Passed}
 use Rattle.mapper.specs.declared.place.Place.{Place}
-use Rattle.mapper.specs.declared.walk.Terms.{Terms}
+use Rattle.mapper.specs.declared.update.Terms.{Terms}
 use Rattle.mapper.specs.declared.answer.Stepped.{Stepped}
 use Rattle.mapper.specs.declared.answer.Stepped.the-variants.{Found, Finished, Spent}
 
@@ -41,7 +41,7 @@ lineOf work terms j = record {
   gain = terms .gain;
   v = terms .v;
   -- 2^44 + 2^31: 2^31 is the score words' bias, and 2^44 keeps any words' numbers above 0
-  base = 17594333528064 - terms .v * (getD work (4096 + j) 0 + 1 + terms .size);
+  base = (17594333528064 - terms .v * (getD work (4096 + j) 0 + 1 + terms .size)) % 4294967296;
   back = getD work (2048 + j) 0;
   threshold = terms .threshold;
 }

@@ -1,7 +1,7 @@
 // Mapping sessions: `session::step` passes cells in the work words that start wrote. Assumes nothing.
 pub mod answer;
-mod column;
 mod place;
 mod score;
 pub mod session;
+mod update;
 mod walk;

@@ -1,7 +1,7 @@
 // A step of a session: what is refused, and the walk from the place in the work words.
 use crate::answer::Stepped;
 use crate::place::Place;
-use crate::walk::Terms;
+use crate::update::Terms;
 use crate::walk::walk;
 use crate::walk::walk_one;
 use start::words::COLUMNS;

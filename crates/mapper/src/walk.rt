@@ -1,59 +1,22 @@
 // Walking along the columns from a place, until a final cell, the budget's end or the last cell.
 use crate::answer::Stepped;
-use crate::column::Line;
-use crate::column::Passed;
-use crate::column::pass;
-use crate::column::pass_one;
 use crate::place::Place;
 use crate::place::save;
 use crate::place::settled;
 use crate::place::top_shared;
-use crate::score::lowered;
 use crate::score::unbiased;
-use start::words::BACK;
+use crate::update::Terms;
+use crate::update::update;
+use crate::update::update_one;
+use column::cells::Passed;
+use column::score::lowered;
 use start::words::INDEX;
-use start::words::PART_END;
-use start::words::wide;
-use start::words::wider;
 ghost use mathlib.Core.Path.{_≡_};
 ghost use mathlib.Core.Bool.{cond};
-ghost use Prim.Native.Nat.{ℕ, _+_, _≤_, _<_, min};
+ghost use Prim.Native.Nat.{ℕ, _+_, _≤_, _<_};
 ghost use lib.ListN.{length};
-ghost use Rattle.mapper.specs.Passing as Passing;
-ghost use Rattle.mapper.specs.Walking.{lineOf, spentWalk, finishedWalk, foundWalk, walkOn};
-
-// What the score words of a session share: u + 2v, v, the pattern's length, and the threshold with its bias.
-pub struct Terms {
-    pub gain: u64,
-    pub v: u64,
-    pub size: u64,
-    pub threshold: u32,
-}
-
-// The smaller of two.
-fn smaller(a: usize, b: usize) -> usize
-    ensures { λ r. ⌜ r ≡ min a b ⌝ }
-{
-    if a < b { a } else { b }
-}
-
-// What the cells of column j share. The base has 2^44 added, so that words that no start made stay within range.
-fn line_of(work: &[u32], terms: Terms, j: usize) -> Line
-    requires { ⌜ (16384 ≤ length (now work)) × (j < 2048) × (terms .gain ≤ 3000) × (terms .v ≤ 1000) × (terms .size ≤ 4294967295) ⌝ }
-    ensures { λ r. ⌜ r ≡ lineOf (now (work .entry)) terms j ⌝ }
-{
-    let x = wider(work[INDEX + j]);
-    let back = wide(work[BACK + j]);
-    let v = terms.v;
-    Line {
-        column: j as u32,
-        gain: terms.gain,
-        v,
-        base: 17594333528064 - v * (x + 1 + terms.size),
-        back,
-        threshold: terms.threshold,
-    }
-}
+ghost use Rattle.column.specs.Passing as Passing;
+ghost use Rattle.mapper.specs.Walking.{spentWalk, finishedWalk, foundWalk, walkOn};
 
 // The budget's cells are passed.
 fn spent(work: &mut [u32], place: Place, cells: usize) -> Stepped
@@ -111,9 +74,7 @@ pub fn walk(work: &mut [u32], terms: Terms, start: Place, budget: usize) -> Step
         if left == 0 {
             return spent(work, Place { columns, row, m }, budget);
         }
-        let line = line_of(work, terms, columns - 1);
-        let to = row + smaller(left, columns - row);
-        let p = pass(&mut work[INDEX..PART_END], line, row, to, m);
+        let p = update(work, terms, Place { columns, row, m }, left);
         let next = p.row;
         left -= next - row;
         if p.found {
@@ -155,8 +116,7 @@ pub fn walk_one(work: &mut [u32], terms: Terms, start: Place) -> Stepped
     ensures { λ r. ⌜ now (work .exit) ≡ walkOn terms 1 (start .columns) (start .row) (start .m) 1 (now (work .entry)) .words ⌝ }
 {
     let columns = start.columns;
-    let line = line_of(work, terms, columns - 1);
-    let p = pass_one(&mut work[INDEX..PART_END], line, start.row, start.m);
+    let p = update_one(work, terms, start);
     let row = p.row;
     let m = behind(p);
     save(work, Place { columns, row, m }, 1);

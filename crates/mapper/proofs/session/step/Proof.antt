@@ -6,7 +6,7 @@ use mathlib.Core.List.{List}
 use lib.ListN.{getD}
 use Rattle.mapper.specs.Walking.{Walk, walkOn}
 use Rattle.mapper.specs.declared.answer.Stepped.{Stepped}
-use Rattle.mapper.specs.declared.walk.Terms.{Terms}
+use Rattle.mapper.specs.declared.update.Terms.{Terms}
 use Rattle.mapper.specs.Promise.{StepPromise}
 use Rattle.mapper.proofs.StepPromise.{few-promise, bad-promise, lost-promise, walk-promise}
 use Rattle.mapper.proofs.StepTests.{good-words, one-inside}

@@ -1,13 +1,12 @@
 -- `walk::walk` meets its contract. The loop's invariant: what is left to walk gives the same answer and the same words as the
 -- whole. The measure is the number of columns left. Assumes nothing.
-use Prim.Native.Nat.{_-_, _≤_}
+use Prim.Native.Nat.{_≤_}
 use native.Mathlib.Omega.{arith}
 use mathlib.Core.Path.{_≡_, sym, ap, _∙_}
 use borrow.Author.Needs.{needs}
-use borrow.Rule.Slice.PartMut.{putMid, mid-len, same-len-mid}
 use lib.ListN.{length}
-use Rattle.mapper.specs.Walking.{Walk, withPart, partOf, lineOf, walkOn}
-use Rattle.mapper.proofs.Walking.{ColumnPassed, column-passed, base-within, walk-spent, walk-found, walk-part, walk-next}
+use Rattle.mapper.specs.Walking.{Walk, walkOn}
+use Rattle.mapper.proofs.Walking.{Stops, update-stops, walk-spent, walk-found, walk-part, walk-next}
 use Rattle.mapper.proofs.walk.walk.Statement.{statement}
 use Rattle.mapper.proofs.walk.walk.Tie as tie
 
@@ -37,52 +36,18 @@ returns c =
     let e = sym (walk-spent (c .before .before .before .before .before .before .before .before .args .terms) (c .before .before .before .before .before .before .before .before .args .budget) (c .before .before .before .before .before .before .loop .columns) (c .before .before .before .before .before .before .loop .row) (c .before .before .before .before .before .before .loop .m) (c .before .before .before .before .before .before .loop .left) (c .before .before .before .before .before .before .loop .work) (c .before .before .before .before .before .loop-test .taken) (c .before .before .before .before .if1 .taken)) ∙ c .before .before .before .before .before .before .loop .inv .5 in
     (c .before .before .spent .ensures .0 ∙ ap (λ (w : Walk). w .answer) e, c .before .before .spent .ensures .1 ∙ ap (λ (w : Walk). w .words) e)
 
-sub-line-of : tie.Need-sub-line-of Inv-loop μ-loop
-sub-line-of c = search needs
+update-requires : tie.Need-update-requires Inv-loop μ-loop
+update-requires c κs = search needs
 
-line-of-requires : tie.Need-line-of-requires Inv-loop μ-loop
-line-of-requires c κs = search needs
-
-sub-smaller : tie.Need-sub-smaller Inv-loop μ-loop
-sub-smaller c = search needs
-
-smaller-requires : tie.Need-smaller-requires Inv-loop μ-loop
-smaller-requires c κs = search needs
-
-add-to : tie.Need-add-to Inv-loop μ-loop
-add-to c = search needs
-
-sub-pass : tie.Need-sub-pass Inv-loop μ-loop
-sub-pass c = search needs
-
-part-pass-start : tie.Need-part-pass-start Inv-loop μ-loop
-part-pass-start c = search needs
-
-part-pass-end : tie.Need-part-pass-end Inv-loop μ-loop
-part-pass-end c = search needs
-
-pass-requires : tie.Need-pass-requires Inv-loop μ-loop
-unfolding lineOf
-pass-requires c κs =
-    let l = c .before .before .line-of .ensures in
-    ((mid-len 4096 10240 (c .before .before .before .before .before .before .loop .work) (search needs), search needs, omega (arith, c .before .smaller .ensures)), (rw l (search needs), rw l (search needs), rw l (base-within (c .before .before .before .before .before .before .before .before .args .terms) (c .before .before .before .before .before .before .loop .work) (c .before .before .before .before .before .before .loop .columns - 1))))
-
--- what `pass` answered and left, once its part is back: the update of the column
-at-column : (d : tie.After-slice-known3 Inv-loop μ-loop) → ColumnPassed (d .before .before .before .before .before .before .before .before .before .before .before .args .terms) (d .before .before .before .before .before .before .before .before .before .loop .columns) (d .before .before .before .before .before .before .before .before .before .loop .row) (d .before .before .before .before .before .before .before .before .before .loop .m) (d .before .before .before .before .before .before .before .before .before .loop .left) (d .before .before .before .before .before .before .before .before .before .loop .work) (d .before .before .pass .result) (d .before .before .pass .last .0)
-at-column d =
-    column-passed (d .before .before .before .before .before .before .before .before .before .before .before .args .terms) (d .before .before .before .before .before .before .before .before .before .loop .columns) (d .before .before .before .before .before .before .before .before .before .loop .row) (d .before .before .before .before .before .before .before .before .before .loop .m) (d .before .before .before .before .before .before .before .before .before .loop .left) (d .before .before .before .before .before .before .before .before .before .loop .work) (d .before .before .before .before .before .line-of .result) (d .before .before .before .before .smaller .result) (d .before .before .pass .result) (d .before .before .pass .last .0)
-    (d .before .before .before .before .before .before .before .before .loop-test .taken) (d .before .before .before .before .before .before .before .before .before .loop .inv .3) (d .before .before .before .before .before .line-of .ensures) (d .before .before .before .before .smaller .ensures) (d .before .before .pass .ensures .0) (d .before .before .pass .ensures .1)
-
--- the words keep their number
-same-number : (d : tie.After-slice-known3 Inv-loop μ-loop) → length (putMid 4096 6144 (d .before .before .before .before .before .before .before .before .before .loop .work) (d .before .before .pass .last .0)) ≡ length (d .before .before .before .before .before .before .before .before .before .loop .work)
-unfolding partOf
-same-number d = same-len-mid 4096 6144 (d .before .before .before .before .before .before .before .before .before .loop .work) (d .before .before .pass .last .0) (at-column d .size)
+-- where the column's update has stopped
+stops : (d : tie.After-slice-known3 Inv-loop μ-loop) → Stops (d .before .before .before .before .before .before .loop .columns) (d .before .before .before .before .before .before .loop .row) (d .before .before .before .before .before .before .loop .left) (d .before .before .update .result)
+stops d = update-stops (d .before .before .before .before .before .before .before .before .args .terms) (d .before .before .before .before .before .before .loop .columns) (d .before .before .before .before .before .before .loop .row) (d .before .before .before .before .before .before .loop .m) (d .before .before .before .before .before .before .loop .left) (d .before .before .before .before .before .before .loop .work) (d .before .before .update .result) (d .before .before .before .before .before .loop-test .taken) (d .before .before .before .before .before .before .loop .inv .3) (d .before .before .update .ensures .0)
 
 sub-left : tie.Need-sub-left Inv-loop μ-loop
-sub-left c = at-column c .from
+sub-left c = stops c .from
 
 sub-left-2 : tie.Need-sub-left-2 Inv-loop μ-loop
-sub-left-2 c = at-column c .spends
+sub-left-2 c = stops c .spends
 
 sub-found : tie.Need-sub-found Inv-loop μ-loop
 sub-found c = search needs
@@ -90,22 +55,21 @@ sub-found c = search needs
 found-requires : tie.Need-found-requires Inv-loop μ-loop
 found-requires c κs =
     let d = c .before .before in
-    let col = at-column d in
+    let col = stops d in
     let moved = col .moved (c .before .if2 .taken) in
-    let inv = d .before .before .before .before .before .before .before .before .before .loop .inv in
-    let n = same-number d in
-    (omega arith, search needs, search needs, omega arith, omega (arith, col .within), omega (arith, d .before .before .before .before .before .before .before .before .before .before .before .pre .0 .1))
+    let inv = d .before .before .before .before .before .before .loop .inv in
+    let n = d .before .before .update .kept .0 in
+    (omega arith, search needs, search needs, omega arith, omega (arith, col .within), omega (arith, d .before .before .before .before .before .before .before .before .pre .0 .1))
 
 same-length-2 : tie.Need-same-length-2 Inv-loop μ-loop
 same-length-2 c =
     let d = c .before .before .before .before .before in
-    c .before .before .found .kept .0 ∙ same-number d ∙ d .before .before .before .before .before .before .before .before .before .loop .inv .1
+    c .before .before .found .kept .0 ∙ d .before .before .update .kept .0 ∙ d .before .before .before .before .before .before .loop .inv .1
 
 returns-2 : tie.Need-returns-2 Inv-loop μ-loop
-unfolding withPart
 returns-2 c =
     let d = c .before .before .before .before .before in
-    let e = sym (walk-found (d .before .before .before .before .before .before .before .before .before .before .before .args .terms) (d .before .before .before .before .before .before .before .before .before .before .before .args .budget) (d .before .before .before .before .before .before .before .before .before .loop .columns) (d .before .before .before .before .before .before .before .before .before .loop .row) (d .before .before .before .before .before .before .before .before .before .loop .m) (d .before .before .before .before .before .before .before .before .before .loop .left) (d .before .before .before .before .before .before .before .before .before .loop .work) (d .before .before .before .before .before .before .before .before .loop-test .taken) (d .before .before .before .before .before .before .before .if1 .left) (record { answer = d .before .before .pass .result; part = d .before .before .pass .last .0 }) (at-column d .update) (c .before .before .before .before .if2 .taken)) ∙ d .before .before .before .before .before .before .before .before .before .loop .inv .5 in
+    let e = sym (walk-found (d .before .before .before .before .before .before .before .before .args .terms) (d .before .before .before .before .before .before .before .before .args .budget) (d .before .before .before .before .before .before .loop .columns) (d .before .before .before .before .before .before .loop .row) (d .before .before .before .before .before .before .loop .m) (d .before .before .before .before .before .before .loop .left) (d .before .before .before .before .before .before .loop .work) (d .before .before .before .before .before .loop-test .taken) (d .before .before .before .before .if1 .left) (d .before .before .update .result) (d .before .before .update .last .0) (d .before .before .update .ensures .0) (d .before .before .update .ensures .1) (c .before .before .before .before .if2 .taken)) ∙ d .before .before .before .before .before .before .loop .inv .5 in
     (c .before .before .found .ensures .0 ∙ ap (λ (w : Walk). w .answer) e, c .before .before .found .ensures .1 ∙ ap (λ (w : Walk). w .words) e)
 
 sub-spent : tie.Need-sub-spent Inv-loop μ-loop
@@ -114,21 +78,20 @@ sub-spent c = search needs
 spent-requires-2 : tie.Need-spent-requires-2 Inv-loop μ-loop
 spent-requires-2 c κs =
     let d = c .before .before .before in
-    let col = at-column d in
-    let inv = d .before .before .before .before .before .before .before .before .before .loop .inv in
-    let n = same-number d in
-    (omega arith, search needs, omega (arith, col .within), omega (arith, d .before .before .before .before .before .before .before .before .before .before .before .pre .0 .1))
+    let col = stops d in
+    let inv = d .before .before .before .before .before .before .loop .inv in
+    let n = d .before .before .update .kept .0 in
+    (omega arith, search needs, omega (arith, col .within), omega (arith, d .before .before .before .before .before .before .before .before .pre .0 .1))
 
 same-length-3 : tie.Need-same-length-3 Inv-loop μ-loop
 same-length-3 c =
     let d = c .before .before .before .before .before .before in
-    c .before .before .spent2 .kept .0 ∙ same-number d ∙ d .before .before .before .before .before .before .before .before .before .loop .inv .1
+    c .before .before .spent2 .kept .0 ∙ d .before .before .update .kept .0 ∙ d .before .before .before .before .before .before .loop .inv .1
 
 returns-3 : tie.Need-returns-3 Inv-loop μ-loop
-unfolding withPart
 returns-3 c =
     let d = c .before .before .before .before .before .before in
-    let e = sym (walk-part (d .before .before .before .before .before .before .before .before .before .before .before .args .terms) (d .before .before .before .before .before .before .before .before .before .before .before .args .budget) (d .before .before .before .before .before .before .before .before .before .loop .columns) (d .before .before .before .before .before .before .before .before .before .loop .row) (d .before .before .before .before .before .before .before .before .before .loop .m) (d .before .before .before .before .before .before .before .before .before .loop .left) (d .before .before .before .before .before .before .before .before .before .loop .work) (d .before .before .before .before .before .before .before .before .loop-test .taken) (d .before .before .before .before .before .before .before .if1 .left) (record { answer = d .before .before .pass .result; part = d .before .before .pass .last .0 }) (at-column d .update) (c .before .before .before .before .before .if2 .left) (c .before .before .before .before .if3 .taken)) ∙ d .before .before .before .before .before .before .before .before .before .loop .inv .5 in
+    let e = sym (walk-part (d .before .before .before .before .before .before .before .before .args .terms) (d .before .before .before .before .before .before .before .before .args .budget) (d .before .before .before .before .before .before .loop .columns) (d .before .before .before .before .before .before .loop .row) (d .before .before .before .before .before .before .loop .m) (d .before .before .before .before .before .before .loop .left) (d .before .before .before .before .before .before .loop .work) (d .before .before .before .before .before .loop-test .taken) (d .before .before .before .before .if1 .left) (d .before .before .update .result) (d .before .before .update .last .0) (d .before .before .update .ensures .0) (d .before .before .update .ensures .1) (c .before .before .before .before .before .if2 .left) (c .before .before .before .before .if3 .taken)) ∙ d .before .before .before .before .before .before .loop .inv .5 in
     (c .before .before .spent2 .ensures .0 ∙ ap (λ (w : Walk). w .answer) e, c .before .before .spent2 .ensures .1 ∙ ap (λ (w : Walk). w .words) e)
 
 sub-columns : tie.Need-sub-columns Inv-loop μ-loop
@@ -141,12 +104,11 @@ loop-less : tie.Need-loop-less Inv-loop μ-loop
 loop-less c = search needs
 
 loop-again : tie.Need-loop-again Inv-loop μ-loop
-unfolding withPart
 loop-again c =
     let d = c .before .before .before .before in
-    let inv = d .before .before .before .before .before .before .before .before .before .loop .inv in
-    let n = same-number d in
-    (omega arith, omega arith, omega arith, omega arith, omega arith, rw (c .top-shared .ensures) (sym (walk-next (d .before .before .before .before .before .before .before .before .before .before .before .args .terms) (d .before .before .before .before .before .before .before .before .before .before .before .args .budget) (d .before .before .before .before .before .before .before .before .before .loop .columns) (d .before .before .before .before .before .before .before .before .before .loop .row) (d .before .before .before .before .before .before .before .before .before .loop .m) (d .before .before .before .before .before .before .before .before .before .loop .left) (d .before .before .before .before .before .before .before .before .before .loop .work) (d .before .before .before .before .before .before .before .before .loop-test .taken) (d .before .before .before .before .before .before .before .if1 .left) (record { answer = d .before .before .pass .result; part = d .before .before .pass .last .0 }) (at-column d .update) (c .before .before .before .if2 .left) (c .before .before .if3 .left)) ∙ d .before .before .before .before .before .before .before .before .before .loop .inv .5))
+    let inv = d .before .before .before .before .before .before .loop .inv in
+    let n = d .before .before .update .kept .0 in
+    (omega arith, omega arith, omega arith, omega arith, omega arith, rw (c .top-shared .ensures) (sym (walk-next (d .before .before .before .before .before .before .before .before .args .terms) (d .before .before .before .before .before .before .before .before .args .budget) (d .before .before .before .before .before .before .loop .columns) (d .before .before .before .before .before .before .loop .row) (d .before .before .before .before .before .before .loop .m) (d .before .before .before .before .before .before .loop .left) (d .before .before .before .before .before .before .loop .work) (d .before .before .before .before .before .loop-test .taken) (d .before .before .before .before .if1 .left) (d .before .before .update .result) (d .before .before .update .last .0) (d .before .before .update .ensures .0) (d .before .before .update .ensures .1) (c .before .before .before .if2 .left) (c .before .before .if3 .left)) ∙ d .before .before .before .before .before .before .loop .inv .5))
 
 sub-finished : tie.Need-sub-finished Inv-loop μ-loop
 sub-finished c = search needs
@@ -173,15 +135,7 @@ walk-spec =
     spent-requires
     same-length
     returns
-    sub-line-of
-    line-of-requires
-    sub-smaller
-    smaller-requires
-    add-to
-    sub-pass
-    part-pass-start
-    part-pass-end
-    pass-requires
+    update-requires
     sub-left
     sub-left-2
     sub-found

@@ -1,7 +1,7 @@
 -- `score::below` meets its contract: each answer is the test that led to it. Assumes nothing.
 use borrow.Author.Tests.{lt-ltb, le-ltb}
-use Rattle.mapper.proofs.score.below.Statement.{statement}
-use Rattle.mapper.proofs.score.below.Tie as tie
+use Rattle.column.proofs.score.below.Statement.{statement}
+use Rattle.column.proofs.score.below.Tie as tie
 
 returns : tie.Need-returns
 returns c = simp (lt-ltb _ _ (c .if1 .taken))

@@ -1,8 +1,8 @@
--- `column::is_final` meets its contract: each answer follows from the tests that led to it. Assumes nothing.
+-- `cells::is_final` meets its contract: each answer follows from the tests that led to it. Assumes nothing.
 use borrow.Author.Tests.{le-leb, lt-leb, eq-eqb, ne-eqb}
-use Rattle.mapper.specs.Passing.{finalTest}
-use Rattle.mapper.proofs.column.is_final.Statement.{statement}
-use Rattle.mapper.proofs.column.is_final.Tie as tie
+use Rattle.column.specs.Passing.{finalTest}
+use Rattle.column.proofs.cells.is_final.Statement.{statement}
+use Rattle.column.proofs.cells.is_final.Tie as tie
 
 returns : tie.Need-returns
 unfolding finalTest

@@ -10,8 +10,8 @@ use mathlib.Core.List.{List}
 use borrow.Author.Tests.{lt-leb}
 use lib.Dec.{leb}
 use lib.ListN.{length, getD, set, length-set}
-use Rattle.mapper.specs.declared.column.Line.{Line}
-use Rattle.mapper.specs.Passing.{lowered, lineScore, bestWith, inReach, finalTest, Update, passRows}
+use Rattle.column.specs.declared.cells.Line.{Line}
+use Rattle.column.specs.Passing.{lowered, lineScore, bestWith, inReach, finalTest, Update, passRows}
 
 pub left-suc : (to i : ℕ) → i < to → to - i ≡ suc (to - (i + 1))
 left-suc to i h = omega arith

@@ -1,14 +1,14 @@
--- What a column's update does to any work words, made by start and steps or not.
+-- What passing the cells of a column answers, and what it leaves of any part of any work words, made by start and steps or not.
 -- Assumes nothing.
 use Prim.Native.Nat.{ℕ, zero, suc, _+_, _-_, _*_, _%_, max}
 use mathlib.Core.Bool.{Bool, true, false, cond, _&&_}
 use mathlib.Core.List.{List}
 use lib.Dec.{leb, ltb, eqb}
-use lib.ListN.{getD, set}
+use lib.ListN.{length, getD, set}
 use Rattle.counts.specs.Lists.{bit}
-use Rattle.mapper.specs.declared.column.Line.{Line}
-use Rattle.mapper.specs.declared.column.Passed.{Passed}
-use Rattle.mapper.specs.declared.column.Paused.{Paused}
+use Rattle.column.specs.declared.cells.Line.{Line}
+use Rattle.column.specs.declared.cells.Passed.{Passed}
+use Rattle.column.specs.declared.cells.Paused.{Paused}
 
 -- m less one or none, as a word
 abbrev pub lowered : ℕ → ℕ → ℕ
@@ -58,9 +58,13 @@ pub record Update : Type 0 where
   pub answer : Passed
   pub part : List ℕ
 
+-- what is answered where no cell is passed from row i on
+abbrev pub nonePassed : ℕ → ℕ → Passed
+nonePassed i m = record { found = false; row = i; m = m; score = 0 }
+
 -- the next n cells of the line from row i on, up to the first final one; `before` is what the rows before i have seen
 abbrev pub passRows : Line → ℕ → ℕ → ℕ → ℕ → List ℕ → Update
-passRows line zero i m before part = record { answer = record { found = false; row = i; m = m; score = 0 }; part = part }
+passRows line zero i m before part = record { answer = nonePassed i m; part = part }
 passRows line (suc n) i m before part =
     let s = lineScore line m (getD part i 0) in
     let best = bestWith part i before s in
@@ -70,3 +74,11 @@ passRows line (suc n) i m before part =
     cond (finalTest (line .threshold) s best one (line .back) i)
     (record { answer = record { found = true; row = suc i; m = m; score = s }; part = updated })
     later
+
+-- a part of three blocks of 2,048 words, in which the rows from `from` up to `to` lie
+unfoldable pub fits : List ℕ → ℕ → ℕ → Bool
+fits part from to = eqb (length part) 6144 && leb to 2048 && leb from to
+
+-- the cells of the rows from `from` up to `to`, up to the first final one; where the rows do not fit, none
+unfoldable pub columnPass : Line → ℕ → ℕ → ℕ → List ℕ → Update
+columnPass line from to m part = passRows line (cond (fits part from to) (to - from) 0) from m (seenBefore part from) part

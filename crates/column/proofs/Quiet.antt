@@ -12,10 +12,10 @@ use lib.Arith.{digits-mod}
 use lib.Dec.{leb, ltb, eqb}
 use lib.ListN.{length, getD, set, length-set}
 use Rattle.counts.specs.Lists.{bit}
-use Rattle.mapper.specs.declared.column.Line.{Line}
-use Rattle.mapper.specs.declared.column.Paused.{Paused}
-use Rattle.mapper.specs.Passing.{lowered, lineScore, bestWith, inReach, finalTest, Pause, quietRows, Update, passRows}
-use Rattle.mapper.proofs.Passing.{AtCell, left-suc, best-with, low-score}
+use Rattle.column.specs.declared.cells.Line.{Line}
+use Rattle.column.specs.declared.cells.Paused.{Paused}
+use Rattle.column.specs.Passing.{lowered, lineScore, bestWith, inReach, finalTest, Pause, quietRows, Update, passRows}
+use Rattle.column.proofs.Passing.{AtCell, left-suc, best-with, low-score}
 
 -- ---- one cell
 

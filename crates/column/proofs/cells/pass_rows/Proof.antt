@@ -1,4 +1,4 @@
--- `column::pass` meets its contract. The loop's invariant: what is left to pass gives the same answer and the same words as the
+-- `cells::pass_rows` meets its contract. The loop's invariant: what is left to pass gives the same answer and the same words as the
 -- whole. Assumes nothing.
 use Prim.Native.Nat.{_-_, _≤_, _<_}
 use mathlib.Core.Path.{_≡_, sym, ap, _∙_}
@@ -6,12 +6,12 @@ use mathlib.Core.Bool.{Bool, true, false}
 use lib.Dec.{ltb}
 use lib.ListN.{length}
 use Rattle.counts.specs.Lists.{bit}
-use Rattle.mapper.specs.Passing.{seenBefore, finalTest, Update, passRows}
-use Rattle.mapper.proofs.Quiet.{pace, pause-stop, pause-on}
+use Rattle.column.specs.Passing.{seenBefore, finalTest, Update, passRows}
+use Rattle.column.proofs.Quiet.{pace, pause-stop, pause-on}
 use native.Mathlib.Omega.{arith}
 use borrow.Author.Needs.{needs}
-use Rattle.mapper.proofs.column.pass.Statement.{statement}
-use Rattle.mapper.proofs.column.pass.Tie as tie
+use Rattle.column.proofs.cells.pass_rows.Statement.{statement}
+use Rattle.column.proofs.cells.pass_rows.Tie as tie
 
 abbrev Inv-loop : tie.InvT-loop
 Inv-loop part₀ line from to m0 m₀ best₀ i₀ part m best i =
@@ -49,7 +49,7 @@ raised-requires : tie.Need-raised-requires Inv-loop μ-loop
 raised-requires c κs = search needs
 
 same-length : tie.Need-same-length Inv-loop μ-loop
-same-length c = let d = c .before .before .before .before in paced d .3 ∙ sym (d .before .before .before .before .before .before .before .before .before .pre .0 .0)
+same-length c = let d = c .before .before .before .before in paced d .3 ∙ sym (d .before .before .before .before .before .before .before .before .before .pre .0)
 
 -- what `is_final` answered, of the pause
 judged : (b : tie.After-below Inv-loop μ-loop) (f : Bool) → (let line = b .before .before .before .before .before .before .before .before .before .before .args .line in let q = b .before .before .before .quiet .result in finalTest (line .threshold) (q .score) (q .best) (b .below .result) (line .back) (q .row - 1) ≡ f → finalTest (line .threshold) (q .score) (q .best) (bit (ltb (line .column) (q .reach))) (line .back) (q .row - 1) ≡ f)
@@ -79,8 +79,8 @@ returns-2 c =
     let e = rw n at (c .before .loop .inv .3) in
     (ap (λ (u : Update). u .answer) e, ap (λ (u : Update). u .part) e)
 
-pub pass-spec : {M : Type 1} → statement M
-pass-spec =
+pub pass-rows-spec : {M : Type 1} → statement M
+pass-rows-spec =
     tie.close
     (tie.spec
     Inv-loop

@@ -1,4 +1,4 @@
-// Passing the cells of one column.
+// Passing the cells of one column: up to a final one, or all of some rows. Assumes nothing.
 use crate::score::below;
 use crate::score::greater;
 use crate::score::lowered;
@@ -7,17 +7,22 @@ use crate::score::score_word;
 use start::words::BEST;
 use start::words::REACH;
 ghost use mathlib.Core.Path.{_≡_};
-ghost use Prim.Native.Nat.{ℕ, _-_, _≤_, _<_};
+ghost use Prim.Native.Nat.{ℕ, _+_, _-_, _≤_, _<_};
 ghost use lib.ListN.{length};
-ghost use Rattle.mapper.specs.Passing.{seenBefore, finalTest, quietRows, passRows};
+ghost use Rattle.column.specs.Passing.{seenBefore, finalTest, quietRows, nonePassed, passRows, fits as fitsPart, columnPass};
+
+// How many words the part has, and how many rows each of its three blocks.
+const PART: usize = 6144;
+
+const ROWS: usize = 2048;
 
 // What the cells of a column share: its number, the factors and the sum of the score words, the row from which its hit is
 // reasonable as a right end, and the threshold.
 pub struct Line {
     pub column: u32,
-    pub gain: u64,
-    pub v: u64,
-    pub base: u64,
+    pub gain: u32,
+    pub v: u32,
+    pub base: u32,
     pub back: usize,
     pub threshold: u32,
 }
@@ -38,6 +43,18 @@ pub struct Paused {
     pub best: u32,
     pub score: u32,
     pub reach: u32,
+}
+
+// What is answered where no cell is passed.
+fn none_passed(row: usize, m: u32) -> Passed
+    ensures { λ r. ⌜ r ≡ nonePassed row m ⌝ }
+{
+    Passed {
+        found: false,
+        row,
+        m,
+        score: 0,
+    }
 }
 
 // The greatest score word that the rows before this one have seen.
@@ -71,7 +88,6 @@ fn is_final(threshold: u32, s: u32, best: u32, one: u32, back: usize, row: usize
 // m, and the rows before it have seen best0. m and the row go on before the only test, so that the loop has one way on.
 fn quiet(part: &mut [u32], line: Line, from: usize, to: usize, m0: u32, best0: u32) -> Paused
     requires { ⌜ (length (now part) ≡ 6144) × (from ≤ to) × (to ≤ 2048) ⌝ }
-    requires { ⌜ (line .gain ≤ 3000) × (line .v ≤ 1000) × (line .base ≤ 17594333528064) ⌝ }
     ensures { λ r. ⌜ r ≡ quietRows line (to - from) from m0 best0 (now (part .entry)) .answer ⌝ }
     ensures { λ r. ⌜ now (part .exit) ≡ quietRows line (to - from) from m0 best0 (now (part .entry)) .part ⌝ }
 {
@@ -105,9 +121,8 @@ fn quiet(part: &mut [u32], line: Line, from: usize, to: usize, m0: u32, best0: u
 }
 
 // Passes the cells of rows from `from` up to `to`, or up to the first final one. m0 is the first cell's m.
-pub fn pass(part: &mut [u32], line: Line, from: usize, to: usize, m0: u32) -> Passed
+fn pass_rows(part: &mut [u32], line: Line, from: usize, to: usize, m0: u32) -> Passed
     requires { ⌜ (length (now part) ≡ 6144) × (from ≤ to) × (to ≤ 2048) ⌝ }
-    requires { ⌜ (line .gain ≤ 3000) × (line .v ≤ 1000) × (line .base ≤ 17594333528064) ⌝ }
     ensures { λ r. ⌜ r ≡ passRows line (to - from) from m0 (seenBefore (now (part .entry)) from) (now (part .entry)) .answer ⌝ }
     ensures { λ r. ⌜ now (part .exit) ≡ passRows line (to - from) from m0 (seenBefore (now (part .entry)) from) (now (part .entry)) .part ⌝ }
 {
@@ -144,9 +159,8 @@ pub fn pass(part: &mut [u32], line: Line, from: usize, to: usize, m0: u32) -> Pa
 }
 
 // Passes the one cell of this row, whose m is this. No loop, and the threshold first: steps of one cell pass here.
-pub fn pass_one(part: &mut [u32], line: Line, row: usize, m: u32) -> Passed
+fn pass_row(part: &mut [u32], line: Line, row: usize, m: u32) -> Passed
     requires { ⌜ (length (now part) ≡ 6144) × (row < 2048) ⌝ }
-    requires { ⌜ (line .gain ≤ 3000) × (line .v ≤ 1000) × (line .base ≤ 17594333528064) ⌝ }
     ensures { λ r. ⌜ r ≡ passRows line 1 row m (seenBefore (now (part .entry)) row) (now (part .entry)) .answer ⌝ }
     ensures { λ r. ⌜ now (part .exit) ≡ passRows line 1 row m (seenBefore (now (part .entry)) row) (now (part .entry)) .part ⌝ }
 {
@@ -179,4 +193,43 @@ pub fn pass_one(part: &mut [u32], line: Line, row: usize, m: u32) -> Passed
         m: rest,
         score: 0,
     }
+}
+
+// The part has its three blocks, and the rows from `from` up to `to` lie in them.
+fn fits(part: &[u32], from: usize, to: usize) -> bool
+    ensures { λ r. ⌜ r ≡ fitsPart (now (part .entry)) from to ⌝ }
+{
+    if part.len() != PART {
+        return false;
+    }
+    if ROWS < to {
+        return false;
+    }
+    from <= to
+}
+
+// Passes the cells of rows from `from` up to `to`, or up to the first final one. m0 is the first cell's m. Where the rows do not
+// fit, no cell is passed.
+pub fn pass(part: &mut [u32], line: Line, from: usize, to: usize, m0: u32) -> Passed
+    ensures { λ r. ⌜ r ≡ columnPass line from to m0 (now (part .entry)) .answer ⌝ }
+    ensures { λ _. ⌜ now (part .exit) ≡ columnPass line from to m0 (now (part .entry)) .part ⌝ }
+{
+    if fits(part, from, to) {
+        return pass_rows(part, line, from, to, m0);
+    }
+    none_passed(from, m0)
+}
+
+// Passes the one cell of this row, whose m is this, as `pass` does.
+pub fn pass_one(part: &mut [u32], line: Line, row: usize, m: u32) -> Passed
+    ensures { λ r. ⌜ r ≡ columnPass line row (row + 1) m (now (part .entry)) .answer ⌝ }
+    ensures { λ _. ⌜ now (part .exit) ≡ columnPass line row (row + 1) m (now (part .entry)) .part ⌝ }
+{
+    if ROWS <= row {
+        return none_passed(row, m);
+    }
+    if fits(part, row, row + 1) {
+        return pass_row(part, line, row, m);
+    }
+    none_passed(row, m)
 }

@@ -1,11 +1,11 @@
--- `walk::line_of` meets its contract. Assumes nothing.
+-- `update::line_of` meets its contract. Assumes nothing.
 use Prim.Native.Nat.{ℕ, _+_, _*_, _≤_}
 use native.Mathlib.Nat.{mul-le-mul}
 use Rattle.mapper.specs.Walking.{lineOf}
 use native.Mathlib.Omega.{arith}
 use borrow.Author.Needs.{needs}
-use Rattle.mapper.proofs.walk.line_of.Statement.{statement}
-use Rattle.mapper.proofs.walk.line_of.Tie as tie
+use Rattle.mapper.proofs.update.line_of.Statement.{statement}
+use Rattle.mapper.proofs.update.line_of.Tie as tie
 
 add-wider : tie.Need-add-wider
 add-wider c = search needs
@@ -34,24 +34,33 @@ wide-requires c κs = search needs
 cast-t10 : tie.Need-cast-t10
 cast-t10 c = search needs
 
-add-t12 : tie.Need-add-t12
-add-t12 c = search needs
+cast-t12 : tie.Need-cast-t12
+cast-t12 c = search needs
 
-add-t13 : tie.Need-add-t13
-add-t13 c = search needs
+cast-t13 : tie.Need-cast-t13
+cast-t13 c = search needs
+
+add-t14 : tie.Need-add-t14
+add-t14 c = search needs
+
+add-t15 : tie.Need-add-t15
+add-t15 c = search needs
 
 sum-bound : (v x size : ℕ) → v ≤ 1000 → x ≤ 4294967295 → size ≤ 4294967295 → v * (x + 1 + size) ≤ 8589934591000
 sum-bound v x size hv hx hs = mul-le-mul hv (let e : x + 1 + size ≤ 8589934591 = omega arith in e)
 
-mul-t14 : tie.Need-mul-t14
-mul-t14 c = let b = sum-bound (c .before .before .before .before .before .before .args .terms .v) (c .before .before .before .wider .result) (c .before .before .before .before .before .before .args .terms .size) (search needs) (search needs) (search needs) in omega arith
+mul-t16 : tie.Need-mul-t16
+mul-t16 c = let b = sum-bound (c .before .before .before .before .before .before .before .args .terms .v) (c .before .before .before .before .wider .result) (c .before .before .before .before .before .before .before .args .terms .size) (search needs) (search needs) (search needs) in omega arith
 
-sub-t15 : tie.Need-sub-t15
-sub-t15 c = let b = sum-bound (c .before .before .before .before .before .before .args .terms .v) (c .before .before .before .wider .result) (c .before .before .before .before .before .before .args .terms .size) (search needs) (search needs) (search needs) in omega arith
+sub-t17 : tie.Need-sub-t17
+sub-t17 c = let b = sum-bound (c .before .before .before .before .before .before .before .args .terms .v) (c .before .before .before .before .wider .result) (c .before .before .before .before .before .before .before .args .terms .size) (search needs) (search needs) (search needs) in omega arith
+
+cast-t19 : tie.Need-cast-t19
+cast-t19 c = search needs
 
 returns : tie.Need-returns
 unfolding lineOf
-returns c = rw (c .before .before .before .wider .ensures .0, c .before .wide .ensures .0)
+returns c = rw (c .before .before .before .before .wider .ensures .0, c .before .before .wide .ensures .0)
 
 pub line-of-spec : {M : Type 1} → statement M
 line-of-spec =
@@ -66,8 +75,11 @@ line-of-spec =
     shared-slice-read-wide
     wide-requires
     cast-t10
-    add-t12
-    add-t13
-    mul-t14
-    sub-t15
+    cast-t12
+    cast-t13
+    add-t14
+    add-t15
+    mul-t16
+    sub-t17
+    cast-t19
     returns)

@@ -1,15 +1,15 @@
--- `column::quiet` meets its contract. The loop's invariant: what is left to pass gives the same answer and the same words as the
+-- `cells::quiet` meets its contract. The loop's invariant: what is left to pass gives the same answer and the same words as the
 -- whole. Assumes nothing.
 use Prim.Native.Nat.{_-_, _≤_}
 use mathlib.Core.Path.{_≡_, refl, sym, ap, _∙_}
 use lib.ListN.{length, length-set}
-use Rattle.mapper.specs.Passing.{lineScore, inReach, Pause, quietRows}
-use Rattle.mapper.proofs.Passing.{AtCell}
-use Rattle.mapper.proofs.Quiet.{quiet-stop, quiet-on}
+use Rattle.column.specs.Passing.{lineScore, inReach, Pause, quietRows}
+use Rattle.column.proofs.Passing.{AtCell}
+use Rattle.column.proofs.Quiet.{quiet-stop, quiet-on}
 use native.Mathlib.Omega.{arith}
 use borrow.Author.Needs.{needs}
-use Rattle.mapper.proofs.column.quiet.Statement.{statement}
-use Rattle.mapper.proofs.column.quiet.Tie as tie
+use Rattle.column.proofs.cells.quiet.Statement.{statement}
+use Rattle.column.proofs.cells.quiet.Tie as tie
 
 abbrev Inv-loop : tie.InvT-loop
 Inv-loop part₀ line from to m0 best0 m₀ best₀ i₀ part m best i =

@@ -1,11 +1,11 @@
--- `column::pass_one` meets its contract: a column's update of one cell. Assumes nothing.
+-- `cells::pass_row` meets its contract: a column's update of one cell. Assumes nothing.
 use mathlib.Core.Path.{sym, ap, _∙_}
 use Prim.Native.Nat.{ℕ, max}
-use Rattle.mapper.specs.Passing.{lineScore, inReach, seenBefore, Update}
-use Rattle.mapper.proofs.Passing.{AtCell, below-threshold, one-stop, one-on}
+use Rattle.column.specs.Passing.{lineScore, inReach, seenBefore, Update}
+use Rattle.column.proofs.Passing.{AtCell, below-threshold, one-stop, one-on}
 use borrow.Author.Needs.{needs}
-use Rattle.mapper.proofs.column.pass_one.Statement.{statement}
-use Rattle.mapper.proofs.column.pass_one.Tie as tie
+use Rattle.column.proofs.cells.pass_row.Statement.{statement}
+use Rattle.column.proofs.cells.pass_row.Tie as tie
 
 best-before-requires : tie.Need-best-before-requires
 best-before-requires c κs = search needs
@@ -104,8 +104,8 @@ returns-3 c =
     let e = sym (one-on (d .before .before .before .before .before .before .before .before .before .before .before .args .line) (d .before .before .before .before .before .before .before .before .before .before .before .args .row) (d .before .before .before .before .before .before .before .before .before .before .before .args .m) (seenBefore (d .before .before .before .before .before .before .before .before .before .before .before .args .part .now) (d .before .before .before .before .before .before .before .before .before .before .before .args .row)) (d .before .before .before .before .before .before .before .before .before .before .before .args .part .now) (d .before .before .before .before .before .before .score-word .result) (d .before .before .before .before .below .result) (d .before .before .greater .result) (d .before .greater2 .result) (at-cell d) (d .lowered .result) (sym (c .before .is-final .ensures) ∙ c .if2 .left) (d .lowered .ensures)) in
     (ap (λ (u : Update). u .answer) e, ap (λ (u : Update). u .part) e)
 
-pub pass-one-spec : {M : Type 1} → statement M
-pass-one-spec =
+pub pass-row-spec : {M : Type 1} → statement M
+pass-row-spec =
     tie.close
     (tie.spec
     best-before-requires

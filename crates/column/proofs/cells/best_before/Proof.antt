@@ -1,13 +1,13 @@
--- `column::best_before` meets its contract. Assumes nothing.
+-- `cells::best_before` meets its contract. Assumes nothing.
 use Prim.Native.Nat.{ℕ, zero, suc, _+_, _-_}
 use native.Mathlib.Omega.{arith}
 use mathlib.Core.Path.{_≡_, refl, ap}
 use mathlib.Core.List.{List}
 use borrow.Author.Needs.{needs}
 use lib.ListN.{getD}
-use Rattle.mapper.specs.Passing.{seenBefore}
-use Rattle.mapper.proofs.column.best_before.Statement.{statement}
-use Rattle.mapper.proofs.column.best_before.Tie as tie
+use Rattle.column.specs.Passing.{seenBefore}
+use Rattle.column.proofs.cells.best_before.Statement.{statement}
+use Rattle.column.proofs.cells.best_before.Tie as tie
 
 row-before : (part : List ℕ) (row : ℕ) → (row ≡ 0 → ⊥) → getD part (4096 + row - 1) 0 ≡ seenBefore part row
 row-before part zero h = absurd (h refl)

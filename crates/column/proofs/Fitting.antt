@@ -1,0 +1,46 @@
+-- When rows fit a part: what passing them comes to where they do and where they do not.
+-- Assumes nothing.
+use Prim.Native.Nat.{ℕ, _-_, _≤_, _<_}
+use mathlib.Core.Path.{_≡_, refl}
+use mathlib.Core.Bool.{Bool, true, false, _&&_, false≢true}
+use mathlib.Core.List.{List}
+use borrow.Author.Tests.{eqb-true, leb-true, eq-eqb, le-leb, lt-leb}
+use lib.Dec.{leb, eqb}
+use lib.ListN.{length}
+use Rattle.column.specs.declared.cells.Line.{Line}
+use Rattle.column.specs.Passing.{seenBefore, Update, nonePassed, passRows, fits, columnPass}
+
+both : (a b : Bool) → (a && b) ≡ true → (a ≡ true) × (b ≡ true)
+both true true e = (e, e)
+both true false e = absurd (false≢true e)
+both false b e = absurd (false≢true e)
+
+module _ (part : List ℕ) (from to : ℕ) where
+  pub fits-says : fits part from to ≡ true → (length part ≡ 6144) × (from ≤ to) × (to ≤ 2048)
+  unfolding fits
+  fits-says e =
+      let outer = both (eqb (length part) 6144 && leb to 2048) (leb from to) e in
+      let inner = both (eqb (length part) 6144) (leb to 2048) (outer .0) in
+      (eqb-true (length part) 6144 (inner .0), leb-true from to (outer .1), leb-true to 2048 (inner .1))
+
+  pub fits-all : length part ≡ 6144 → from ≤ to → to ≤ 2048 → fits part from to ≡ true
+  unfolding fits
+  fits-all l a b = rw (eq-eqb (length part) 6144 l, le-leb to 2048 b, le-leb from to a)
+
+  -- a row past the blocks does not fit, whatever the part
+  pub fits-past : 2048 < to → fits part from to ≡ false
+  unfolding fits
+  fits-past l = rw (lt-leb to 2048 l) (go (eqb (length part) 6144))
+    where
+      go : (a : Bool) → (a && false && leb from to) ≡ false
+      go true = refl
+      go false = refl
+
+module _ (line : Line) (from to m : ℕ) (part : List ℕ) where
+  pub pass-fits : fits part from to ≡ true → columnPass line from to m part ≡ passRows line (to - from) from m (seenBefore part from) part
+  unfolding columnPass
+  pass-fits e = rw e
+
+  pub pass-none : fits part from to ≡ false → columnPass line from to m part ≡ record { answer = nonePassed from m; part = part }
+  unfolding columnPass
+  pass-none e = rw e

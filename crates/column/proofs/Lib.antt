@@ -1,0 +1,4 @@
+-- Laws of passing the cells of a column.
+pub mod Passing
+pub mod Quiet
+pub mod Fitting

@@ -1,0 +1,2 @@
+-- What passing the cells of a column does to any words.
+pub mod Passing

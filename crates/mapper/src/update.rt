@@ -1,0 +1,72 @@
+// The update of a column in the work words: cells of it are passed in the blocks that it is lent. Assumes nothing.
+use crate::place::Place;
+use column::cells::Line;
+use column::cells::Passed;
+use column::cells::pass;
+use column::cells::pass_one;
+use start::words::BACK;
+use start::words::INDEX;
+use start::words::PART_END;
+use start::words::wide;
+use start::words::wider;
+ghost use mathlib.Core.Path.{_≡_};
+ghost use Prim.Native.Nat.{ℕ, _-_, _≤_, _<_, min};
+ghost use lib.ListN.{length};
+ghost use Rattle.mapper.specs.Walking.{lineOf, columnUpdate, withPart};
+
+// What the score words of a session share: u + 2v, v, the pattern's length, and the threshold with its bias.
+pub struct Terms {
+    pub gain: u64,
+    pub v: u64,
+    pub size: u64,
+    pub threshold: u32,
+}
+
+// The smaller of two.
+fn smaller(a: usize, b: usize) -> usize
+    ensures { λ r. ⌜ r ≡ min a b ⌝ }
+{
+    if a < b { a } else { b }
+}
+
+// What the cells of column j share. The base has 2^44 added, so that words that no start made stay within range.
+fn line_of(work: &[u32], terms: Terms, j: usize) -> Line
+    requires { ⌜ (16384 ≤ length (now work)) × (j < 2048) × (terms .gain ≤ 3000) × (terms .v ≤ 1000) × (terms .size ≤ 4294967295) ⌝ }
+    ensures { λ r. ⌜ r ≡ lineOf (now (work .entry)) terms j ⌝ }
+{
+    let x = wider(work[INDEX + j]);
+    let back = wide(work[BACK + j]);
+    let v = terms.v;
+    Line {
+        column: j as u32,
+        gain: terms.gain as u32,
+        v: v as u32,
+        base: ((17594333528064 - v * (x + 1 + terms.size)) % 4294967296) as u32,
+        back,
+        threshold: terms.threshold,
+    }
+}
+
+// Passes cells of the last of the place's columns from its row on: at most `left` of them, and up to the first final one.
+pub fn update(work: &mut [u32], terms: Terms, place: Place, left: usize) -> Passed
+    requires { ⌜ (16384 ≤ length (now work)) × (1 ≤ place .columns) × (place .columns ≤ 2048) × (place .row ≤ place .columns) ⌝ }
+    requires { ⌜ (terms .gain ≤ 3000) × (terms .v ≤ 1000) × (terms .size ≤ 4294967295) ⌝ }
+    ensures { λ r. ⌜ r ≡ columnUpdate terms (place .columns - 1) (place .row) (place .m) left (now (work .entry)) .answer ⌝ }
+    ensures { λ _. ⌜ now (work .exit) ≡ withPart (now (work .entry)) (columnUpdate terms (place .columns - 1) (place .row) (place .m) left (now (work .entry)) .part) ⌝ }
+{
+    let line = line_of(work, terms, place.columns - 1);
+    let row = place.row;
+    let to = row + smaller(left, place.columns - row);
+    pass(&mut work[INDEX..PART_END], line, row, to, place.m)
+}
+
+// The same of one cell.
+pub fn update_one(work: &mut [u32], terms: Terms, place: Place) -> Passed
+    requires { ⌜ (16384 ≤ length (now work)) × (place .columns ≤ 2048) × (place .row < place .columns) ⌝ }
+    requires { ⌜ (terms .gain ≤ 3000) × (terms .v ≤ 1000) × (terms .size ≤ 4294967295) ⌝ }
+    ensures { λ r. ⌜ r ≡ columnUpdate terms (place .columns - 1) (place .row) (place .m) 1 (now (work .entry)) .answer ⌝ }
+    ensures { λ _. ⌜ now (work .exit) ≡ withPart (now (work .entry)) (columnUpdate terms (place .columns - 1) (place .row) (place .m) 1 (now (work .entry)) .part) ⌝ }
+{
+    let line = line_of(work, terms, place.columns - 1);
+    pass_one(&mut work[INDEX..PART_END], line, place.row, place.m)
+}
