@@ -77,7 +77,7 @@ pub extern "C" fn huddlewool_save(
     ensures { λ _. ⌜ now (number .exit) ≡ numberOf (saveReply k w (now (codes .entry)) (now (positions .entry)) (length (now (words .entry)))) ⌝ }
     ensures { λ _. ⌜ now (words .exit) ≡ saveWords k w (now (codes .entry)) (now (positions .entry)) (now (words .entry)) ⌝ }
 {
-    let answer = of_save(store::save(codes, positions, k, w, words));
+    let answer = of_save(saving::save(codes, positions, k, w, words));
     *number = answer.0;
     answer.1
 }
@@ -99,7 +99,7 @@ pub extern "C" fn huddlewool_load(
     ensures { λ _. ⌜ now (codes .exit) ≡ loadCodes (now (words .entry)) (now (codes .entry)) (now (positions .entry)) ⌝ }
     ensures { λ _. ⌜ now (positions .exit) ≡ loadPositions (now (words .entry)) (now (codes .entry)) (now (positions .entry)) ⌝ }
 {
-    let loaded = store::load(words, codes, positions);
+    let loaded = loading::load(words, codes, positions);
     let answer = of_load(loaded);
     *k_out = k_after(loaded, *k_out);
     *w_out = w_after(loaded, *w_out);

@@ -1,8 +1,8 @@
 -- How judging goes on, word by word: one law for each way that it takes, and the ways as one type, for proofs that go through all.
 -- Assumes nothing.
-use Prim.Native.Nat.{ℕ, suc, _+_, _≤_}
+use Prim.Native.Nat.{ℕ, suc, _≤_}
 use native.Mathlib.Omega.{arith}
-use mathlib.Core.Path.{_≡_, refl, ap}
+use mathlib.Core.Path.{_≡_, refl}
 use mathlib.Core.Logic.{_⊎_, inl, inr}
 use mathlib.Core.Bool.{Bool, true, false}
 use mathlib.Core.List.{List, [], _∷_}
@@ -10,11 +10,8 @@ use lib.Dec.{eqb}
 use lib.ListN.{length, getD, drop}
 use borrow.Author.Tests.{eqb-true}
 use Rattle.counts.proofs.Lists.{and-left, decided}
-use Rattle.counts.specs.Replies.{accepted, refused}
-use Rattle.sketch.specs.Kmers.{Entry}
 use Rattle.store.specs.Words.{kind, content, headerK, headerW, isHeader, isCode, isCodeWord, isPositionWord}
-use Rattle.store.specs.Load.{Judged, good, bad, withEntry, lastWord, judgeFrom, judge, storeK, storeW, entriesOf}
-use Rattle.store.specs.Answers.{counted}
+use Rattle.store.specs.Load.{Judged, good, bad, withEntry, lastWord, judgeFrom, judge, storeK, storeW}
 
 -- a word with a code is no last word
 pub code-not-last : (k x : ℕ) → isCodeWord k x ≡ true → eqb (kind x) 3 ≡ false
@@ -96,21 +93,6 @@ way k index n low (x ∷ y ∷ rest) =
     go r (inr h) e (inl c) (inl p) = rw (h, c, p) (entry c p r)
     go r (inr h) e (inl c) (inr p) = rw (h, c, p) (second c p)
     go r (inr h) e (inr c) p = rw (h, c) (first h c)
-
--- an entry counts as one that stood before
-pub counted-entry : (n : ℕ) (e : Entry) (j : Judged) → counted (suc n) j ≡ counted n (withEntry e j)
-counted-entry n e (good es) = ap (λ (m : ℕ). accepted (m ∷ [])) (omega arith)
-counted-entry n e (bad number index) = refl
-
--- a refusal that is counted is judging's own
-pub counted-bad : (n : ℕ) (j : Judged) {number i : ℕ} → refused number (i ∷ []) ≡ counted n j → j ≡ bad number i
-counted-bad n (good es) h = let z : _≡_ {A = ℕ} 0 1 = cc in absurd (omega arith)
-counted-bad n (bad number′ i′) h = cc
-
--- where a number of entries is counted, judging finds so many
-pub counted-good : (j : Judged) {n : ℕ} → accepted (n ∷ []) ≡ counted 0 j → (j ≡ good (entriesOf j)) × (length (entriesOf j) ≡ n)
-counted-good (good es) {n} h = let e : n ≡ 0 + length es = cc in (refl, omega arith)
-counted-good (bad number index) h = let z : _≡_ {A = ℕ} 0 1 = cc in absurd (omega arith)
 
 -- ---- word 0
 

@@ -1,6 +1,6 @@
 -- Laws of the words of a store: a kind and a content make a word and are read off it again, and so do k and w of word 0.
 -- Assumes nothing.
-use Prim.Native.Nat.{ℕ, _+_, _*_, _^_, _≤_, _<_}
+use Prim.Native.Nat.{ℕ, _+_, _*_, _^_, _≤_, _<_, min}
 use native.Mathlib.Nat.{le-trans, pow-le-pow-right}
 use native.Mathlib.Omega.{arith}
 use mathlib.Core.Path.{_≡_}
@@ -36,6 +36,11 @@ inside-range low high n h =
 pub isCode-below : (k x : ℕ) → isCode k x ≡ true → x < 4 ^ k
 unfolding isCode
 isCode-below k x h = ltb-true x (4 ^ k) h
+
+-- the test of a code, against the limit that `code_limit` computes
+pub isCode-limit : (k limit x : ℕ) → k ≤ kLimit → limit ≡ 4 ^ min k kLimit → isCode k x ≡ ltb x limit
+unfolding isCode
+isCode-limit k limit x h e = let same : min k kLimit ≡ k = omega arith in rw (e, same)
 
 -- a code fits below the kind
 pub code-fits : (k x : ℕ) → k ≤ kLimit → isCode k x ≡ true → x < kindUnit

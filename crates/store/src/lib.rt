@@ -1,14 +1,15 @@
-// The store of a sketch: `save` writes a sketch's entries as words of 32 bits, and `load` judges words and reads the entries back.
-mod layout;
-mod loading;
-mod saving;
-
-use loading::Verdict;
+// The store of a sketch: what `save` and `load` answer, how its words are laid out, and which codes and positions they hold.
+// Assumes nothing.
 ghost use mathlib.Core.Path.{_≡_};
-ghost use lib.ListN.{length};
-ghost use Rattle.store.specs.Save.{saveReply, saveWords};
-ghost use Rattle.store.specs.Load.{loadReply, loadCodes, loadPositions};
-ghost use Rattle.store.specs.Answers.{savedReply, loadedReply};
+ghost use Prim.Native.Nat.{_^_, min};
+ghost use Rattle.sketch.specs.Limits.{kLimit};
+ghost use Rattle.store.specs.Words.{isPosition};
+
+// What the kind multiplies: bit 30.
+pub const KIND_UNIT: u32 = 1073741824;
+
+// What w multiplies in word 0: bit 5.
+pub const W_UNIT: u32 = 32;
 
 // What `save` answers: the number of words written, or why nothing was.
 pub enum Saved {
@@ -30,55 +31,28 @@ pub enum Loaded {
     TooShort(usize),
 }
 
-// Writes the store of the entries in `codes` and `positions` to the front of `words`.
-pub fn save(codes: &[u32], positions: &[u32], k: u32, w: u32, words: &mut [u32]) -> Saved
-    ensures { λ r. ⌜ savedReply r ≡ saveReply k w (now (codes .entry)) (now (positions .entry)) (length (now (words .entry))) ⌝ }
-    ensures { λ _. ⌜ now (words .exit) ≡ saveWords k w (now (codes .entry)) (now (positions .entry)) (now (words .entry)) ⌝ }
+// 4^k, which codes are below; for a k above 15, that of 15.
+pub fn code_limit(k: u32) -> u32
+    ensures { λ r. ⌜ r ≡ 4 ^ min k kLimit ⌝ }
 {
-    if sketch::outside(1, sketch::K_LIMIT, k) {
-        return Saved::BadK;
+    let mut limit: u32 = 1;
+    let mut i = 0;
+    while i < sketch::K_LIMIT {
+        if i == k {
+            return limit;
+        }
+        limit *= 4;
+        i += 1;
     }
-    if sketch::outside(1, sketch::W_LIMIT, w) {
-        return Saved::BadW;
-    }
-    if codes.len() != positions.len() {
-        return Saved::BadEntries;
-    }
-    if !saving::are_storable(codes, positions, k) {
-        return Saved::BadEntries;
-    }
-    let needed = 2 * codes.len() + 2;
-    if words.len() < needed {
-        return Saved::TooShort(needed);
-    }
-    saving::write(codes, positions, k, w, words);
-    Saved::Words(needed)
+    limit
 }
 
-// Judges all of `words`, and only where it loads and both buffers have room writes the entries to their front.
-pub fn load(words: &[u32], codes: &mut [u32], positions: &mut [u32]) -> Loaded
-    ensures { λ r. ⌜ loadedReply r ≡ loadReply (now (words .entry)) (length (now (codes .entry))) (length (now (positions .entry))) ⌝ }
-    ensures { λ _. ⌜ now (codes .exit) ≡ loadCodes (now (words .entry)) (now (codes .entry)) (now (positions .entry)) ⌝ }
-    ensures { λ _. ⌜ now (positions .exit) ≡ loadPositions (now (words .entry)) (now (codes .entry)) (now (positions .entry)) ⌝ }
+// A position is at least `low`: one more than the position before it.
+pub fn is_position(x: u32, low: u32) -> bool
+    ensures { λ r. ⌜ r ≡ isPosition low x ⌝ }
 {
-    if words.len() == 0 {
-        return Loaded::BadHeader(0);
+    if x < low {
+        return false;
     }
-    let header = words[0];
-    if !layout::is_header(header) {
-        return Loaded::BadHeader(0);
-    }
-    let k = layout::header_k(header);
-    let w = layout::header_w(header);
-    match loading::judge(words, k) {
-        Verdict::BadWord(index) => Loaded::BadWord(index),
-        Verdict::BadEnd(index) => Loaded::BadEnd(index),
-        Verdict::Good(entries) => {
-            if codes.len() < entries || positions.len() < entries {
-                return Loaded::TooShort(entries);
-            }
-            loading::read(words, entries, codes, positions);
-            Loaded::Sketch { k, w, entries }
-        }
-    }
+    (x as usize) < sketch::LETTER_LIMIT
 }

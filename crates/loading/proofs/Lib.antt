@@ -1,0 +1,2 @@
+-- What the code's count of entries says of judging.
+pub mod Counted

@@ -1,0 +1,13 @@
+-- `loading::layout::content` meets its contract: the result is the definition itself.
+-- Assumes nothing.
+use mathlib.Core.Path.{refl}
+use Rattle.store.specs.Words.{content}
+use Rattle.loading.proofs.layout.content.Statement.{statement}
+use Rattle.loading.proofs.layout.content.Tie as tie
+
+returns : tie.Need-returns
+unfolding content
+returns c = refl
+
+pub content-spec : {M : Type 1} → statement M
+content-spec = tie.close (tie.spec returns)
