@@ -6,8 +6,8 @@ mod search;
 mod threshold;
 pub mod words;
 
-use crate::blocks::copy;
 use crate::blocks::fill;
+use crate::blocks::put_block;
 use crate::blocks::put_heading;
 use crate::blocks::zeros_2048;
 use crate::blocks::zeros_4096;
@@ -18,13 +18,10 @@ use crate::per_hit::put_whole;
 use crate::threshold::biased;
 use crate::words::BACK;
 use crate::words::BEST;
-use crate::words::HEADING;
 use crate::words::HIT_LIMIT;
 use crate::words::INDEX;
 use crate::words::PATTERN_LIMIT;
-use crate::words::REACH;
 use crate::words::WEIGHT_LIMIT;
-use crate::words::WHOLE;
 use crate::words::WORK_WORDS;
 use counts::sort_words;
 use sketch::TEXT_LIMIT;
@@ -72,20 +69,12 @@ fn put_words(
     ensures { λ _. ⌜ ((task : Task) → Prepared task u v size threshold (now (index .entry)) (now (backs .entry)) → now (work .exit) ≡ sessionWords task (now (work .entry)) 0) ⌝ }
 {
     let h = index.len();
-    copy(backs, &mut work[BACK..BACK + h]);
-    copy(index, &mut work[INDEX..INDEX + h]);
-    put_reach(backs, &mut work[INDEX + REACH..INDEX + REACH + h]);
-    fill(0, &mut work[INDEX + BEST..INDEX + BEST + h]);
-    let shared = put_whole(backs, &mut work[WHOLE..WHOLE + h]);
-    put_heading(
-        h as u32,
-        u,
-        v,
-        size,
-        threshold,
-        shared,
-        &mut work[..HEADING],
-    );
+    put_block(backs, BACK, work);
+    put_block(index, INDEX, work);
+    put_reach(backs, work);
+    fill(0, h, INDEX + BEST, work);
+    let shared = put_whole(backs, work);
+    put_heading(h as u32, u, v, size, threshold, shared, work);
 }
 
 // What is left of start once the pattern's words are in order: no work word is written before the number of hits is known.
