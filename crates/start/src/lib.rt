@@ -36,7 +36,7 @@ ghost use Rattle.mappings.specs.Limits.{weightLimit};
 ghost use Rattle.start.specs.WorkWords.{sessionWords};
 ghost use Rattle.start.specs.Start.{startReply, startWords, afterStart};
 ghost use Rattle.start.specs.Answers.{startedReply, taskOf, hitReply};
-ghost use Rattle.start.specs.Noting.{Prepared};
+ghost use Rattle.start.specs.Noting.{wordsAt, Begin, backs as backsOf, Prepared};
 
 // h, or why the call is refused: 7, 8, 9, 10, or 11 with h.
 pub enum Started {
@@ -77,6 +77,34 @@ fn put_words(
     put_heading(h as u32, u, v, size, threshold, shared, work);
 }
 
+// The same from the hits' indices and slots.
+fn put_session(
+    sorted: &[u32],
+    index: &[u32],
+    slots: &[u32],
+    u: u32,
+    v: u32,
+    threshold: u32,
+    work: &mut [u32],
+)
+    requires { ⌜ Begin (now sorted) (now slots) ⌝ }
+    requires { ⌜ (length (now sorted) ≤ 4096) × (length (now index) ≤ 2048) × (length (now slots) ≡ length (now index)) × (16384 ≤ length (now work)) ⌝ }
+    ensures { λ _. ⌜ ((task : Task) → Prepared task u v (length (now (sorted .entry))) threshold (now (index .entry)) (backsOf (now (sorted .entry)) (wordsAt (now (sorted .entry)) (now (slots .entry)))) → now (work .exit) ≡ sessionWords task (now (work .entry)) 0) ⌝ }
+{
+    let h = slots.len();
+    let mut backs = zeros_2048();
+    put_back(sorted, slots, &mut backs[..h]);
+    put_words(
+        index,
+        &backs[..h],
+        u,
+        v,
+        sorted.len() as u32,
+        threshold,
+        work,
+    );
+}
+
 // What is left of start once the pattern's words are in order: no work word is written before the number of hits is known.
 fn begin_sorted(
     text: &[u32],
@@ -96,14 +124,12 @@ fn begin_sorted(
     if HIT_LIMIT < h {
         return Started::TooManyHits(h);
     }
-    let mut backs = zeros_2048();
-    put_back(sorted, &slots[..h], &mut backs[..h]);
-    put_words(
+    put_session(
+        sorted,
         &index[..h],
-        &backs[..h],
+        &slots[..h],
         u,
         v,
-        sorted.len() as u32,
         biased(threshold),
         work,
     );
