@@ -1,6 +1,7 @@
 -- Laws about the work words, what start's functions ask and give, and examples that compute.
 pub mod Bias
 pub mod Tables
+mod Storing
 mod Ring
 mod Reaching
 mod Searching

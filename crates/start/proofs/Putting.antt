@@ -6,10 +6,9 @@ use native.Mathlib.Omega.{arith}
 use mathlib.Core.Path.{_≡_, refl, sym, ap, ap₂, _∙_}
 use mathlib.Core.Logic.{inl, inr}
 use mathlib.Core.List.{List, _++_}
-use lib.ListN.{length, getD, take, drop, replicate, length-append, length-drop, length-replicate, List·getD-append}
-use lib.Seq.{length-take-le, getD-append-add, getD-take, getD-drop, take-all}
+use lib.ListN.{length, getD, take, drop, replicate, length-replicate, List·getD-append}
+use lib.Seq.{length-take-le, getD-append-add, getD-take, getD-drop, take-all, sets, length-sets}
 use borrow.Author.Tests.{lt-ltb}
-use borrow.Rule.Slice.PartMut.{putMid, post-is}
 use Rattle.counts.specs.Counts.{occ}
 use Rattle.counts.proofs.Counts.{occ-le-length}
 use Rattle.mappings.specs.Bias.{biasedZ}
@@ -19,9 +18,10 @@ use Rattle.mappings.proofs.HitCodes.{length-hitCodes, cell-shared}
 use Rattle.start.specs.Tables.{reach, back, whole}
 use Rattle.start.specs.WorkWords.{columnsLeft, nextRow, nextShared, bestAfter, sessionWords}
 use Rattle.start.specs.Noting.{backs, reaches, zerosUpTo, freshHeading, Prepared}
+use Rattle.start.proofs.Storing.{store-is}
 use Rattle.start.proofs.Tables.{hit-codes-in}
-use Rattle.start.proofs.Reaching.{length-backs, getD-backs, length-zerosUpTo, getD-zerosUpTo, whole-zeros}
-use Rattle.start.proofs.WorkWords.{Outside, Free, hold-words, getD-table, length-table}
+use Rattle.start.proofs.Reaching.{length-backs, getD-backs, length-reaches, length-zerosUpTo, getD-zerosUpTo, whole-zeros}
+use Rattle.start.proofs.WorkWords.{Outside, Free, hold-words, getD-table}
 
 -- ---- one block
 
@@ -31,15 +31,19 @@ pub record Put (begins : ℕ) (block before after : List ℕ) : Type 0 where
   pub inside : (i : ℕ) → i < length block → getD after (begins + i) 0 ≡ getD block i 0
   pub outside : (n : ℕ) → Outside begins (length block) n → getD after n 0 ≡ getD before n 0
 
-put-at : (a : ℕ) (block before : List ℕ) → a + length block ≤ length before → Put a block before (take a before ++ (block ++ drop (a + length block) before))
-put-at a block before h = record {
-  same-length = omega (arith, length-append (take a before) (block ++ drop (a + length block) before), length-append block (drop (a + length block) before), length-drop (a + length block) before, first);
-  inside = λ i l. ap (λ (n : ℕ). getD words (n + i) 0) (sym first) ∙ getD-append-add (take a before) (block ++ drop (a + length block) before) i 0 ∙ List·getD-append block (drop (a + length block) before) 0 i l;
-  outside = out;
+-- a block that was stored is put
+put-at : (a : ℕ) (block before after : List ℕ) → after ≡ sets before a block → a + length block ≤ length before → Put a block before after
+put-at a block before after e h = record {
+  same-length = ap length e ∙ length-sets before a block;
+  inside = λ i l. rw is (ap (λ (n : ℕ). getD words (n + i) 0) (sym first) ∙ getD-append-add (take a before) (block ++ drop (a + length block) before) i 0 ∙ List·getD-append block (drop (a + length block) before) 0 i l);
+  outside = λ n o. rw is (out n o);
 }
   where
     words : List ℕ
     words = take a before ++ (block ++ drop (a + length block) before)
+
+    is : after ≡ words
+    is = e ∙ store-is a block before h
 
     first : length (take a before) ≡ a
     first = length-take-le a before (omega arith)
@@ -56,14 +60,6 @@ put-at a block before h = record {
         ∙ getD-append-add block (drop (a + length block) before) (n - (a + length block)) 0
         ∙ getD-drop (a + length block) before (n - (a + length block)) 0
         ∙ ap (λ (k : ℕ). getD before k 0) back
-
--- a part that was lent and has come back as `new`, which is the block
-put-mid : (a h : ℕ) (block before new : List ℕ) → new ≡ block → length block ≡ h → a + h ≤ length before → Put a block before (putMid a (a + h - a) before new)
-put-mid a h block before new e n l = rw (post-is a (a + h) before (omega arith), e, ← n) (put-at a block before (omega arith))
-
--- the same of a first part
-put-front : (k : ℕ) (block before new : List ℕ) → new ≡ block → length block ≡ k → k ≤ length before → Put 0 block before (new ++ drop k before)
-put-front k block before new e n l = let s : k ≡ 0 + length block = omega arith in rw (e, s) (put-at 0 block before (omega arith))
 
 -- ---- the place of a fresh session
 
@@ -120,8 +116,7 @@ module _ (task : Task) where
   index-long = refl
 
   reach-long : length (reaches p g) ≡ h
-  unfolding reaches
-  reach-long = length-table (reach p g) (length g) ∙ length-g
+  reach-long = length-reaches p g ∙ length-g
 
   best-long : length {A = ℕ} (replicate h 0) ≡ h
   best-long = length-replicate h 0
@@ -209,67 +204,52 @@ module _ (task : Task) where
       shared-word = head-at 9 (omega arith) ∙ shared-none task h refl ∙ sym (ap₂ (nextShared task) (columns-none h) (row-none h));
     })
 
--- ---- the parts that were lent, one after the other
+-- ---- from what start has at hand
 
--- the words with a part of h words from a on come back as `new`
-abbrev pub mid : ℕ → ℕ → List ℕ → List ℕ → List ℕ
-mid a h words new = putMid a (a + h - a) words new
-
-pub record Lent (task : Task) (u v size threshold m : ℕ) (index noted b₁ b₂ b₃ b₄ b₅ b₆ : List ℕ) : Type 0 where
+-- the blocks, stored one after the other
+pub record Stores (task : Task) (u v size threshold m : ℕ) (index noted old w₁ w₂ w₃ w₄ w₅ w₆ : List ℕ) : Type 0 where
   pub ready : Prepared task u v size threshold index noted
-  pub back-block : b₁ ≡ noted
-  pub index-block : b₂ ≡ index
-  pub reach-block : b₃ ≡ reaches (task .pattern) (hitCodes task)
-  pub best-block : b₄ ≡ replicate (length index) 0
-  pub whole-block : b₅ ≡ zerosUpTo noted
-  pub heading-block : b₆ ≡ freshHeading (length index) u v size threshold m
+  pub back-block : w₁ ≡ sets old 2048 noted
+  pub index-block : w₂ ≡ sets w₁ 4096 index
+  pub reach-block : w₃ ≡ sets w₂ 6144 (reaches (task .pattern) (hitCodes task))
+  pub best-block : w₄ ≡ sets w₃ 8192 (replicate (length index) 0)
+  pub whole-block : w₅ ≡ sets w₄ 10240 (zerosUpTo noted)
+  pub heading-block : w₆ ≡ sets w₅ 0 (freshHeading (length index) u v size threshold m)
   pub shared-is : m ≡ occ 0 noted
 
-module _ (task : Task) (u v size threshold m : ℕ) (index noted old b₁ b₂ b₃ b₄ b₅ b₆ : List ℕ) where
-  abbrev after₁ : List ℕ
-  after₁ = mid 2048 (length index) old b₁
-
-  abbrev after₂ : List ℕ
-  after₂ = mid 4096 (length index) after₁ b₂
-
-  abbrev after₃ : List ℕ
-  after₃ = mid 6144 (length index) after₂ b₃
-
-  abbrev after₄ : List ℕ
-  after₄ = mid 8192 (length index) after₃ b₄
-
-  abbrev after₅ : List ℕ
-  after₅ = mid 10240 (length index) after₄ b₅
-
-  pub lent-session : Lent task u v size threshold m index noted b₁ b₂ b₃ b₄ b₅ b₆ → length index ≤ 2048 → 16384 ≤ length old → b₆ ++ drop 10 after₅ ≡ sessionWords task old 0
-  lent-session lent small many =
-      puts-session task old after₁ after₂ after₃ after₄ after₅ (b₆ ++ drop 10 after₅)
+module _ (task : Task) (u v size threshold m : ℕ) (index noted old w₁ w₂ w₃ w₄ w₅ w₆ : List ℕ) where
+  pub stores-session : Stores task u v size threshold m index noted old w₁ w₂ w₃ w₄ w₅ w₆ → length index ≤ 2048 → 16384 ≤ length old → w₆ ≡ sessionWords task old 0
+  stores-session stores few many =
+      puts-session task old w₁ w₂ w₃ w₄ w₅ w₆
       (record { put-back = p₁; put-index = p₂; put-reach = p₃; put-best = p₄; put-whole = p₅; put-heading = p₆ })
-      (omega (arith, n)) many
+      small many
     where
       n : length index ≡ hitCount task
-      n = ap length (lent .ready .index-is) ∙ index-long task
+      n = ap length (stores .ready .index-is) ∙ index-long task
 
-      p₁ : Put 2048 (backs (task .pattern) (hitCodes task)) old after₁
-      p₁ = put-mid 2048 (length index) (backs (task .pattern) (hitCodes task)) old b₁ (lent .back-block ∙ lent .ready .backs-are) (back-long task ∙ sym n) (omega arith)
+      small : hitCount task ≤ 2048
+      small = rw (← n) few
 
-      p₂ : Put 4096 (hits task) after₁ after₂
-      p₂ = put-mid 4096 (length index) (hits task) after₁ b₂ (lent .index-block ∙ lent .ready .index-is) (index-long task ∙ sym n) (omega (arith, p₁ .same-length))
+      p₁ : Put 2048 (backs (task .pattern) (hitCodes task)) old w₁
+      p₁ = put-at 2048 (backs (task .pattern) (hitCodes task)) old w₁ (stores .back-block ∙ ap (sets old 2048) (stores .ready .backs-are)) (omega (arith, small, back-long task))
 
-      p₃ : Put 6144 (reaches (task .pattern) (hitCodes task)) after₂ after₃
-      p₃ = put-mid 6144 (length index) (reaches (task .pattern) (hitCodes task)) after₂ b₃ (lent .reach-block) (reach-long task ∙ sym n) (omega (arith, p₂ .same-length, p₁ .same-length))
+      p₂ : Put 4096 (hits task) w₁ w₂
+      p₂ = put-at 4096 (hits task) w₁ w₂ (stores .index-block ∙ ap (sets w₁ 4096) (stores .ready .index-is)) (omega (arith, small, index-long task, p₁ .same-length))
 
-      p₄ : Put 8192 (replicate (hitCount task) 0) after₃ after₄
-      p₄ = put-mid 8192 (length index) (replicate (hitCount task) 0) after₃ b₄ (lent .best-block ∙ ap (λ (k : ℕ). replicate k 0) n) (best-long task ∙ sym n) (omega (arith, p₃ .same-length, p₂ .same-length, p₁ .same-length))
+      p₃ : Put 6144 (reaches (task .pattern) (hitCodes task)) w₂ w₃
+      p₃ = put-at 6144 (reaches (task .pattern) (hitCodes task)) w₂ w₃ (stores .reach-block) (omega (arith, small, reach-long task, p₂ .same-length, p₁ .same-length))
 
-      p₅ : Put 10240 (zerosUpTo (backs (task .pattern) (hitCodes task))) after₄ after₅
-      p₅ = put-mid 10240 (length index) (zerosUpTo (backs (task .pattern) (hitCodes task))) after₄ b₅ (lent .whole-block ∙ ap zerosUpTo (lent .ready .backs-are)) (whole-long task ∙ sym n) (omega (arith, p₄ .same-length, p₃ .same-length, p₂ .same-length, p₁ .same-length))
+      p₄ : Put 8192 (replicate (hitCount task) 0) w₃ w₄
+      p₄ = put-at 8192 (replicate (hitCount task) 0) w₃ w₄ (stores .best-block ∙ ap (λ (k : ℕ). sets w₃ 8192 (replicate k 0)) n) (omega (arith, small, best-long task, p₃ .same-length, p₂ .same-length, p₁ .same-length))
+
+      p₅ : Put 10240 (zerosUpTo (backs (task .pattern) (hitCodes task))) w₄ w₅
+      p₅ = put-at 10240 (zerosUpTo (backs (task .pattern) (hitCodes task))) w₄ w₅ (stores .whole-block ∙ ap (λ (l : List ℕ). sets w₄ 10240 (zerosUpTo l)) (stores .ready .backs-are)) (omega (arith, small, whole-long task, p₄ .same-length, p₃ .same-length, p₂ .same-length, p₁ .same-length))
 
       zeros-are : m ≡ occ 0 (backs (task .pattern) (hitCodes task))
-      zeros-are = lent .shared-is ∙ ap (occ 0) (lent .ready .backs-are)
+      zeros-are = stores .shared-is ∙ ap (occ 0) (stores .ready .backs-are)
 
-      p₆ : Put 0 (heading task) after₅ (b₆ ++ drop 10 after₅)
-      p₆ =
-          put-front 10 (heading task) after₅ b₆
-          (lent .heading-block ∙ (let r = lent .ready in cc (n, zeros-are)))
-          refl (omega (arith, p₅ .same-length, p₄ .same-length, p₃ .same-length, p₂ .same-length, p₁ .same-length))
+      same-heading : freshHeading (length index) u v size threshold m ≡ heading task
+      same-heading = let r = stores .ready in cc (n, zeros-are)
+
+      p₆ : Put 0 (heading task) w₅ w₆
+      p₆ = put-at 0 (heading task) w₅ w₆ (stores .heading-block ∙ ap (sets w₅ 0) same-heading) (omega (arith, p₅ .same-length, p₄ .same-length, p₃ .same-length, p₂ .same-length, p₁ .same-length))

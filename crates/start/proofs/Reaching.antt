@@ -30,6 +30,10 @@ getD-backs p g j h = getD-table (back p g) (length g) j h
 
 -- ---- reach
 
+pub length-reaches : (p g : List ℕ) → length (reaches p g) ≡ length g
+unfolding reaches
+length-reaches p g = length-table (reach p g) (length g)
+
 pub pair-some : (b j : ℕ) (l : List ℕ) → 0 < b → set l (b - 1) j ≡ withPair b j l
 pair-some zero j l h = absurd (omega arith)
 pair-some (suc i) j l h = let e : suc i - 1 ≡ i = omega arith in ap (λ (n : ℕ). set l n j) e
@@ -94,7 +98,7 @@ module _ (p g : List ℕ) where
   told-all : (words : List ℕ) → length words ≡ length g → Told p g (length g) words → words ≡ reaches p g
   unfolding Told reaches
   told-all words n t =
-      ext-getD 0 words (reaches p g) (n ∙ sym (length-table (reach p g) (length g)))
+      ext-getD 0 words (reaches p g) (n ∙ sym (length-reaches p g))
       (λ i l. (let h : i < length g = omega arith in t i h ∙ settled i h ∙ sym (getD-table (reach p g) (length g) i h)))
     where
       settled : (i : ℕ) → i < length g → known (length g) (length g) (reach p g i) ≡ reach p g i

@@ -1,4 +1,5 @@
-// Blocks of words: arrays of zeros, and blocks of the work words filled with one word, copied, and the heading.
+// Blocks of words: arrays of zeros, and blocks of the work words, each written from an index of its own: one word again and again,
+// a copy, and the heading.
 use crate::words::COLUMNS;
 use crate::words::HITS;
 use crate::words::KIND;
@@ -10,7 +11,9 @@ use crate::words::THRESHOLD;
 use crate::words::U;
 use crate::words::V;
 ghost use mathlib.Core.Path.{_≡_};
+ghost use Prim.Native.Nat.{_+_, _≤_};
 ghost use lib.ListN.{length, replicate};
+ghost use lib.Seq.{sets};
 ghost use Rattle.counts.specs.Keys.{zeros};
 ghost use Rattle.start.specs.Noting.{freshHeading};
 
@@ -26,23 +29,25 @@ pub(crate) fn zeros_4096() -> [u32; 4096]
     [0u32; 4096]
 }
 
-pub(crate) fn fill(word: u32, block: &mut [u32])
-    ensures { λ _. ⌜ now (block .exit) ≡ replicate (length (now (block .entry))) word ⌝ }
+// n times this word, from an index on.
+pub(crate) fn fill(word: u32, n: usize, at: usize, work: &mut [u32])
+    requires { ⌜ at + n ≤ length (now work) ⌝ }
+    ensures { λ _. ⌜ now (work .exit) ≡ sets (now (work .entry)) at (replicate n word) ⌝ }
 {
     let mut i = 0;
-    while i < block.len() {
-        block[i] = word;
+    while i < n {
+        work[at + i] = word;
         i += 1;
     }
 }
 
-pub(crate) fn copy(words: &[u32], block: &mut [u32])
-    requires { ⌜ length (now block) ≡ length (now words) ⌝ }
-    ensures { λ _. ⌜ now (block .exit) ≡ now (words .entry) ⌝ }
+pub(crate) fn put_block(words: &[u32], at: usize, work: &mut [u32])
+    requires { ⌜ at + length (now words) ≤ length (now work) ⌝ }
+    ensures { λ _. ⌜ now (work .exit) ≡ sets (now (work .entry)) at (now (words .entry)) ⌝ }
 {
     let mut i = 0;
     while i < words.len() {
-        block[i] = words[i];
+        work[at + i] = words[i];
         i += 1;
     }
 }
@@ -54,19 +59,19 @@ pub(crate) fn put_heading(
     size: u32,
     threshold: u32,
     shared: u32,
-    heading: &mut [u32],
+    work: &mut [u32],
 )
-    requires { ⌜ length (now heading) ≡ 10 ⌝ }
-    ensures { λ _. ⌜ now (heading .exit) ≡ freshHeading h u v size threshold shared ⌝ }
+    requires { ⌜ 10 ≤ length (now work) ⌝ }
+    ensures { λ _. ⌜ now (work .exit) ≡ sets (now (work .entry)) 0 (freshHeading h u v size threshold shared) ⌝ }
 {
-    heading[HITS] = h;
-    heading[U] = u;
-    heading[V] = v;
-    heading[PASSED] = 0;
-    heading[KIND] = 0;
-    heading[SIZE] = size;
-    heading[THRESHOLD] = threshold;
-    heading[COLUMNS] = h;
-    heading[ROW] = 0;
-    heading[SHARED] = shared;
+    work[HITS] = h;
+    work[U] = u;
+    work[V] = v;
+    work[PASSED] = 0;
+    work[KIND] = 0;
+    work[SIZE] = size;
+    work[THRESHOLD] = threshold;
+    work[COLUMNS] = h;
+    work[ROW] = 0;
+    work[SHARED] = shared;
 }

@@ -6,8 +6,8 @@ mod search;
 mod threshold;
 pub mod words;
 
-use crate::blocks::copy;
 use crate::blocks::fill;
+use crate::blocks::put_block;
 use crate::blocks::put_heading;
 use crate::blocks::zeros_2048;
 use crate::blocks::zeros_4096;
@@ -18,13 +18,10 @@ use crate::per_hit::put_whole;
 use crate::threshold::biased;
 use crate::words::BACK;
 use crate::words::BEST;
-use crate::words::HEADING;
 use crate::words::HIT_LIMIT;
 use crate::words::INDEX;
 use crate::words::PATTERN_LIMIT;
-use crate::words::REACH;
 use crate::words::WEIGHT_LIMIT;
-use crate::words::WHOLE;
 use crate::words::WORK_WORDS;
 use counts::sort_words;
 use sketch::TEXT_LIMIT;
@@ -39,7 +36,7 @@ ghost use Rattle.mappings.specs.Limits.{weightLimit};
 ghost use Rattle.start.specs.WorkWords.{sessionWords};
 ghost use Rattle.start.specs.Start.{startReply, startWords, afterStart};
 ghost use Rattle.start.specs.Answers.{startedReply, taskOf, hitReply};
-ghost use Rattle.start.specs.Noting.{Prepared};
+ghost use Rattle.start.specs.Noting.{wordsAt, Begin, backs as backsOf, Prepared};
 
 // h, or why the call is refused: 7, 8, 9, 10, or 11 with h.
 pub enum Started {
@@ -72,19 +69,39 @@ fn put_words(
     ensures { λ _. ⌜ ((task : Task) → Prepared task u v size threshold (now (index .entry)) (now (backs .entry)) → now (work .exit) ≡ sessionWords task (now (work .entry)) 0) ⌝ }
 {
     let h = index.len();
-    copy(backs, &mut work[BACK..BACK + h]);
-    copy(index, &mut work[INDEX..INDEX + h]);
-    put_reach(backs, &mut work[INDEX + REACH..INDEX + REACH + h]);
-    fill(0, &mut work[INDEX + BEST..INDEX + BEST + h]);
-    let shared = put_whole(backs, &mut work[WHOLE..WHOLE + h]);
-    put_heading(
-        h as u32,
+    put_block(backs, BACK, work);
+    put_block(index, INDEX, work);
+    put_reach(backs, work);
+    fill(0, h, INDEX + BEST, work);
+    let shared = put_whole(backs, work);
+    put_heading(h as u32, u, v, size, threshold, shared, work);
+}
+
+// The same from the hits' indices and slots.
+fn put_session(
+    sorted: &[u32],
+    index: &[u32],
+    slots: &[u32],
+    u: u32,
+    v: u32,
+    threshold: u32,
+    work: &mut [u32],
+)
+    requires { ⌜ Begin (now sorted) (now slots) ⌝ }
+    requires { ⌜ (length (now sorted) ≤ 4096) × (length (now index) ≤ 2048) × (length (now slots) ≡ length (now index)) × (16384 ≤ length (now work)) ⌝ }
+    ensures { λ _. ⌜ ((task : Task) → Prepared task u v (length (now (sorted .entry))) threshold (now (index .entry)) (backsOf (now (sorted .entry)) (wordsAt (now (sorted .entry)) (now (slots .entry)))) → now (work .exit) ≡ sessionWords task (now (work .entry)) 0) ⌝ }
+{
+    let h = slots.len();
+    let mut backs = zeros_2048();
+    put_back(sorted, slots, &mut backs[..h]);
+    put_words(
+        index,
+        &backs[..h],
         u,
         v,
-        size,
+        sorted.len() as u32,
         threshold,
-        shared,
-        &mut work[..HEADING],
+        work,
     );
 }
 
@@ -107,14 +124,12 @@ fn begin_sorted(
     if HIT_LIMIT < h {
         return Started::TooManyHits(h);
     }
-    let mut backs = zeros_2048();
-    put_back(sorted, &slots[..h], &mut backs[..h]);
-    put_words(
+    put_session(
+        sorted,
         &index[..h],
-        &backs[..h],
+        &slots[..h],
         u,
         v,
-        sorted.len() as u32,
         biased(threshold),
         work,
     );

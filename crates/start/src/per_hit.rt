@@ -2,12 +2,16 @@
 use crate::blocks::fill;
 use crate::blocks::zeros_4096;
 use crate::hits::one_at;
+use crate::words::INDEX;
+use crate::words::REACH;
+use crate::words::WHOLE;
 use crate::words::wide;
 ghost use mathlib.Core.Path.{_≡_};
 ghost use mathlib.Core.List.{List};
-ghost use Prim.Native.Nat.{ℕ, _≤_, _<_};
+ghost use Prim.Native.Nat.{ℕ, _+_, _≤_, _<_};
 ghost use lib.Dec.{eqb};
 ghost use lib.ListN.{length, getD};
+ghost use lib.Seq.{sets};
 ghost use Rattle.counts.specs.Lists.{bit};
 ghost use Rattle.counts.specs.Counts.{occ};
 ghost use Rattle.start.specs.Noting.{wordsAt, Begin, AllIn, backs as backsOf, reaches, withPair, zerosUpTo};
@@ -55,17 +59,26 @@ fn put_pair(back: usize, j: u32, reach: &mut [u32])
 }
 
 // Reach of each hit, from back of each.
-pub(crate) fn put_reach(backs: &[u32], reach: &mut [u32])
+fn put_pairs(backs: &[u32], reach: &mut [u32])
     requires { ⌜ (length (now backs) ≤ 2048) × (length (now reach) ≡ length (now backs)) ⌝ }
     requires { ⌜ ((k : ℕ) → k < length (now backs) → getD (now backs) k 0 ≤ k) ⌝ }
     ensures { λ _. ⌜ ((p g : List ℕ) → AllIn p g → now (backs .entry) ≡ backsOf p g → now (reach .exit) ≡ reaches p g) ⌝ }
 {
-    fill(backs.len() as u32, reach);
+    fill(backs.len() as u32, backs.len(), 0, reach);
     let mut j = 0;
     while j < backs.len() {
         put_pair(wide(backs[j]), j as u32, reach);
         j += 1;
     }
+}
+
+// The same in its place among the work words.
+pub(crate) fn put_reach(backs: &[u32], work: &mut [u32])
+    requires { ⌜ (length (now backs) ≤ 2048) × (16384 ≤ length (now work)) ⌝ }
+    requires { ⌜ ((k : ℕ) → k < length (now backs) → getD (now backs) k 0 ≤ k) ⌝ }
+    ensures { λ _. ⌜ ((p g : List ℕ) → AllIn p g → now (backs .entry) ≡ backsOf p g → now (work .exit) ≡ sets (now (work .entry)) 6144 (reaches p g)) ⌝ }
+{
+    put_pairs(backs, &mut work[INDEX + REACH..INDEX + REACH + backs.len()]);
 }
 
 fn one_if_zero(x: u32) -> u32
@@ -74,16 +87,16 @@ fn one_if_zero(x: u32) -> u32
     if 0 == x { 1 } else { 0 }
 }
 
-// Whole of each hit, from back of each; it answers that of the last, or 0 where there is none.
-pub(crate) fn put_whole(backs: &[u32], whole: &mut [u32]) -> u32
-    requires { ⌜ (length (now backs) ≤ 2048) × (length (now whole) ≡ length (now backs)) ⌝ }
-    ensures { λ r. ⌜ (r ≡ occ 0 (now (backs .entry))) × (now (whole .exit) ≡ zerosUpTo (now (backs .entry))) ⌝ }
+// Whole of each hit, from back of each, in its place among the work words; it answers that of the last, or 0 where there is none.
+pub(crate) fn put_whole(backs: &[u32], work: &mut [u32]) -> u32
+    requires { ⌜ (length (now backs) ≤ 2048) × (16384 ≤ length (now work)) ⌝ }
+    ensures { λ r. ⌜ (r ≡ occ 0 (now (backs .entry))) × (now (work .exit) ≡ sets (now (work .entry)) 10240 (zerosUpTo (now (backs .entry)))) ⌝ }
 {
     let mut m: u32 = 0;
     let mut j = 0;
     while j < backs.len() {
         m += one_if_zero(backs[j]);
-        whole[j] = m;
+        work[WHOLE + j] = m;
         j += 1;
     }
     m

@@ -32,8 +32,6 @@ pub const ROW: usize = 8;
 
 pub const SHARED: usize = 9;
 
-pub const HEADING: usize = 10;
-
 // Blocks of one word a hit.
 pub const BACK: usize = 2048;
 

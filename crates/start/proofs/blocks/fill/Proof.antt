@@ -1,6 +1,6 @@
--- `blocks::fill` meets its contract: the first i words are written over those of the block. Assumes nothing.
+-- `blocks::fill` meets its contract. Assumes nothing.
 use borrow.Author.Needs.{needs}
-use Rattle.counts.proofs.Writing.{Written, written-more, written-all}
+use Rattle.start.proofs.Storing.{Stored, stored-none, stored-more, stored-all}
 use lib.ListN.{length, length-set, replicate, length-replicate, getD-replicate}
 use mathlib.Core.Path.{_≡_, refl, sym}
 use native.Mathlib.Omega.{arith}
@@ -11,19 +11,22 @@ use Rattle.start.proofs.blocks.fill.Reads as reads
 use Rattle.start.proofs.blocks.fill.Lts as lts
 
 abbrev Inv-loop : tie.InvT-loop
-Inv-loop word block₀ i₀ block i = (i ≤ length block₀) × (length block ≡ length block₀) × Written (replicate (length block₀) word) block₀ i block
+Inv-loop word n at work₀ i₀ work i = (i ≤ n) × (length work ≡ length work₀) × Stored at (replicate n word) work₀ i work
 
 abbrev μ-loop : tie.MeasureT-loop
-μ-loop word block₀ i₀ block i = length block₀ - i
+μ-loop word n at work₀ i₀ work i = n - i
 
 loop-holds : tie.Need-loop-holds Inv-loop μ-loop
-loop-holds c = (zero-le, refl, refl)
+loop-holds c = let args = c .args in (zero-le, refl, stored-none (args .at) (replicate (args .n) (args .word)) (args .work .now))
 
-mul-block : tie.Need-mul-block Inv-loop μ-loop
-mul-block c = search needs
+add-work : tie.Need-add-work Inv-loop μ-loop
+add-work c = search needs
 
-slice-write-block : tie.Need-slice-write-block Inv-loop μ-loop
-slice-write-block c = search needs
+mul-work : tie.Need-mul-work Inv-loop μ-loop
+mul-work c = search needs
+
+slice-write-work : tie.Need-slice-write-work Inv-loop μ-loop
+slice-write-work c = search needs
 
 add-i : tie.Need-add-i Inv-loop μ-loop
 add-i c = search needs
@@ -34,21 +37,20 @@ loop-less c = search needs
 loop-again : tie.Need-loop-again Inv-loop μ-loop
 loop-again c =
     let l = c .before .loop in
-    let block = c .before .before .args .block .now in
-    let word = c .before .before .args .word in
-    let n : length (replicate (length block) word) ≡ length block = length-replicate (length block) word in
-    let h : l .i < length block = omega arith in
-    (omega arith, simp length-set (l .inv .1), written-more (replicate (length block) word) block (l .i) (l .block) word (l .inv .2) (omega arith) (omega arith) (sym (getD-replicate (length block) (l .i) word 0 h)))
+    let args = c .before .before .args in
+    let m : length (replicate (args .n) (args .word)) ≡ args .n = length-replicate (args .n) (args .word) in
+    let h : l .i < args .n = omega arith in
+    (omega arith, simp length-set (l .inv .1), stored-more (args .at) (replicate (args .n) (args .word)) (args .work .now) (l .i) (l .work) (args .word) (l .inv .2) (omega arith) (sym (getD-replicate (args .n) (l .i) (args .word) 0 h)))
 
 same-length : tie.Need-same-length Inv-loop μ-loop
 same-length c = search needs
 
 returns : tie.Need-returns Inv-loop μ-loop
 returns c =
-    let block = c .before .before .args .block .now in
-    let word = c .before .before .args .word in
-    let n : length (replicate (length block) word) ≡ length block = length-replicate (length block) word in
-    written-all (replicate (length block) word) block (c .before .loop .i) (c .before .loop .block) (c .before .loop .inv .2) (omega arith) (omega arith)
+    let l = c .before .loop in
+    let args = c .before .before .args in
+    let m : length (replicate (args .n) (args .word)) ≡ args .n = length-replicate (args .n) (args .word) in
+    stored-all (args .at) (replicate (args .n) (args .word)) (args .work .now) (l .i) (l .work) (l .inv .2) (omega arith)
 
 pub fill-spec : {M : Type 1} → statement M
 fill-spec =
@@ -57,8 +59,9 @@ fill-spec =
     Inv-loop
     μ-loop
     loop-holds
-    mul-block
-    slice-write-block
+    add-work
+    mul-work
+    slice-write-work
     add-i
     loop-less
     loop-again

@@ -1,104 +1,79 @@
 -- `per_hit::put_reach` meets its contract. Assumes nothing.
 use borrow.Author.Needs.{needs}
-use Rattle.start.proofs.Reaching.{length-withPair}
-use lib.ListN.{length-replicate}
-use mathlib.Core.Path.{sym, ap, _∙_}
-use Prim.Native.Nat.{_<_}
-use Rattle.start.proofs.Reaching.{Told, told-filled, told-next, told-end}
-use Rattle.start.specs.Noting.{AllIn, backs as backsOf}
+use Rattle.start.proofs.Storing.{store-part}
+use Rattle.start.proofs.Reaching.{length-backs, length-reaches}
+use Rattle.start.specs.Noting.{reaches}
+use borrow.Rule.Slice.PartMut.{mid-len}
 use lib.ListN.{length}
-use mathlib.Core.List.{List}
-use mathlib.Core.Path.{_≡_}
+use mathlib.Core.Path.{_≡_, sym, ap, _∙_}
 use native.Mathlib.Omega.{arith}
-use Prim.Native.Nat.{ℕ, _-_, _≤_, zero-le}
+use Prim.Native.Nat.{_+_, _-_}
+use borrow.Author.Needs.{needs}
+use Rattle.start.proofs.Storing.{store-part}
+use Rattle.start.proofs.Reaching.{length-backs, length-reaches}
+use Rattle.start.specs.Noting.{reaches}
+use borrow.Rule.Slice.PartMut.{mid-len}
+use lib.ListN.{length}
+use mathlib.Core.Path.{_≡_, sym, ap, _∙_}
+use native.Mathlib.Omega.{arith}
+use Prim.Native.Nat.{_+_, _-_}
 use Rattle.start.proofs.per_hit.put_reach.Statement.{statement}
 use Rattle.start.proofs.per_hit.put_reach.Tie as tie
 use Rattle.start.proofs.per_hit.put_reach.Reads as reads
 use Rattle.start.proofs.per_hit.put_reach.Lts as lts
-use Rattle.start.proofs.blocks.fill.Reads as fill-reads
-use Rattle.start.proofs.per_hit.put_pair.Reads as put-pair-reads
-use Rattle.start.proofs.words.wide.Reads as wide-reads
+use Rattle.start.proofs.per_hit.put_pairs.Reads as put-pairs-reads
 
-abbrev Inv-loop : tie.InvT-loop
-Inv-loop backs reach₀ j₀ reach j =
-    (j ≤ length backs) × (length reach ≡ length backs)
-    × ((p g : List ℕ) → AllIn p g → backs ≡ backsOf p g → Told p g j reach)
+add-put-pairs : tie.Need-add-put-pairs
+add-put-pairs c = search needs
 
-abbrev μ-loop : tie.MeasureT-loop
-μ-loop backs reach₀ j₀ reach j = length backs - j
+add-put-pairs-2 : tie.Need-add-put-pairs-2
+add-put-pairs-2 c = search needs
 
-cast-fill : tie.Need-cast-fill Inv-loop μ-loop
-cast-fill c = search needs
+add-put-pairs-3 : tie.Need-add-put-pairs-3
+add-put-pairs-3 c = search needs
 
-fill-requires : tie.Need-fill-requires Inv-loop μ-loop
-fill-requires c κs = search needs
+mul-put-pairs : tie.Need-mul-put-pairs
+mul-put-pairs c = search needs
 
-loop-holds : tie.Need-loop-holds Inv-loop μ-loop
-loop-holds c =
-    let noted = c .before .before .before .before .before .before .args .backs .now in
-    let old = c .before .before .before .before .before .before .args .reach .now in
-    let filled = c .before .before .fill .ensures in
-    let n : length old ≡ length noted = c .before .before .before .before .before .before .pre .0 .1 in
-    (zero-le, ap length filled ∙ length-replicate (length old) (length noted) ∙ n, λ p g all e. told-filled p g noted e (c .before .before .fill .last .1 .0) (length old) n filled)
+sub-put-pairs : tie.Need-sub-put-pairs
+sub-put-pairs c = search needs
 
-mul-wide : tie.Need-mul-wide Inv-loop μ-loop
-mul-wide c = search needs
+part-put-pairs-start : tie.Need-part-put-pairs-start
+part-put-pairs-start c = search needs
 
-shared-slice-read-wide : tie.Need-shared-slice-read-wide Inv-loop μ-loop
-shared-slice-read-wide c = search needs
+part-put-pairs-end : tie.Need-part-put-pairs-end
+part-put-pairs-end c = search needs
 
-wide-requires : tie.Need-wide-requires Inv-loop μ-loop
-wide-requires c κs = search needs
+put-pairs-requires : tie.Need-put-pairs-requires
+put-pairs-requires c κs =
+    let start = c .before .before .before in
+    let h = length (start .args .backs .now) in
+    let many : 6144 + h - 6144 ≡ h = omega arith in
+    ((start .pre .0 .0, mid-len 6144 (6144 + h) (start .args .work .now) (omega (arith, start .pre .0)) ∙ many), start .pre .1)
 
-cast-put-pair : tie.Need-cast-put-pair Inv-loop μ-loop
-cast-put-pair c = search needs
+same-length : tie.Need-same-length
+same-length c = search needs
 
-put-pair-requires : tie.Need-put-pair-requires Inv-loop μ-loop
-put-pair-requires c κs =
-    let l : length (c .before .before .before .before .loop .reach) ≡ length (c .before .before .before .before .before .before .before .before .before .before .before .args .backs .now) = c .before .before .before .before .loop .inv .1 in
-    omega (arith, l, c .before .wide .ensures .0, c .before .before .before .before .before .before .before .before .before .before .before .pre .1 (c .before .before .before .before .loop .j) (c .before .before .before .loop-test .taken))
-
-add-j : tie.Need-add-j Inv-loop μ-loop
-add-j c = search needs
-
-loop-less : tie.Need-loop-less Inv-loop μ-loop
-loop-less c = search needs
-
-loop-again : tie.Need-loop-again Inv-loop μ-loop
-loop-again c =
-    let at = c .before .before .before .before .before .before .before .loop in
-    let noted = c .before .before .before .before .before .before .before .before .before .before .before .before .before .before .args .backs .now in
-    let paired = c .before .before .put-pair .ensures in
-    let h : at .j < length noted = c .before .before .before .before .before .before .loop-test .taken in (
-      omega arith,
-      ap length paired ∙ length-withPair (c .before .before .before .before .wide .result) (at .j) (at .reach) ∙ at .inv .1,
-      λ p g all e. told-next p g noted e all (at .reach) (c .before .before .put-pair .last .1 .1 .0) (at .j) (c .before .before .before .before .wide .result) h (at .inv .1) (c .before .before .before .before .wide .ensures .0) paired (at .inv .2 p g all e),
-    )
-
-same-length : tie.Need-same-length Inv-loop μ-loop
-same-length c = c .before .loop .inv .1 ∙ sym (c .before .before .before .before .before .before .before .before .pre .0 .1)
-
-returns : tie.Need-returns Inv-loop μ-loop
+returns : tie.Need-returns
 returns c =
-    let at = c .before .loop in
-    λ p g all e. told-end p g (c .before .before .before .before .before .before .before .before .args .backs .now) e (at .reach) (at .j) (at .inv .0) (c .loop-test .left) (at .inv .1) (at .inv .2 p g all e)
+    let start = c .before .before .before .before .before .before in
+    let pairs = c .before .before .put-pairs in
+    let noted = start .args .backs .now in
+    λ p g all e.
+    store-part 6144 (length noted) (reaches p g) (start .args .work .now) (pairs .last .1 .0) (pairs .ensures p g all e)
+    (length-reaches p g ∙ sym (ap length e ∙ length-backs p g)) (omega (arith, start .pre .0))
 
 pub put-reach-spec : {M : Type 1} → statement M
 put-reach-spec =
     tie.close
     (tie.spec
-    Inv-loop
-    μ-loop
-    cast-fill
-    fill-requires
-    loop-holds
-    mul-wide
-    shared-slice-read-wide
-    wide-requires
-    cast-put-pair
-    put-pair-requires
-    add-j
-    loop-less
-    loop-again
+    add-put-pairs
+    add-put-pairs-2
+    add-put-pairs-3
+    mul-put-pairs
+    sub-put-pairs
+    part-put-pairs-start
+    part-put-pairs-end
+    put-pairs-requires
     same-length
     returns)
