@@ -1,10 +1,10 @@
 // The place of a session: how many columns are left, the row of the next cell, and the m of that cell.
-use start::words::COLUMNS;
-use start::words::PASSED;
-use start::words::ROW;
-use start::words::SHARED;
-use start::words::WHOLE;
-use start::words::wider;
+use layout::COLUMNS;
+use layout::PASSED;
+use layout::ROW;
+use layout::SHARED;
+use layout::WHOLE;
+use layout::wider;
 ghost use mathlib.Core.Path.{_≡_};
 ghost use Prim.Native.Nat.{ℕ, _≤_};
 ghost use lib.ListN.{length};

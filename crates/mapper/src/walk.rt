@@ -10,7 +10,7 @@ use crate::update::update;
 use crate::update::update_one;
 use column::cells::Passed;
 use column::score::lowered;
-use start::words::INDEX;
+use layout::INDEX;
 ghost use mathlib.Core.Path.{_≡_};
 ghost use mathlib.Core.Bool.{cond};
 ghost use Prim.Native.Nat.{ℕ, _+_, _≤_, _<_};

@@ -1,16 +1,16 @@
 // The lines of a session's mappings and the last line, as many at a time as a lent buffer holds.
 // Assumes nothing.
 use crate::lines::put_last;
+use layout::HIT_LIMIT;
+use layout::HITS;
+use layout::PASSED;
+use layout::WORK_WORDS;
+use layout::wide;
+use layout::wider;
 use listing::huddlewool_per_mille;
 use listing::writing::put_line;
 use mapper::answer::Stepped;
 use mapper::session::step;
-use start::words::HIT_LIMIT;
-use start::words::HITS;
-use start::words::PASSED;
-use start::words::WORK_WORDS;
-use start::words::wide;
-use start::words::wider;
 ghost use mathlib.Core.Path.{_≡_};
 ghost use lib.ListN.{length, getD};
 ghost use Rattle.report.specs.Pieces.{cellsLeft, EndOf, MappingWritten, Fills};

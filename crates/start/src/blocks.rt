@@ -1,15 +1,15 @@
 // Blocks of words: arrays of zeros, and blocks of the work words, each written from an index of its own: one word again and again,
 // a copy, and the heading.
-use crate::words::COLUMNS;
-use crate::words::HITS;
-use crate::words::KIND;
-use crate::words::PASSED;
-use crate::words::ROW;
-use crate::words::SHARED;
-use crate::words::SIZE;
-use crate::words::THRESHOLD;
-use crate::words::U;
-use crate::words::V;
+use layout::COLUMNS;
+use layout::HITS;
+use layout::KIND;
+use layout::PASSED;
+use layout::ROW;
+use layout::SHARED;
+use layout::SIZE;
+use layout::THRESHOLD;
+use layout::U;
+use layout::V;
 ghost use mathlib.Core.Path.{_≡_};
 ghost use Prim.Native.Nat.{_+_, _≤_};
 ghost use lib.ListN.{length, replicate};

@@ -2,10 +2,10 @@
 use crate::blocks::fill;
 use crate::blocks::zeros_4096;
 use crate::hits::one_at;
-use crate::words::INDEX;
-use crate::words::REACH;
-use crate::words::WHOLE;
-use crate::words::wide;
+use layout::INDEX;
+use layout::REACH;
+use layout::WHOLE;
+use layout::wide;
 ghost use mathlib.Core.Path.{_≡_};
 ghost use mathlib.Core.List.{List};
 ghost use Prim.Native.Nat.{ℕ, _+_, _≤_, _<_};

@@ -1,5 +1,5 @@
 // Searching words in order: where the words from a given one on begin.
-use crate::words::PATTERN_LIMIT;
+use layout::PATTERN_LIMIT;
 ghost use mathlib.Core.Path.{_≡_};
 ghost use Prim.Native.Nat.{_≤_};
 ghost use lib.Dec.{ltb};

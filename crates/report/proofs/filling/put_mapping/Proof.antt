@@ -24,7 +24,7 @@ use Rattle.report.proofs.filling.put_mapping.Lts as lts
 use Rattle.listing.proofs.huddlewool_per_mille.Reads as huddlewool-per-mille-reads
 use Rattle.listing.proofs.writing.put_line.Reads as put-line-reads
 use Rattle.report.proofs.filling.end_of.Reads as end-of-reads
-use Rattle.start.proofs.words.wide.Reads as wide-reads
+use Rattle.layout.proofs.wide.Reads as wide-reads
 
 -- the answer of end_of
 module _ (c : tie.After-end-of) where

@@ -14,7 +14,7 @@ use Rattle.start.proofs.per_hit.put_pairs.Reads as reads
 use Rattle.start.proofs.per_hit.put_pairs.Lts as lts
 use Rattle.start.proofs.blocks.fill.Reads as fill-reads
 use Rattle.start.proofs.per_hit.put_pair.Reads as put-pair-reads
-use Rattle.start.proofs.words.wide.Reads as wide-reads
+use Rattle.layout.proofs.wide.Reads as wide-reads
 
 abbrev Inv-loop : tie.InvT-loop
 Inv-loop backs reach₀ j₀ reach j =

@@ -1,5 +1,5 @@
 // The layout of the work words: which word or block holds what, as docs/WORK_WORDS.md says in a table; and a word as a wider
-// number.
+// number. Assumes nothing.
 ghost use mathlib.Core.Path.{_≡_};
 ghost use Prim.Native.Nat.{_≤_};
 
