@@ -1,5 +1,4 @@
 -- `bad_weight` meets its contract. Assumes nothing.
-use borrow.Author.Needs.{needs}
 use borrow.Author.Tests.{lt-ltb, le-ltb}
 use Rattle.start.proofs.bad_weight.Statement.{statement}
 use Rattle.start.proofs.bad_weight.Tie as tie

@@ -1,5 +1,4 @@
 -- `blocks::zeros_4096` meets its contract: an array of zeros is the list of as many zeros. Assumes nothing.
-use borrow.Author.Needs.{needs}
 use Rattle.counts.specs.Keys.{zeros}
 use lib.ListN.{length-replicate}
 use mathlib.Core.Path.{refl, sym}

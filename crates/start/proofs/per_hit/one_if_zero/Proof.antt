@@ -1,5 +1,4 @@
 -- `per_hit::one_if_zero` meets its contract. Assumes nothing.
-use borrow.Author.Needs.{needs}
 use native.Mathlib.Nat.{le-refl}
 use Prim.Native.Nat.{zero-le}
 use borrow.Author.Tests.{eq-eqb, ne-eqb}

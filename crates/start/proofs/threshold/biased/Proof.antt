@@ -1,5 +1,4 @@
 -- `threshold::biased` meets its contract. Assumes nothing.
-use borrow.Author.Needs.{needs}
 use Rattle.start.proofs.Bias.{pos-cast, pos-add, pos-biased, neg-sub, neg-cast, neg-within, neg-biased}
 use Rattle.start.proofs.threshold.biased.Statement.{statement}
 use Rattle.start.proofs.threshold.biased.Tie as tie
