@@ -11,7 +11,7 @@ use lib.ListN.{length, getD, drop}
 use borrow.Author.Tests.{eqb-true}
 use Rattle.counts.proofs.Lists.{and-left, decided}
 use Rattle.counts.specs.Replies.{accepted, refused}
-use Rattle.sketch.specs.Kmers.{Entry}
+use Rattle.winnowing.specs.Kmers.{Entry}
 use Rattle.store.specs.Words.{kind, content, headerK, headerW, isHeader, isCode, isCodeWord, isPositionWord}
 use Rattle.store.specs.Load.{Judged, good, bad, withEntry, lastWord, judgeFrom, judge, storeK, storeW, entriesOf}
 use Rattle.store.specs.Answers.{counted}

@@ -3,7 +3,7 @@ ghost use mathlib.Core.Path.{_≡_};
 ghost use mathlib.Core.Bool.{_&&_};
 ghost use Prim.Native.Nat.{_^_, _≤_, _<_};
 ghost use lib.Dec.{eqb, ltb};
-ghost use Rattle.sketch.specs.Limits.{kLimit, wLimit};
+ghost use Rattle.winnowing.specs.Limits.{kLimit, wLimit};
 ghost use Rattle.store.specs.Words.{kindUnit, kind, content, word, header, headerK, headerW, isHeader, isPosition, isPositionWord};
 
 // What the kind multiplies: bit 30.
@@ -62,10 +62,10 @@ pub(crate) fn is_header(x: u32) -> bool
     if HEADER_LIMIT <= content(x) {
         return false;
     }
-    if sketch::outside(1, sketch::K_LIMIT, header_k(x)) {
+    if winnowing::outside(1, winnowing::K_LIMIT, header_k(x)) {
         return false;
     }
-    !sketch::outside(1, sketch::W_LIMIT, header_w(x))
+    !winnowing::outside(1, winnowing::W_LIMIT, header_w(x))
 }
 
 // 4^k, which codes are below.
@@ -104,7 +104,7 @@ pub(crate) fn is_position(x: u32, low: u32) -> bool
     if x < low {
         return false;
     }
-    wide(x) < sketch::LETTER_LIMIT
+    wide(x) < winnowing::LETTER_LIMIT
 }
 
 pub(crate) fn is_position_word(x: u32, low: u32) -> bool

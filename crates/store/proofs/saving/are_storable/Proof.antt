@@ -8,7 +8,7 @@ use lib.ListN.{length, drop, getD, drop-of-length-le}
 use borrow.Author.Needs.{needs}
 use borrow.Author.Tests.{lt-ltb, le-ltb, not-true, not-false}
 use denote.Ref.{now}
-use Rattle.sketch.specs.Kmers.{entries}
+use Rattle.winnowing.specs.Kmers.{entries}
 use Rattle.store.specs.Words.{isCode}
 use Rattle.store.specs.Save.{storable}
 use Rattle.store.proofs.WordLaws.{isPosition-range}
