@@ -8,9 +8,11 @@ use mathlib.Core.List.{List, [], _∷_}
 use lib.Dec.{ltb, eqb}
 use lib.ListN.{length}
 use Rattle.counts.specs.Replies.{Reply, accepted, refused}
-use Rattle.sketch.specs.Limits.{kLimit, wLimit, letterLimit, textLimit, outside}
-use Rattle.sketch.specs.Kmers.{Entry, entries}
-use Rattle.sketch.specs.Sketch.{sketch, checkedLetters, roomFor, sketchReply}
+use Rattle.winnowing.specs.Limits.{kLimit, wLimit, letterLimit, outside}
+use Rattle.sketch.specs.Limits.{textLimit}
+use Rattle.winnowing.specs.Kmers.{Entry, entries}
+use Rattle.winnowing.specs.Sketch.{sketch}
+use Rattle.sketch.specs.Replies.{checkedLetters, roomFor, sketchReply}
 use Rattle.strike.specs.Strike.{strikeLimit, struck, strikeReply}
 use Rattle.store.specs.Save.{stored, storable, saveReply}
 use Rattle.store.specs.Words.{isHeader, headerK}

@@ -17,7 +17,7 @@ use answers::w_after;
 use mapper::session::step;
 ghost use mathlib.Core.Path.{_≡_};
 ghost use lib.ListN.{length};
-ghost use Rattle.sketch.specs.Sketch.{sketchReply, sketchCodes, sketchPositions};
+ghost use Rattle.sketch.specs.Replies.{sketchReply, sketchCodes, sketchPositions};
 ghost use Rattle.strike.specs.Strike.{strikeReply, strikeCodes, strikePositions};
 ghost use Rattle.store.specs.Save.{saveReply, saveWords};
 ghost use Rattle.store.specs.Load.{loadReply, loadCodes, loadPositions};

@@ -40,10 +40,10 @@ pub(crate) fn is_header(x: u32) -> bool
     if HEADER_LIMIT <= content(x) {
         return false;
     }
-    if sketch::outside(1, sketch::K_LIMIT, header_k(x)) {
+    if winnowing::outside(1, winnowing::K_LIMIT, header_k(x)) {
         return false;
     }
-    !sketch::outside(1, sketch::W_LIMIT, header_w(x))
+    !winnowing::outside(1, winnowing::W_LIMIT, header_w(x))
 }
 
 pub(crate) fn is_code_word(x: u32, limit: u32) -> bool

@@ -7,8 +7,9 @@ use lib.IntN.{ℤ}
 use lib.ListN.{length, getD, take, drop}
 use lib.Signed.{mag}
 use Rattle.counts.specs.Replies.{accepted}
-use Rattle.sketch.specs.Kmers.{codes}
-use Rattle.sketch.specs.Sketch.{sketch, sketchReply, sketchCodes, sketchPositions}
+use Rattle.winnowing.specs.Kmers.{codes}
+use Rattle.winnowing.specs.Sketch.{sketch}
+use Rattle.sketch.specs.Replies.{sketchReply, sketchCodes, sketchPositions}
 use Rattle.strike.specs.Strike.{struck, strikeReply, strikeCodes}
 use Rattle.mappings.specs.Bias.{bias}
 use Rattle.mappings.specs.Score.{Task}

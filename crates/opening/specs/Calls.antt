@@ -3,8 +3,9 @@
 use Prim.Native.Nat.{ℕ}
 use mathlib.Core.List.{List}
 use Rattle.counts.specs.Replies.{Reply, accepted, refused}
-use Rattle.sketch.specs.Kmers.{Entry, codes, positions}
-use Rattle.sketch.specs.Sketch.{sketch, sketchReply}
+use Rattle.winnowing.specs.Kmers.{Entry, codes, positions}
+use Rattle.winnowing.specs.Sketch.{sketch}
+use Rattle.sketch.specs.Replies.{sketchReply}
 use Rattle.strike.specs.Strike.{struck, strikeReply}
 use Rattle.mappings.specs.Score.{Task}
 use Rattle.start.specs.Start.{startReply}

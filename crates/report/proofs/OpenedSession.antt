@@ -9,11 +9,12 @@ use mathlib.Core.List.{List, [], _∷_, _++_, map, Sublistᴰ, Sublistᴰ·slnil
 use lib.ListN.{length, getD, drop, length-append, length-map, List·getD-append}
 use Rattle.counts.specs.Lists.{keep}
 use Rattle.counts.specs.Replies.{Reply, accepted, refused, over, after}
-use Rattle.sketch.specs.Limits.{kLimit, letterLimit}
-use Rattle.sketch.specs.Kmers.{codes, positions}
-use Rattle.sketch.specs.Sketch.{sketch, sketchReply}
+use Rattle.winnowing.specs.Limits.{kLimit, letterLimit}
+use Rattle.winnowing.specs.Kmers.{codes, positions}
+use Rattle.winnowing.specs.Sketch.{sketch}
+use Rattle.sketch.specs.Replies.{sketchReply}
 use Rattle.sketch.proofs.Accepted.{sketch-limits}
-use Rattle.sketch.proofs.Laws.{positions-below}
+use Rattle.winnowing.proofs.Laws.{positions-below}
 use Rattle.strike.specs.Strike.{strikeReply}
 use Rattle.strike.proofs.Laws.{struck-positions-sublist, length-codes, length-positions}
 use Rattle.mappings.specs.Score.{Task}

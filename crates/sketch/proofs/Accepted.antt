@@ -10,8 +10,9 @@ use borrow.Author.Tests.{ltb-false}
 use Rattle.counts.specs.Replies.{accepted}
 use Rattle.counts.proofs.Lists.{or-neither}
 use Rattle.counts.proofs.Replies.{not-refused}
-use Rattle.sketch.specs.Limits.{kLimit, wLimit, letterLimit, outside}
-use Rattle.sketch.specs.Sketch.{sketch, checkedLetters, roomFor, sketchReply}
+use Rattle.winnowing.specs.Limits.{kLimit, wLimit, letterLimit, outside}
+use Rattle.winnowing.specs.Sketch.{sketch}
+use Rattle.sketch.specs.Replies.{checkedLetters, roomFor, sketchReply}
 
 -- the entries answered are those needed, and both buffers hold them
 pub record Held (n codeRoom positionRoom m : ℕ) : Type 0 where

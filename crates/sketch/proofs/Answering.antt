@@ -10,29 +10,15 @@ use lib.Dec.{ltb}
 use lib.ListN.{length}
 use borrow.Author.Tests.{ltb-false, lt-ltb, le-ltb}
 use Rattle.counts.specs.Replies.{Reply, accepted, refused, over}
-use Rattle.counts.proofs.Lists.{or-neither}
-use Rattle.sketch.specs.Limits.{kLimit, wLimit, letterLimit, outside}
-use Rattle.sketch.specs.Kmers.{codes, positions}
-use Rattle.sketch.specs.Sketch.{sketch, checkedLetters, roomFor, sketchReply, sketchCodes, sketchPositions}
-use Rattle.sketch.specs.Scan.{Written, wrote, written}
+use Rattle.winnowing.specs.Limits.{kLimit, wLimit, letterLimit, outside}
+use Rattle.winnowing.specs.Kmers.{codes, positions}
+use Rattle.winnowing.specs.Sketch.{sketch}
+use Rattle.sketch.specs.Replies.{checkedLetters, roomFor, sketchReply, sketchCodes, sketchPositions}
+use Rattle.winnowing.specs.Winnowed.{Written, wrote, written}
 use Rattle.sketch.specs.Answers.{replyOf, Sketches}
 use Rattle.sketch.specs.declared.Sketched.{Sketched}
 use Rattle.sketch.specs.declared.Sketched.the-variants.{Entries}
 use Rattle.sketch.proofs.Buffers.{written-all}
-
--- a number that is not outside is within
-not-outside : (low high n : ℕ) → outside low high n ≡ false → (low ≤ n) × (n ≤ high)
-not-outside low high n h =
-    let neither = or-neither (ltb n low) (ltb high n) h in
-    (ltb-false n low (neither .0), ltb-false high n (neither .1))
-
--- what the checks of k, w and the letters leave
-pub within-limits : (k w : ℕ) (letters : List ℕ) → outside 1 kLimit k ≡ false → outside 1 wLimit w ≡ false → length letters ≤ letterLimit
-    → (1 ≤ k) × (k ≤ kLimit) × (1 ≤ w) × (w ≤ wLimit) × (length letters ≤ letterLimit)
-within-limits k w letters h i l =
-    let for-k = not-outside 1 kLimit k h in
-    let for-w = not-outside 1 wLimit w i in
-    (for-k .0, for-k .1, for-w .0, for-w .1, l)
 
 module _ (k w : ℕ) (letters : List ℕ) (rest : Reply) where
   pub checked-k : outside 1 kLimit k ≡ true → checkedLetters k w letters rest ≡ refused 1 []

@@ -5,7 +5,7 @@ use mathlib.Core.Path.{_≡_}
 use mathlib.Core.List.{List, [], _∷_}
 use lib.ListN.{length}
 use Rattle.counts.specs.Replies.{Reply, accepted, refused}
-use Rattle.sketch.specs.Sketch.{sketchReply, sketchCodes, sketchPositions}
+use Rattle.sketch.specs.Replies.{sketchReply, sketchCodes, sketchPositions}
 use Rattle.sketch.specs.declared.Sketched.{Sketched}
 use Rattle.sketch.specs.declared.Sketched.the-variants.{Entries, BadK, BadW, TooManyLetters, TooShort}
 

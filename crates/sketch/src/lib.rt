@@ -1,23 +1,18 @@
 // Sketches of letters: the sketch in two buffers, and for a host program the count of its entries. Assumes nothing.
-mod kmers;
-mod letters;
-mod scan;
-mod windows;
-
+use winnowing::K_LIMIT;
+use winnowing::LETTER_LIMIT;
+use winnowing::W_LIMIT;
+use winnowing::outside;
+use winnowing::winnow;
 ghost use Prim.Native.Nat.{_≤_, min};
 ghost use mathlib.Core.Path.{_≡_};
 ghost use lib.ListN.{length};
-ghost use Rattle.sketch.specs.Limits.{kLimit, wLimit, letterLimit, outside};
-ghost use Rattle.sketch.specs.Sketch.{sketch, hostNumber, countReply};
+ghost use Rattle.winnowing.specs.Limits.{kLimit, wLimit, letterLimit};
+ghost use Rattle.winnowing.specs.Sketch.{sketch};
+ghost use Rattle.sketch.specs.Replies.{hostNumber, countReply};
 ghost use Rattle.sketch.specs.Answers.{Sketches};
 
-// The limits of document 01 on k, the window, the letters and the entries of a text.
-pub const K_LIMIT: u32 = 15;
-
-pub const W_LIMIT: u32 = 64;
-
-pub const LETTER_LIMIT: usize = 1048576;
-
+// The limit of document 01 on the entries of a text.
 pub const TEXT_LIMIT: usize = 65535;
 
 // What a sketch answers: the number of entries, or why it is refused.
@@ -29,27 +24,20 @@ pub enum Sketched {
     TooShort(usize),
 }
 
-// Whether n is outside low to high.
-pub fn outside(low: u32, high: u32, n: u32) -> bool
-    ensures { λ r. ⌜ r ≡ outside low high n ⌝ }
-{
-    n < low || high < n
-}
-
 fn lesser(a: usize, b: usize) -> usize
     ensures { λ r. ⌜ r ≡ min a b ⌝ }
 {
     if a < b { a } else { b }
 }
 
-// How many entries the sketch has: the scan with no room to write.
+// How many entries the sketch has: winnowing with no room to write.
 fn entries(letters: &[u8], k: u32, w: u32) -> usize
     requires { ⌜ (1 ≤ k) × (k ≤ kLimit) × (1 ≤ w) × (w ≤ wLimit) × (length (now letters) ≤ letterLimit) ⌝ }
     ensures { λ r. ⌜ r ≡ length (sketch k w (now (letters .entry))) ⌝ }
 {
     let mut codes = [0u32; 0];
     let mut positions = [0u32; 0];
-    scan::scan(letters, k, w, &mut codes, &mut positions, 0)
+    winnow(letters, k, w, &mut codes, &mut positions, 0)
 }
 
 // Writes the sketch of the letters into the two buffers. It has no more entries than there are letters, so they are counted first
@@ -68,13 +56,13 @@ pub fn sketch(letters: &[u8], k: u32, w: u32, codes: &mut [u32], positions: &mut
     }
     let room = lesser(codes.len(), positions.len());
     if letters.len() <= room {
-        return Sketched::Entries(scan::scan(letters, k, w, codes, positions, room));
+        return Sketched::Entries(winnow(letters, k, w, codes, positions, room));
     }
     let needed = entries(letters, k, w);
     if room < needed {
         return Sketched::TooShort(needed);
     }
-    Sketched::Entries(scan::scan(letters, k, w, codes, positions, room))
+    Sketched::Entries(winnow(letters, k, w, codes, positions, room))
 }
 
 // The count of entries that a sketch would have, or the refusal number negated.

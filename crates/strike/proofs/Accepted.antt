@@ -8,8 +8,9 @@ use lib.Dec.{ltb, eqb}
 use lib.ListN.{length}
 use Rattle.counts.specs.Replies.{accepted}
 use Rattle.counts.proofs.Replies.{not-refused}
-use Rattle.sketch.specs.Limits.{textLimit, outside}
-use Rattle.sketch.specs.Kmers.{entries}
+use Rattle.winnowing.specs.Limits.{outside}
+use Rattle.sketch.specs.Limits.{textLimit}
+use Rattle.winnowing.specs.Kmers.{entries}
 use Rattle.sketch.proofs.Accepted.{Held, room-held}
 use Rattle.strike.specs.Strike.{strikeLimit, struck, strikeReply}
 

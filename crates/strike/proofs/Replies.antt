@@ -12,8 +12,8 @@ use Rattle.counts.specs.Counts.{occ}
 use Rattle.counts.specs.Replies.{Reply, accepted, refused, after, over}
 use Rattle.counts.specs.Marks.{marksOf}
 use Rattle.sketch.specs.Limits.{textLimit}
-use Rattle.sketch.specs.Kmers.{codes, positions, entries}
-use Rattle.sketch.specs.Sketch.{roomFor}
+use Rattle.winnowing.specs.Kmers.{codes, positions, entries}
+use Rattle.sketch.specs.Replies.{roomFor}
 use Rattle.strike.specs.Strike.{strikeLimit, struck, strikeReply, strikeCodes, strikePositions}
 use Rattle.strike.specs.Marked.{markedWords}
 use Rattle.strike.proofs.Marked.{struck-codes, struck-positions, struck-number, marks-le-one}

@@ -11,10 +11,12 @@ use lib.IntN.{pos}
 use mir.Syntax.{w32}
 use mir.ValLaws.{toZ-pos}
 use Rattle.counts.specs.Replies.{accepted}
-use Rattle.sketch.specs.Limits.{kLimit, wLimit, letterLimit, outside}
-use Rattle.sketch.specs.Sketch.{sketch, hostNumber, countReply}
-use Rattle.sketch.proofs.Answering.{within-limits, checked-k, checked-w, checked-many, checked-all}
-use Rattle.sketch.proofs.Laws.{sketch-length}
+use Rattle.winnowing.specs.Limits.{kLimit, wLimit, letterLimit, outside}
+use Rattle.winnowing.specs.Sketch.{sketch}
+use Rattle.sketch.specs.Replies.{hostNumber, countReply}
+use Rattle.winnowing.proofs.Within.{within-limits}
+use Rattle.sketch.proofs.Answering.{checked-k, checked-w, checked-many, checked-all}
+use Rattle.winnowing.proofs.Laws.{sketch-length}
 use Rattle.sketch.proofs.huddlewool_count.Statement.{statement}
 use Rattle.sketch.proofs.huddlewool_count.Tie as tie
 
@@ -32,7 +34,7 @@ ranges : (c : tie.Else3)
     → (1 ≤ c .before .before .before .before .before .before .args .k) × (c .before .before .before .before .before .before .args .k ≤ kLimit) × (1 ≤ c .before .before .before .before .before .before .args .w) × (c .before .before .before .before .before .before .args .w ≤ wLimit) × (length (c .before .before .before .before .before .before .args .letters .now) ≤ letterLimit)
 ranges c =
     let all = passed c in
-    within-limits (c .before .before .before .before .before .before .args .k) (c .before .before .before .before .before .before .args .w) (c .before .before .before .before .before .before .args .letters .now) (all .0) (all .1) (all .2)
+    within-limits (c .before .before .before .before .before .before .args .k) (c .before .before .before .before .before .before .args .w) (length (c .before .before .before .before .before .before .args .letters .now)) (all .0) (all .1) (all .2)
 
 -- the count fits 31 bits
 small : (c : tie.After-entries) → c .entries .result < 2 ^ 31

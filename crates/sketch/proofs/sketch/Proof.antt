@@ -1,4 +1,4 @@
--- `sketch` meets its contract: the checks in 01's order, then the scan with room for all, or the refusal.
+-- `sketch` meets its contract: the checks in 01's order, then winnowing with room for all, or the refusal.
 -- Assumes nothing.
 use borrow.Author.Needs.{needs}
 use Prim.Native.Nat.{ℕ, _≤_, min}
@@ -9,11 +9,13 @@ use mathlib.Core.Bool.{false}
 use mathlib.Core.List.{[], _∷_}
 use lib.ListN.{length}
 use Rattle.counts.specs.Replies.{refused}
-use Rattle.sketch.specs.Limits.{kLimit, wLimit, letterLimit, outside}
-use Rattle.sketch.specs.Sketch.{sketch, roomFor, sketchReply}
+use Rattle.winnowing.specs.Limits.{kLimit, wLimit, letterLimit, outside}
+use Rattle.winnowing.specs.Sketch.{sketch}
+use Rattle.sketch.specs.Replies.{roomFor, sketchReply}
 use Rattle.sketch.specs.declared.Sketched.the-variants.{BadK, BadW, TooManyLetters, TooShort}
-use Rattle.sketch.proofs.Answering.{within-limits, checked-k, checked-w, checked-many, checked-all, room-short, room-enough, sketches-refused, sketches-accepted}
-use Rattle.sketch.proofs.Laws.{sketch-length}
+use Rattle.winnowing.proofs.Within.{within-limits, winnowed-within}
+use Rattle.sketch.proofs.Answering.{checked-k, checked-w, checked-many, checked-all, room-short, room-enough, sketches-refused, sketches-accepted}
+use Rattle.winnowing.proofs.Laws.{sketch-length}
 use Rattle.sketch.proofs.sketch.Statement.{statement}
 use Rattle.sketch.proofs.sketch.Tie as tie
 
@@ -31,7 +33,7 @@ ranges : (c : tie.Else3)
     → (1 ≤ c .before .before .before .before .before .before .before .before .args .k) × (c .before .before .before .before .before .before .before .before .args .k ≤ kLimit) × (1 ≤ c .before .before .before .before .before .before .before .before .args .w) × (c .before .before .before .before .before .before .before .before .args .w ≤ wLimit) × (length (c .before .before .before .before .before .before .before .before .args .letters .now) ≤ letterLimit)
 ranges c =
     let all = passed c in
-    within-limits (c .before .before .before .before .before .before .before .before .args .k) (c .before .before .before .before .before .before .before .before .args .w) (c .before .before .before .before .before .before .before .before .args .letters .now) (all .0) (all .1) (all .2)
+    within-limits (c .before .before .before .before .before .before .before .before .args .k) (c .before .before .before .before .before .before .before .before .args .w) (length (c .before .before .before .before .before .before .before .before .args .letters .now)) (all .0) (all .1) (all .2)
 
 -- what is left to answer then
 left : (c : tie.Else3) → sketchReply (c .before .before .before .before .before .before .before .before .args .k) (c .before .before .before .before .before .before .before .before .args .w) (c .before .before .before .before .before .before .before .before .args .letters .now) (length (c .before .before .before .before .before .before .before .before .args .codes .now)) (length (c .before .before .before .before .before .before .before .before .args .positions .now))
@@ -72,8 +74,8 @@ returns-3 c =
 lesser-requires : tie.Need-lesser-requires
 lesser-requires c κs = search needs
 
-scan-requires : tie.Need-scan-requires
-scan-requires c κs = (ranges (c .before .before .before .before), record { for-codes = omega (arith, c .before .before .before .lesser .ensures); for-positions = omega (arith, c .before .before .before .lesser .ensures) })
+winnow-requires : tie.Need-winnow-requires
+winnow-requires c κs = search needs
 
 same-length : tie.Need-same-length
 same-length c = search needs
@@ -87,11 +89,12 @@ returns-4 c =
     let letters = args .letters .now in
     let room = c .before .before .before .before .before .before .before .before .lesser .result in
     let least : room ≡ min (length (args .codes .now)) (length (args .positions .now)) = c .before .before .before .before .before .before .before .before .lesser .ensures in
-    let call = c .before .before .before .before .scan in
+    let call = c .before .before .before .before .winnow in
     let n = length (sketch (args .k) (args .w) letters) in
-    let fits : n ≤ room = le-trans (sketch-length (args .k) (args .w) letters (ranges (c .before .before .before .before .before .before .before .before .before) .0)) (c .before .before .before .before .before .before .before .if4 .taken) in
+    let limits = ranges (c .before .before .before .before .before .before .before .before .before) in
+    let fits : n ≤ room = le-trans (sketch-length (args .k) (args .w) letters (limits .0)) (c .before .before .before .before .before .before .before .if4 .taken) in
     sketches-accepted (args .k) (args .w) letters (args .codes .now) (args .positions .now) room (call .result) (call .last .1 .1 .1 .0) (call .last .1 .1 .1 .1 .0)
-    fits (omega arith) (omega arith) (call .ensures)
+    fits (omega arith) (omega arith) (call .ensures ∙ winnowed-within (args .k) (args .w) letters room (args .codes .now) (args .positions .now) limits (omega arith) (omega arith))
     (left (c .before .before .before .before .before .before .before .before .before) ∙ room-enough n (length (args .codes .now)) (length (args .positions .now)) (omega arith))
 
 entries-requires : tie.Need-entries-requires
@@ -107,8 +110,8 @@ returns-5 c =
     sketches-refused (args .k) (args .w) letters (args .codes .now) (args .positions .now) (TooShort needed) 4 (needed ∷ []) refl
     (left (c .before .before .before .before) ∙ room-short n (length (args .codes .now)) (length (args .positions .now)) (omega (arith, c .if5 .taken, c .before .before .before .lesser .ensures)) ∙ ap (λ (x : ℕ). refused 4 (x ∷ [])) (sym same))
 
-scan-requires-2 : tie.Need-scan-requires-2
-scan-requires-2 c κs = (ranges (c .before .before .before .before .before .before), record { for-codes = omega (arith, c .before .before .before .before .before .lesser .ensures); for-positions = omega (arith, c .before .before .before .before .before .lesser .ensures) })
+winnow-requires-2 : tie.Need-winnow-requires-2
+winnow-requires-2 c κs = search needs
 
 same-length-3 : tie.Need-same-length-3
 same-length-3 c = search needs
@@ -122,11 +125,12 @@ returns-6 c =
     let letters = args .letters .now in
     let room = c .before .before .before .before .before .before .before .before .before .before .lesser .result in
     let least : room ≡ min (length (args .codes .now)) (length (args .positions .now)) = c .before .before .before .before .before .before .before .before .before .before .lesser .ensures in
-    let call = c .before .before .before .before .scan2 in
+    let call = c .before .before .before .before .winnow2 in
     let n = length (sketch (args .k) (args .w) letters) in
+    let limits = ranges (c .before .before .before .before .before .before .before .before .before .before .before) in
     let fits : n ≤ room = subst (λ (x : ℕ). x ≤ room) (c .before .before .before .before .before .before .before .before .entries .ensures) (c .before .before .before .before .before .before .before .if5 .left) in
     sketches-accepted (args .k) (args .w) letters (args .codes .now) (args .positions .now) room (call .result) (call .last .1 .1 .1 .0) (call .last .1 .1 .1 .1 .0)
-    fits (omega arith) (omega arith) (call .ensures)
+    fits (omega arith) (omega arith) (call .ensures ∙ winnowed-within (args .k) (args .w) letters room (args .codes .now) (args .positions .now) limits (omega arith) (omega arith))
     (left (c .before .before .before .before .before .before .before .before .before .before .before) ∙ room-enough n (length (args .codes .now)) (length (args .positions .now)) (omega arith))
 
 pub sketch-spec : {M : Type 1} → statement M
@@ -139,13 +143,13 @@ sketch-spec =
     returns-2
     returns-3
     lesser-requires
-    scan-requires
+    winnow-requires
     same-length
     same-length-2
     returns-4
     entries-requires
     returns-5
-    scan-requires-2
+    winnow-requires-2
     same-length-3
     same-length-4
     returns-6)

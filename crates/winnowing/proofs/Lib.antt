@@ -1,0 +1,12 @@
+-- Laws about letters, ranks, windows and sketches, and examples that compute.
+pub mod Compute
+pub mod Cases
+pub mod Within
+pub mod Ranks
+pub mod Spans
+pub mod Codes
+pub mod Runs
+pub mod Steps
+pub mod Picks
+pub mod Passing
+pub mod Laws

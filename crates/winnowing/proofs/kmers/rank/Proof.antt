@@ -1,0 +1,19 @@
+-- `kmers::rank` meets its contract, by computing.
+-- Assumes nothing.
+use borrow.Author.Needs.{needs}
+use Rattle.winnowing.specs.Kmers.{rank}
+use Rattle.winnowing.proofs.kmers.rank.Statement.{statement}
+use Rattle.winnowing.proofs.kmers.rank.Tie as tie
+
+mul-result : tie.Need-mul-result
+mul-result c = search needs
+
+cast-result : tie.Need-cast-result
+cast-result c = search needs
+
+returns : tie.Need-returns
+unfolding rank
+returns c = search needs
+
+pub rank-spec : {M : Type 1} → statement M
+rank-spec = tie.close (tie.spec mul-result cast-result returns)

@@ -1,0 +1,19 @@
+-- `kmers::unrank` meets its contract, by computing.
+-- Assumes nothing.
+use borrow.Author.Needs.{needs}
+use Rattle.winnowing.specs.Scan.{unrank}
+use Rattle.winnowing.proofs.kmers.unrank.Statement.{statement}
+use Rattle.winnowing.proofs.kmers.unrank.Tie as tie
+
+mul-result : tie.Need-mul-result
+mul-result c = search needs
+
+cast-result : tie.Need-cast-result
+cast-result c = search needs
+
+returns : tie.Need-returns
+unfolding unrank
+returns c = search needs
+
+pub unrank-spec : {M : Type 1} → statement M
+unrank-spec = tie.close (tie.spec mul-result cast-result returns)

@@ -1,0 +1,57 @@
+// The winnowing of letters: their sketch in two buffers, as far as there is room. Assumes nothing.
+mod kmers;
+mod letters;
+mod scan;
+mod windows;
+
+ghost use mathlib.Core.Path.{_≡_};
+ghost use Rattle.winnowing.specs.Limits.{outside};
+ghost use Rattle.winnowing.specs.Winnowed.{wrote, isBeyond, winnowed};
+
+// The limits of document 01 on k, the window and the letters.
+pub const K_LIMIT: u32 = 15;
+
+pub const W_LIMIT: u32 = 64;
+
+pub const LETTER_LIMIT: usize = 1048576;
+
+// Whether n is outside low to high.
+pub fn outside(low: u32, high: u32, n: u32) -> bool
+    ensures { λ r. ⌜ r ≡ outside low high n ⌝ }
+{
+    n < low || high < n
+}
+
+// Whether k, w or the number of letters is beyond its limit, or a buffer shorter than the room.
+fn is_beyond(k: u32, w: u32, letters: usize, codes: usize, positions: usize, room: usize) -> bool
+    ensures { λ r. ⌜ r ≡ isBeyond k w letters codes positions room ⌝ }
+{
+    if outside(1, K_LIMIT, k) {
+        return true;
+    }
+    if outside(1, W_LIMIT, w) {
+        return true;
+    }
+    if LETTER_LIMIT < letters {
+        return true;
+    }
+    codes < room || positions < room
+}
+
+// Writes the first entries of the letters' sketch into the two buffers, as many as there is room for, and answers how many it has.
+// Beyond a limit nothing is written, and the answer is 0.
+pub fn winnow(
+    letters: &[u8],
+    k: u32,
+    w: u32,
+    codes: &mut [u32],
+    positions: &mut [u32],
+    room: usize,
+) -> usize
+    ensures { λ r. ⌜ wrote r (now (codes .exit)) (now (positions .exit)) ≡ winnowed k w (now (letters .entry)) room (now (codes .entry)) (now (positions .entry)) ⌝ }
+{
+    if is_beyond(k, w, letters.len(), codes.len(), positions.len(), room) {
+        return 0;
+    }
+    scan::scan(letters, k, w, codes, positions, room)
+}

@@ -1,0 +1,174 @@
+// Windows of k-mers: the scan of a run's letters, and the k-mers that its windows pick. Assumes nothing.
+ghost use Prim.Native.Nat.{suc, _+_, _-_, _≤_, _<_};
+ghost use mathlib.Core.Path.{_≡_};
+ghost use lib.ListN.{length};
+ghost use Rattle.winnowing.specs.Limits.{wLimit, letterLimit};
+ghost use Rattle.winnowing.specs.Places.{codeAt, runEnd};
+ghost use Rattle.winnowing.specs.Scan.{ringAt, ringSize, Ready, Begun, Scanned, Filled, Passes, pickedFrom, IsLowest, HasRoom, IsPut};
+use crate::kmers::next_code;
+use crate::kmers::rank;
+use crate::kmers::unrank;
+use crate::letters::FOREIGN;
+use crate::letters::value_at;
+
+// How many ranks the ring holds.
+pub(crate) const RING: usize = 64;
+
+// A position, and the code in hand there.
+pub(crate) struct Reached {
+    pub(crate) at: usize,
+    pub(crate) code: u32,
+}
+
+// Where a run ended, and the entries found up to there.
+pub(crate) struct Passed {
+    pub(crate) at: usize,
+    pub(crate) entries: usize,
+}
+
+// One more entry: counted, and written where there is room.
+pub(crate) fn put(
+    codes: &mut [u32],
+    positions: &mut [u32],
+    room: usize,
+    n: usize,
+    code: u32,
+    position: usize,
+) -> usize
+    requires { ⌜ HasRoom room (now codes) (now positions) × (n < letterLimit) × (position < letterLimit) ⌝ }
+    ensures { λ r. ⌜ IsPut room n code position r (now (codes .entry)) (now (positions .entry)) (now (codes .exit)) (now (positions .exit)) ⌝ }
+{
+    if room <= n {
+        return n + 1;
+    }
+    codes[n] = code;
+    positions[n] = position as u32;
+    n + 1
+}
+
+// The position of the lowest rank, the rightmost of equal ones, among neighbouring positions.
+pub(crate) fn lowest(ring: &[u32], from: usize, to: usize) -> usize
+    requires { ⌜ (length (now ring) ≡ ringSize) × (from < to) ⌝ }
+    ensures { λ r. ⌜ IsLowest (ringAt (now (ring .entry))) from to r ⌝ }
+{
+    let mut low_at = from;
+    let mut low = ring[from % RING];
+    let mut q = from + 1;
+    while q < to {
+        let found = ring[q % RING];
+        let here = q;
+        q += 1;
+        // An equal rank further right is lower.
+        if found <= low {
+            low_at = here;
+            low = found;
+        }
+    }
+    low_at
+}
+
+// Reads the letters in front of the last one of a run's first k-mer.
+pub(crate) fn first_letters(letters: &[u8], values: &[u8], from: usize, last: usize) -> Reached
+    requires { ⌜ Ready (now letters) (now values) from last ⌝ }
+    ensures { λ r. ⌜ Begun (now (letters .entry)) from last (r .at) (r .code) ⌝ }
+{
+    let to = from + last;
+    let mut at = from;
+    let mut code: u32 = 0;
+    while at < to {
+        let v = value_at(letters, values, at);
+        if v == FOREIGN {
+            return Reached { at, code };
+        }
+        code = code * 4 + v as u32;
+        at += 1;
+    }
+    Reached { at, code }
+}
+
+// Reads the k-mers of a run's first window into the ring.
+pub(crate) fn first_window(
+    letters: &[u8],
+    values: &[u8],
+    ring: &mut [u32],
+    from: usize,
+    last: usize,
+    w: usize,
+    begun: u32,
+) -> Reached
+    requires { ⌜ Ready (now letters) (now values) from last ⌝ }
+    requires { ⌜ (w ≤ wLimit) × (length (now ring) ≡ ringSize) ⌝ }
+    requires { ⌜ (from + last ≤ runEnd (now letters) from) × (begun ≡ codeAt last (now letters) from) ⌝ }
+    ensures { λ r. ⌜ Filled last w (now (letters .entry)) (now (ring .exit)) from (r .at) (r .code) ⌝ }
+{
+    let to = from + w;
+    let mut at = from;
+    let mut code = begun;
+    while at < to {
+        let v = value_at(letters, values, at + last);
+        if v == FOREIGN {
+            return Reached { at, code };
+        }
+        code = next_code(code, v, last);
+        ring[at % RING] = rank(code);
+        at += 1;
+    }
+    Reached { at, code }
+}
+
+// Passes the windows of a run, the first of which is in the ring, and puts each pick that is new: a pick changes where the lowest
+// has left the window, which is then searched, or where a new rank is not above it.
+pub(crate) fn pass_windows(
+    letters: &[u8],
+    values: &[u8],
+    ring: &mut [u32],
+    last: usize,
+    w: usize,
+    reached: Reached,
+    codes: &mut [u32],
+    positions: &mut [u32],
+    room: usize,
+    before: usize,
+) -> Passed
+    requires { ⌜ Ready (now letters) (now values) (reached .at) last ⌝ }
+    requires { ⌜ (1 ≤ w) × (w ≤ wLimit) × (w ≤ reached .at) × (before < reached .at) ⌝ }
+    requires { ⌜ reached .at + last ≤ runEnd (now letters) (reached .at) ⌝ }
+    requires { ⌜ Scanned last (now letters) (now ring) (reached .at - w) (reached .at) (reached .code) ⌝ }
+    requires { ⌜ HasRoom room (now codes) (now positions) ⌝ }
+    ensures { λ r. ⌜ Passes room (now (letters .entry)) (reached .at) before (r .at) (r .entries) (now (codes .entry)) (now (positions .entry)) (now (codes .exit)) (now (positions .exit))
+        (pickedFrom (suc last) w (now (letters .entry)) (runEnd (now (letters .entry)) (reached .at) - last) (reached .at - w) (reached .at - w)) ⌝ }
+{
+    let mut p = reached.at;
+    let mut code = reached.code;
+    let mut n = before;
+    'windows: loop {
+        let mut low_at = lowest(ring, p - w, p);
+        let mut low = ring[low_at % RING];
+        n = put(codes, positions, room, n, unrank(low), low_at);
+        loop {
+            let v = value_at(letters, values, p + last);
+            // The run ends, and with it its windows.
+            if v == FOREIGN {
+                break 'windows;
+            }
+            code = next_code(code, v, last);
+            let r = rank(code);
+            ring[p % RING] = r;
+            let here = p;
+            p += 1;
+            // The lowest has left the window. Asked first, since this is foreseen more often than how the ranks compare.
+            if low_at + w <= here {
+                continue 'windows;
+            }
+            if r <= low {
+                low_at = here;
+                low = r;
+                n = put(codes, positions, room, n, code, here);
+            }
+        }
+    }
+    Passed {
+        at: p + last,
+        entries: n,
+    }
+}
