@@ -8,10 +8,10 @@ use mathlib.Core.List.{List, [], _∷_}
 use lib.Dec.{ltb, eqb}
 use lib.ListN.{length}
 use Rattle.counts.specs.Replies.{Reply, accepted, refused}
-use Rattle.winnowing.specs.Limits.{kLimit, wLimit, letterLimit, outside}
+use Rattle.minimizers.specs.Limits.{kLimit, wLimit, letterLimit, outside}
 use Rattle.sketch.specs.Limits.{textLimit}
-use Rattle.winnowing.specs.Kmers.{Entry, entries}
-use Rattle.winnowing.specs.Sketch.{sketch}
+use Rattle.minimizers.specs.Kmers.{Entry, entries}
+use Rattle.minimizers.specs.Sketch.{sketch}
 use Rattle.sketch.specs.Replies.{checkedLetters, roomFor, sketchReply}
 use Rattle.strike.specs.Strike.{strikeLimit, struck, strikeReply}
 use Rattle.store.specs.Save.{stored, storable, saveReply}

@@ -6,7 +6,7 @@ use mathlib.Core.Path.{_≡_, refl, ap}
 use mathlib.Core.List.{[], _∷_}
 use lib.ListN.{length}
 use Rattle.counts.specs.Replies.{accepted, refused}
-use Rattle.winnowing.specs.Kmers.{Entry}
+use Rattle.minimizers.specs.Kmers.{Entry}
 use Rattle.store.specs.Load.{Judged, good, bad, withEntry, entriesOf}
 use Rattle.loading.specs.Verdicts.{counted}
 

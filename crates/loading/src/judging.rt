@@ -4,8 +4,8 @@ ghost use mathlib.Core.Path.{_≡_};
 ghost use Prim.Native.Nat.{suc, _≤_, _<_};
 ghost use lib.ListN.{length, drop, getD};
 ghost use Rattle.counts.specs.Replies.{over};
-ghost use Rattle.winnowing.specs.Limits.{kLimit};
-ghost use Rattle.winnowing.specs.Kmers.{codes as codesOf, positions as positionsOf};
+ghost use Rattle.minimizers.specs.Limits.{kLimit};
+ghost use Rattle.minimizers.specs.Kmers.{codes as codesOf, positions as positionsOf};
 ghost use Rattle.store.specs.Load.{good, lastWord, judgeFrom, judge, entriesOf};
 ghost use Rattle.loading.specs.Verdicts.{verdictReply, counted};
 

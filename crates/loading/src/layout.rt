@@ -40,10 +40,10 @@ pub(crate) fn is_header(x: u32) -> bool
     if HEADER_LIMIT <= content(x) {
         return false;
     }
-    if winnowing::outside(1, winnowing::K_LIMIT, header_k(x)) {
+    if minimizers::outside(1, minimizers::K_LIMIT, header_k(x)) {
         return false;
     }
-    !winnowing::outside(1, winnowing::W_LIMIT, header_w(x))
+    !minimizers::outside(1, minimizers::W_LIMIT, header_w(x))
 }
 
 pub(crate) fn is_code_word(x: u32, limit: u32) -> bool

@@ -11,11 +11,11 @@ use lib.ListN.{length, getD, take, drop, length-take, take-append-drop, drop-of-
 use lib.Seq.{length-take-le, take-all, take-append-seam}
 use borrow.Author.Tests.{lt-ltb, le-ltb, ltb-true, ltb-false}
 use Rattle.counts.specs.Replies.{Reply, accepted, after}
-use Rattle.winnowing.specs.Kmers.{Entry, codes, positions, entries}
-use Rattle.winnowing.specs.Sketch.{sketch}
+use Rattle.minimizers.specs.Kmers.{Entry, codes, positions, entries}
+use Rattle.minimizers.specs.Sketch.{sketch}
 use Rattle.sketch.specs.Replies.{sketchCodes, sketchPositions}
 use Rattle.sketch.proofs.Accepted.{sketch-held}
-use Rattle.winnowing.proofs.Laws.{codes-positions, entries-same}
+use Rattle.minimizers.proofs.Laws.{codes-positions, entries-same}
 use Rattle.strike.specs.Strike.{struck, strikeCodes}
 use Rattle.strike.proofs.Accepted.{strike-held}
 use Rattle.strike.proofs.Laws.{length-codes}

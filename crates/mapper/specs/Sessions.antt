@@ -7,8 +7,8 @@ use lib.IntN.{ℤ}
 use lib.ListN.{length, getD, take, drop}
 use lib.Signed.{mag}
 use Rattle.counts.specs.Replies.{accepted}
-use Rattle.winnowing.specs.Kmers.{codes}
-use Rattle.winnowing.specs.Sketch.{sketch}
+use Rattle.minimizers.specs.Kmers.{codes}
+use Rattle.minimizers.specs.Sketch.{sketch}
 use Rattle.sketch.specs.Replies.{sketchReply, sketchCodes, sketchPositions}
 use Rattle.strike.specs.Strike.{struck, strikeReply, strikeCodes}
 use Rattle.mappings.specs.Bias.{bias}

@@ -4,8 +4,8 @@ use Prim.Native.Nat.{ℕ}
 use mathlib.Core.Path.{_≡_, refl}
 use mathlib.Core.List.{List, [], _∷_}
 use lib.IntN.{ℤ, pos, negsuc}
-use Rattle.winnowing.specs.Kmers.{codes}
-use Rattle.winnowing.specs.Sketch.{sketch}
+use Rattle.minimizers.specs.Kmers.{codes}
+use Rattle.minimizers.specs.Sketch.{sketch}
 use Rattle.strike.specs.Strike.{struck}
 use Rattle.mappings.specs.Limits.{weightLimit, patternLimit, hitLimit, workWords}
 use Rattle.mappings.specs.Score.{Task}

@@ -6,12 +6,12 @@ use mathlib.Core.Logic.{_≢_}
 use mathlib.Core.List.{List, [], _∷_}
 use lib.ListN.{length, take}
 use Rattle.counts.specs.Replies.{Reply, accepted, refused, after}
-use Rattle.winnowing.specs.Kmers.{Entry, codes, positions, entries}
-use Rattle.winnowing.specs.Sketch.{sketch}
+use Rattle.minimizers.specs.Kmers.{Entry, codes, positions, entries}
+use Rattle.minimizers.specs.Sketch.{sketch}
 use Rattle.sketch.specs.Replies.{sketchReply, sketchCodes, sketchPositions}
 use Rattle.sketch.specs.Answers.{replyOf, Sketches}
 use Rattle.sketch.specs.declared.Sketched.{Sketched}
-use Rattle.winnowing.proofs.Laws.{entries-same}
+use Rattle.minimizers.proofs.Laws.{entries-same}
 use Rattle.strike.specs.Strike.{strikeReply}
 use Rattle.sketch.proofs.Accepted.{Held, sketch-held}
 use Rattle.strike.proofs.Laws.{length-codes, length-positions}

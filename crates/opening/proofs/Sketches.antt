@@ -8,7 +8,7 @@ use mathlib.Core.List.{List, [], _∷_}
 use lib.IntN.{ℤ}
 use lib.ListN.{length, take}
 use Rattle.counts.specs.Replies.{Reply, accepted, over, after}
-use Rattle.winnowing.specs.Kmers.{Entry, codes, positions, entries}
+use Rattle.minimizers.specs.Kmers.{Entry, codes, positions, entries}
 use Rattle.strike.specs.Strike.{struck, strikeReply, strikeCodes, strikePositions}
 use Rattle.strike.specs.Answers.{replyOf as struckReply}
 use Rattle.strike.specs.declared.Struck.{Struck}

@@ -3,8 +3,8 @@
 use Prim.Native.Nat.{ℕ}
 use mathlib.Core.List.{List}
 use Rattle.counts.specs.Replies.{Reply, accepted, refused}
-use Rattle.winnowing.specs.Kmers.{Entry, codes, positions}
-use Rattle.winnowing.specs.Sketch.{sketch}
+use Rattle.minimizers.specs.Kmers.{Entry, codes, positions}
+use Rattle.minimizers.specs.Sketch.{sketch}
 use Rattle.sketch.specs.Replies.{sketchReply}
 use Rattle.strike.specs.Strike.{struck, strikeReply}
 use Rattle.mappings.specs.Score.{Task}

@@ -6,7 +6,7 @@ use mathlib.Core.List.{List}
 use lib.IntN.{ℤ}
 use lib.ListN.{length}
 use Rattle.counts.specs.Replies.{Reply, accepted, refused, after}
-use Rattle.winnowing.specs.Kmers.{codes, positions, entries}
+use Rattle.minimizers.specs.Kmers.{codes, positions, entries}
 use Rattle.strike.specs.Strike.{struck, strikeReply}
 use Rattle.start.specs.Start.{startReply, startWords}
 use Rattle.start.specs.Answers.{taskOf as taskWith}

@@ -9,12 +9,12 @@ use mathlib.Core.List.{List, [], _∷_, _++_, map, Sublistᴰ, Sublistᴰ·slnil
 use lib.ListN.{length, getD, drop, length-append, length-map, List·getD-append}
 use Rattle.counts.specs.Lists.{keep}
 use Rattle.counts.specs.Replies.{Reply, accepted, refused, over, after}
-use Rattle.winnowing.specs.Limits.{kLimit, letterLimit}
-use Rattle.winnowing.specs.Kmers.{codes, positions}
-use Rattle.winnowing.specs.Sketch.{sketch}
+use Rattle.minimizers.specs.Limits.{kLimit, letterLimit}
+use Rattle.minimizers.specs.Kmers.{codes, positions}
+use Rattle.minimizers.specs.Sketch.{sketch}
 use Rattle.sketch.specs.Replies.{sketchReply}
 use Rattle.sketch.proofs.Accepted.{sketch-limits}
-use Rattle.winnowing.proofs.Laws.{positions-below}
+use Rattle.minimizers.proofs.Laws.{positions-below}
 use Rattle.strike.specs.Strike.{strikeReply}
 use Rattle.strike.proofs.Laws.{struck-positions-sublist, length-codes, length-positions}
 use Rattle.mappings.specs.Score.{Task}

@@ -5,8 +5,8 @@ use Prim.Native.Nat.{ℕ}
 use mathlib.Core.Path.{_≡_, refl}
 use mathlib.Core.List.{List, [], _∷_, _++_}
 use Rattle.counts.specs.Replies.{refused}
-use Rattle.winnowing.specs.Sketch.{sketch}
-use Rattle.winnowing.proofs.Cases.{SketchCases, sketch-cases}
+use Rattle.minimizers.specs.Sketch.{sketch}
+use Rattle.minimizers.proofs.Cases.{SketchCases, sketch-cases}
 use Rattle.store.specs.Save.{stored}
 use Rattle.store.proofs.Cases.{case4}
 use Rattle.mappings.proofs.Cases.{MappingCases, mapping-cases}

@@ -7,7 +7,7 @@ use mathlib.Core.Logic.{_⊎_, inl, inr}
 use mathlib.Core.List.{List, _++_, append-assoc}
 use lib.ListN.{length, take, length-append}
 use Rattle.counts.specs.Replies.{Reply, accepted, refused, over}
-use Rattle.winnowing.specs.Kmers.{positions}
+use Rattle.minimizers.specs.Kmers.{positions}
 use Rattle.mappings.specs.Limits.{workWords}
 use Rattle.mappings.specs.Score.{Task}
 use Rattle.mappings.specs.Cells.{hitCount, cellCount}

@@ -5,7 +5,7 @@ use mathlib.Core.List.{List, [], _∷_, _++_, map}
 use lib.ListN.{length, getD}
 use Rattle.counts.specs.Lists.{keep}
 use Rattle.counts.specs.Replies.{Reply, accepted, refused}
-use Rattle.winnowing.specs.Kmers.{positions}
+use Rattle.minimizers.specs.Kmers.{positions}
 use Rattle.mappings.specs.Limits.{workWords}
 use Rattle.mappings.specs.Score.{Task, lengthOf}
 use Rattle.mappings.specs.Cells.{Cell, Mapping, cellsOf, isFinalCell, mappingOf}

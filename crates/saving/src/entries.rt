@@ -5,8 +5,8 @@ ghost use mathlib.Core.Bool.{true};
 ghost use Prim.Native.Nat.{_+_, _*_, _≤_};
 ghost use lib.ListN.{length};
 ghost use Rattle.counts.specs.Replies.{over};
-ghost use Rattle.winnowing.specs.Limits.{kLimit, wLimit};
-ghost use Rattle.winnowing.specs.Kmers.{entries};
+ghost use Rattle.minimizers.specs.Limits.{kLimit, wLimit};
+ghost use Rattle.minimizers.specs.Kmers.{entries};
 ghost use Rattle.store.specs.Save.{stored, storable};
 
 // Each code is below 4^k, and the positions rise strictly and are in range.

@@ -1,7 +1,7 @@
 // The words of a store, from kind and content, and from k and w.
 ghost use mathlib.Core.Path.{_≡_};
 ghost use Prim.Native.Nat.{_≤_, _<_};
-ghost use Rattle.winnowing.specs.Limits.{kLimit, wLimit};
+ghost use Rattle.minimizers.specs.Limits.{kLimit, wLimit};
 ghost use Rattle.store.specs.Words.{kindUnit, word, header};
 
 pub(crate) fn word(t: u32, x: u32) -> u32

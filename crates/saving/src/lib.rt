@@ -14,10 +14,10 @@ pub fn save(codes: &[u32], positions: &[u32], k: u32, w: u32, words: &mut [u32])
     ensures { λ r. ⌜ savedReply r ≡ saveReply k w (now (codes .entry)) (now (positions .entry)) (length (now (words .entry))) ⌝ }
     ensures { λ _. ⌜ now (words .exit) ≡ saveWords k w (now (codes .entry)) (now (positions .entry)) (now (words .entry)) ⌝ }
 {
-    if winnowing::outside(1, winnowing::K_LIMIT, k) {
+    if minimizers::outside(1, minimizers::K_LIMIT, k) {
         return Saved::BadK;
     }
-    if winnowing::outside(1, winnowing::W_LIMIT, w) {
+    if minimizers::outside(1, minimizers::W_LIMIT, w) {
         return Saved::BadW;
     }
     if codes.len() != positions.len() {

@@ -10,8 +10,8 @@ use borrow.Author.Tests.{ltb-false}
 use Rattle.counts.specs.Replies.{accepted}
 use Rattle.counts.proofs.Lists.{or-neither}
 use Rattle.counts.proofs.Replies.{not-refused}
-use Rattle.winnowing.specs.Limits.{kLimit, wLimit, letterLimit, outside}
-use Rattle.winnowing.specs.Sketch.{sketch}
+use Rattle.minimizers.specs.Limits.{kLimit, wLimit, letterLimit, outside}
+use Rattle.minimizers.specs.Sketch.{sketch}
 use Rattle.sketch.specs.Replies.{checkedLetters, roomFor, sketchReply}
 
 -- the entries answered are those needed, and both buffers hold them

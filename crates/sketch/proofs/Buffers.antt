@@ -9,7 +9,7 @@ use lib.ListN.{length, take, drop, set, length-set, length-map, take-append-drop
 use lib.Seq.{take-suc-set, drop-set-lt}
 use borrow.Author.Tests.{lt-ltb, le-ltb}
 use Rattle.counts.specs.Replies.{over}
-use Rattle.winnowing.specs.Kmers.{Entry, codes, positions}
+use Rattle.minimizers.specs.Kmers.{Entry, codes, positions}
 use Rattle.winnowing.specs.Winnowed.{wrote, placed, written}
 
 -- the buffer with these words put one after the other, from n on

@@ -7,7 +7,7 @@ use lib.ListN.{length}
 use lib.IntN.{pos, negsuc}
 use borrow.Author.Tests.{lt-ltb, le-ltb}
 use Rattle.counts.specs.Replies.{accepted, refused}
-use Rattle.winnowing.specs.Sketch.{sketch}
+use Rattle.minimizers.specs.Sketch.{sketch}
 use Rattle.sketch.specs.Replies.{sketchReply, countReply, hostNumber}
 use Rattle.sketch.proofs.Compute.{sketch-computes}
 

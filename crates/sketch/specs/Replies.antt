@@ -7,9 +7,9 @@ use lib.Dec.{ltb}
 use lib.ListN.{length}
 use lib.IntN.{ℤ, pos, negℤ}
 use Rattle.counts.specs.Replies.{Reply, accepted, refused, after}
-use Rattle.winnowing.specs.Limits.{kLimit, wLimit, letterLimit, outside}
-use Rattle.winnowing.specs.Kmers.{codes, positions}
-use Rattle.winnowing.specs.Sketch.{sketch}
+use Rattle.minimizers.specs.Limits.{kLimit, wLimit, letterLimit, outside}
+use Rattle.minimizers.specs.Kmers.{codes, positions}
+use Rattle.minimizers.specs.Sketch.{sketch}
 
 -- the checks that sketch and count share, 1, 2 and 3, and then what is left to answer
 unfoldable pub checkedLetters : ℕ → ℕ → List ℕ → Reply → Reply

@@ -1,14 +1,14 @@
 // Sketches of letters: the sketch in two buffers, and for a host program the count of its entries. Assumes nothing.
-use winnowing::K_LIMIT;
-use winnowing::LETTER_LIMIT;
-use winnowing::W_LIMIT;
-use winnowing::outside;
+use minimizers::K_LIMIT;
+use minimizers::LETTER_LIMIT;
+use minimizers::W_LIMIT;
+use minimizers::outside;
 use winnowing::winnow;
 ghost use Prim.Native.Nat.{_≤_, min};
 ghost use mathlib.Core.Path.{_≡_};
 ghost use lib.ListN.{length};
-ghost use Rattle.winnowing.specs.Limits.{kLimit, wLimit, letterLimit};
-ghost use Rattle.winnowing.specs.Sketch.{sketch};
+ghost use Rattle.minimizers.specs.Limits.{kLimit, wLimit, letterLimit};
+ghost use Rattle.minimizers.specs.Sketch.{sketch};
 ghost use Rattle.sketch.specs.Replies.{hostNumber, countReply};
 ghost use Rattle.sketch.specs.Answers.{Sketches};
 

@@ -8,7 +8,7 @@ use mathlib.Core.List.{List, []}
 use lib.ListN.{length}
 use borrow.Author.Tests.{lt-ltb, le-ltb, eq-eqb, ne-eqb}
 use Rattle.counts.specs.Replies.{Reply, refused}
-use Rattle.winnowing.specs.Limits.{outside}
+use Rattle.minimizers.specs.Limits.{outside}
 use Rattle.sketch.specs.Limits.{textLimit}
 use Rattle.mappings.specs.Limits.{weightLimit, patternLimit, workWords}
 use Rattle.mappings.specs.Score.{Task}

@@ -7,7 +7,7 @@ use lib.Dec.{ltb, eqb}
 use lib.ListN.{length}
 use Rattle.counts.specs.Replies.{Reply, accepted, refused}
 use Rattle.start.specs.WorkWords.{sessionWords}
-use Rattle.winnowing.specs.Limits.{outside}
+use Rattle.minimizers.specs.Limits.{outside}
 use Rattle.sketch.specs.Limits.{textLimit}
 use Rattle.mappings.specs.Limits.{weightLimit, patternLimit, hitLimit, workWords}
 use Rattle.mappings.specs.Score.{Task}

@@ -29,7 +29,7 @@ ghost use mathlib.Core.List.{List};
 ghost use Prim.Native.Nat.{ℕ, _≤_, _<_};
 ghost use lib.ListN.{length, getD};
 ghost use Rattle.counts.specs.Sorting.{Sorted, SortedCopyOf};
-ghost use Rattle.winnowing.specs.Limits.{outside};
+ghost use Rattle.minimizers.specs.Limits.{outside};
 ghost use Rattle.mappings.specs.Score.{Task};
 ghost use Rattle.mappings.specs.Limits.{weightLimit};
 ghost use Rattle.start.specs.WorkWords.{sessionWords};

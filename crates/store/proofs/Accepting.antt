@@ -10,8 +10,8 @@ use lib.ListN.{length}
 use borrow.Author.Tests.{le-ltb, eq-eqb, eqb-true, ltb-false, not-false}
 use Rattle.counts.specs.Replies.{Reply, accepted, refused, over}
 use Rattle.counts.proofs.Lists.{or-neither}
-use Rattle.winnowing.specs.Limits.{kLimit, wLimit, outside}
-use Rattle.winnowing.specs.Kmers.{Entry, codes, positions, entries}
+use Rattle.minimizers.specs.Limits.{kLimit, wLimit, outside}
+use Rattle.minimizers.specs.Kmers.{Entry, codes, positions, entries}
 use Rattle.store.specs.Save.{stored, storable, saveReply, saveWords}
 use Rattle.store.specs.Load.{Judged, good, bad, judge, storeK, storeW, loadRoom, loadReply, loadCodes, loadPositions}
 

@@ -4,7 +4,7 @@ use Prim.Native.Nat.{ℕ}
 use mathlib.Core.Path.{_≡_, refl}
 use mathlib.Core.List.{List, [], _∷_, map}
 use Rattle.counts.specs.Replies.{Reply, accepted, refused}
-use Rattle.winnowing.specs.Sketch.{sketch}
+use Rattle.minimizers.specs.Sketch.{sketch}
 use Rattle.store.specs.Save.{stored, saveReply}
 use Rattle.store.specs.Load.{loadReply}
 use Rattle.store.proofs.Compute.{store-computes}

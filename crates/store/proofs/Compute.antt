@@ -1,9 +1,9 @@
--- One name that opens every definition of this crate and of winnowing, for proofs that compute. Assumes nothing.
-use Rattle.winnowing.proofs.Compute.{winnowing-computes}
+-- One name that opens every definition of this crate and of minimizers, for proofs that compute. Assumes nothing.
+use Rattle.minimizers.proofs.Compute.{minimizers-compute}
 use Rattle.store.specs.Words.{kind, content, word, header, headerK, headerW, isHeader, isCode, isPosition}
 use Rattle.store.specs.Save.{stored, saveReply, saveWords}
 use Rattle.store.specs.Load.{lastWord, judgeFrom, judge, storeK, storeW, loadRoom, loadReply, loadCodes, loadPositions}
 
 unfoldable pub store-computes : Unit {0}
-unfolding winnowing-computes kind content word header headerK headerW isHeader isCode isPosition stored saveReply saveWords lastWord judgeFrom judge storeK storeW loadRoom loadReply loadCodes loadPositions
+unfolding minimizers-compute kind content word header headerK headerW isHeader isCode isPosition stored saveReply saveWords lastWord judgeFrom judge storeK storeW loadRoom loadReply loadCodes loadPositions
 store-computes = tt

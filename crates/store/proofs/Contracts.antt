@@ -7,10 +7,10 @@ use mathlib.Core.List.{List, [], _∷_}
 use lib.ListN.{length, take, drop}
 use lib.Seq.{take-at}
 use Rattle.counts.specs.Replies.{accepted, over}
-use Rattle.winnowing.specs.Limits.{kLimit, wLimit, letterLimit}
-use Rattle.winnowing.specs.Kmers.{Entry, codes, positions, entries}
-use Rattle.winnowing.specs.Sketch.{sketch}
-use Rattle.winnowing.proofs.Laws.{entries-same, codes-positions}
+use Rattle.minimizers.specs.Limits.{kLimit, wLimit, letterLimit}
+use Rattle.minimizers.specs.Kmers.{Entry, codes, positions, entries}
+use Rattle.minimizers.specs.Sketch.{sketch}
+use Rattle.minimizers.proofs.Laws.{entries-same, codes-positions}
 use Rattle.store.specs.Save.{stored, saveReply, saveWords}
 use Rattle.store.specs.Load.{storeK, storeW, loadReply, loadCodes, loadPositions}
 use Rattle.store.proofs.WordLaws.{inside, inside-range}

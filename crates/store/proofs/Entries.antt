@@ -10,10 +10,10 @@ use lib.ListN.{length, getD, drop, length-map}
 use lib.Seq.{drop-cons}
 use borrow.Author.Tests.{lt-ltb, le-leb}
 use Rattle.counts.proofs.Lists.{and-both, and-left, and-right}
-use Rattle.winnowing.specs.Limits.{letterLimit}
-use Rattle.winnowing.specs.Kmers.{Entry, entries, codes, positions}
-use Rattle.winnowing.specs.Sketch.{sketch}
-use Rattle.winnowing.proofs.Laws.{Rising, rising-length, positions-rise, codes-below}
+use Rattle.minimizers.specs.Limits.{letterLimit}
+use Rattle.minimizers.specs.Kmers.{Entry, entries, codes, positions}
+use Rattle.minimizers.specs.Sketch.{sketch}
+use Rattle.minimizers.proofs.Laws.{Rising, rising-length, positions-rise, codes-below}
 use Rattle.store.specs.Words.{word, isCode, isPosition}
 use Rattle.store.specs.Save.{entryWords, stored, storable}
 use Rattle.store.proofs.WordLaws.{isPosition-range}

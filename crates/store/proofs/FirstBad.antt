@@ -8,7 +8,7 @@ use mathlib.Core.Bool.{true, false}
 use mathlib.Core.List.{List, [], _∷_}
 use lib.ListN.{take}
 use Rattle.counts.proofs.Lists.{decided}
-use Rattle.winnowing.specs.Kmers.{Entry}
+use Rattle.minimizers.specs.Kmers.{Entry}
 use Rattle.store.specs.Words.{content, headerK, isHeader, isCodeWord, isPositionWord}
 use Rattle.store.specs.Load.{Judged, good, bad, withEntry, lastWord, judgeFrom, judge}
 use Rattle.store.proofs.Judging.{judge-last, judge-first, judge-half, judge-second, judge-entry, Way, run-out, last, more, miscount, first, half, second, entry, way}

@@ -10,8 +10,8 @@ use lib.Dec.{eqb}
 use lib.ListN.{length, getD}
 use borrow.Author.Tests.{eq-eqb, eqb-true}
 use Rattle.counts.proofs.Lists.{and-both, and-left, and-right, decided}
-use Rattle.winnowing.specs.Limits.{kLimit, wLimit, letterLimit}
-use Rattle.winnowing.specs.Kmers.{Entry, codes, positions}
+use Rattle.minimizers.specs.Limits.{kLimit, wLimit, letterLimit}
+use Rattle.minimizers.specs.Kmers.{Entry, codes, positions}
 use Rattle.store.specs.Words.{kindUnit, kind, content, word, headerK, isHeader, isCode, isPosition, isCodeWord, isPositionWord}
 use Rattle.store.specs.Save.{entryWords, stored, storable}
 use Rattle.store.specs.Load.{Judged, good, bad, withEntry, lastWord, judgeFrom, judge, storeK, storeW}

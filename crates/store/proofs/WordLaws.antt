@@ -8,7 +8,7 @@ use mathlib.Core.Bool.{true, false, not, _&&_}
 use lib.Dec.{eqb, ltb, leb, lit<}
 use borrow.Author.Tests.{lt-ltb, le-ltb, eq-eqb, ltb-true, ltb-false, leb-true, not-true}
 use Rattle.counts.proofs.Lists.{and-both, and-left, and-right, or-neither}
-use Rattle.winnowing.specs.Limits.{kLimit, wLimit, letterLimit, outside}
+use Rattle.minimizers.specs.Limits.{kLimit, wLimit, letterLimit, outside}
 use Rattle.store.specs.Words.{kindUnit, kind, content, word, header, headerK, headerW, isHeader, isCode, isPosition}
 
 pub kind-word : (t x : ℕ) → x < kindUnit → kind (word t x) ≡ t

@@ -6,7 +6,7 @@ use mathlib.Core.List.{List, [], _∷_}
 use lib.Dec.{eqb, ltb}
 use lib.ListN.{length}
 use Rattle.counts.specs.Replies.{Reply, accepted, refused, after}
-use Rattle.winnowing.specs.Kmers.{Entry, codes, positions}
+use Rattle.minimizers.specs.Kmers.{Entry, codes, positions}
 use Rattle.store.specs.Words.{kind, content, isHeader, headerK, headerW, isCode, isPosition}
 
 -- a store's entries, or the number of the refusal and the index of the first bad word

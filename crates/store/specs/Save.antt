@@ -6,8 +6,8 @@ use mathlib.Core.List.{List, [], _∷_}
 use lib.Dec.{eqb, ltb}
 use lib.ListN.{length}
 use Rattle.counts.specs.Replies.{Reply, accepted, refused, after}
-use Rattle.winnowing.specs.Limits.{kLimit, wLimit, outside}
-use Rattle.winnowing.specs.Kmers.{Entry, entries}
+use Rattle.minimizers.specs.Limits.{kLimit, wLimit, outside}
+use Rattle.minimizers.specs.Kmers.{Entry, entries}
 use Rattle.store.specs.Words.{word, header, isCode, isPosition}
 
 -- for each entry a kind 1 word with the code and a kind 2 word with the position, and last a kind 3 word with the number n

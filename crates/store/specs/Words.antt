@@ -3,7 +3,7 @@
 use Prim.Native.Nat.{ℕ, _+_, _*_, _/_, _%_, _^_}
 use mathlib.Core.Bool.{Bool, not, _&&_}
 use lib.Dec.{eqb, ltb, leb}
-use Rattle.winnowing.specs.Limits.{kLimit, wLimit, letterLimit, outside}
+use Rattle.minimizers.specs.Limits.{kLimit, wLimit, letterLimit, outside}
 
 -- what the kind multiplies: bit 30
 abbrev pub kindUnit : ℕ

@@ -2,7 +2,7 @@
 // Assumes nothing.
 ghost use mathlib.Core.Path.{_≡_};
 ghost use Prim.Native.Nat.{_^_, min};
-ghost use Rattle.winnowing.specs.Limits.{kLimit};
+ghost use Rattle.minimizers.specs.Limits.{kLimit};
 ghost use Rattle.store.specs.Words.{isPosition};
 
 // What the kind multiplies: bit 30.
@@ -37,7 +37,7 @@ pub fn code_limit(k: u32) -> u32
 {
     let mut limit: u32 = 1;
     let mut i = 0;
-    while i < winnowing::K_LIMIT {
+    while i < minimizers::K_LIMIT {
         if i == k {
             return limit;
         }
@@ -54,5 +54,5 @@ pub fn is_position(x: u32, low: u32) -> bool
     if x < low {
         return false;
     }
-    (x as usize) < winnowing::LETTER_LIMIT
+    (x as usize) < minimizers::LETTER_LIMIT
 }

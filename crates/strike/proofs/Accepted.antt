@@ -8,9 +8,9 @@ use lib.Dec.{ltb, eqb}
 use lib.ListN.{length}
 use Rattle.counts.specs.Replies.{accepted}
 use Rattle.counts.proofs.Replies.{not-refused}
-use Rattle.winnowing.specs.Limits.{outside}
+use Rattle.minimizers.specs.Limits.{outside}
 use Rattle.sketch.specs.Limits.{textLimit}
-use Rattle.winnowing.specs.Kmers.{entries}
+use Rattle.minimizers.specs.Kmers.{entries}
 use Rattle.sketch.proofs.Accepted.{Held, room-held}
 use Rattle.strike.specs.Strike.{strikeLimit, struck, strikeReply}
 

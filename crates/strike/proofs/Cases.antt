@@ -8,7 +8,7 @@ use mathlib.Core.List.{List, [], _∷_}
 use lib.ListN.{length}
 use borrow.Author.Tests.{lt-ltb, le-ltb, eq-eqb, ne-eqb}
 use Rattle.counts.specs.Replies.{accepted, refused}
-use Rattle.winnowing.specs.Kmers.{positions, entries}
+use Rattle.minimizers.specs.Kmers.{positions, entries}
 use Rattle.strike.specs.Strike.{struck, strikeReply, strikeCodes, strikePositions}
 use Rattle.strike.proofs.Compute.{strike-computes}
 

@@ -13,7 +13,7 @@ use Rattle.counts.specs.Counts.{occ}
 use Rattle.counts.proofs.Lists.{clash, keep-mem, mem-keep, length-keep}
 use Rattle.counts.proofs.Counts.{bit-other}
 use Rattle.sketch.specs.Limits.{textLimit}
-use Rattle.winnowing.specs.Kmers.{Entry, codes, positions}
+use Rattle.minimizers.specs.Kmers.{Entry, codes, positions}
 use Rattle.strike.specs.Strike.{strike, struck}
 
 -- ---- order

@@ -18,7 +18,7 @@ use Rattle.counts.specs.Counts.{occ}
 use Rattle.counts.specs.Replies.{over}
 use Rattle.counts.specs.Marks.{marksOf}
 use Rattle.counts.proofs.Lists.{eq-or-ne, bit-le-one}
-use Rattle.winnowing.specs.Kmers.{Entry, codes, positions, entries}
+use Rattle.minimizers.specs.Kmers.{Entry, codes, positions, entries}
 use Rattle.strike.specs.Strike.{strike, struck}
 use Rattle.strike.specs.Marked.{markedWords}
 

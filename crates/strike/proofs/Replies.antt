@@ -12,7 +12,7 @@ use Rattle.counts.specs.Counts.{occ}
 use Rattle.counts.specs.Replies.{Reply, accepted, refused, after, over}
 use Rattle.counts.specs.Marks.{marksOf}
 use Rattle.sketch.specs.Limits.{textLimit}
-use Rattle.winnowing.specs.Kmers.{codes, positions, entries}
+use Rattle.minimizers.specs.Kmers.{codes, positions, entries}
 use Rattle.sketch.specs.Replies.{roomFor}
 use Rattle.strike.specs.Strike.{strikeLimit, struck, strikeReply, strikeCodes, strikePositions}
 use Rattle.strike.specs.Marked.{markedWords}

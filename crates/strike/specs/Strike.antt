@@ -8,9 +8,9 @@ use lib.ListN.{length}
 use Rattle.counts.specs.Lists.{keep}
 use Rattle.counts.specs.Counts.{occ}
 use Rattle.counts.specs.Replies.{Reply, refused, after}
-use Rattle.winnowing.specs.Limits.{outside}
+use Rattle.minimizers.specs.Limits.{outside}
 use Rattle.sketch.specs.Limits.{textLimit}
-use Rattle.winnowing.specs.Kmers.{Entry, codes, positions, entries}
+use Rattle.minimizers.specs.Kmers.{Entry, codes, positions, entries}
 use Rattle.sketch.specs.Replies.{roomFor}
 
 -- the limit c is 1 to 65,535

@@ -8,7 +8,7 @@ ghost use Rattle.counts.specs.Replies.{over, after};
 ghost use Rattle.counts.specs.Keys.{zeros};
 ghost use Rattle.counts.specs.Marks.{marksOf};
 ghost use Rattle.sketch.specs.Limits.{textLimit};
-ghost use Rattle.winnowing.specs.Kmers.{codes as codesOf, positions as positionsOf, entries};
+ghost use Rattle.minimizers.specs.Kmers.{codes as codesOf, positions as positionsOf, entries};
 ghost use Rattle.sketch.specs.Replies.{roomFor};
 ghost use Rattle.strike.specs.Strike.{struck, strikeReply, strikeCodes, strikePositions};
 ghost use Rattle.strike.specs.Answers.{replyOf};

@@ -1,12 +1,4 @@
--- Laws about letters, ranks, windows and sketches, and examples that compute.
-pub mod Compute
-pub mod Cases
+-- Laws about the limits of winnowing and about its scan.
 pub mod Within
-pub mod Ranks
-pub mod Spans
-pub mod Codes
-pub mod Runs
 pub mod Steps
-pub mod Picks
 pub mod Passing
-pub mod Laws

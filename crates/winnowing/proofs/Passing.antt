@@ -7,16 +7,18 @@ use native.Mathlib.Omega.{arith}
 use mathlib.Core.Path.{_≡_, sym, ap, _∙_, subst, subst₂}
 use mathlib.Core.List.{List, [], _∷_, _++_}
 use lib.ListN.{length, getD, set}
-use Rattle.winnowing.specs.Limits.{kLimit}
-use Rattle.winnowing.specs.Letters.{value}
-use Rattle.winnowing.specs.Kmers.{Entry, rank}
-use Rattle.winnowing.specs.Places.{codeAt, rankAt, runEnd, spanSketch, sketchFrom}
+use Rattle.minimizers.specs.Limits.{kLimit}
+use Rattle.minimizers.specs.Letters.{value}
+use Rattle.minimizers.specs.Kmers.{Entry, rank}
+use Rattle.minimizers.specs.Places.{codeAt, rankAt, runEnd, spanSketch, sketchFrom}
 use Rattle.winnowing.specs.Winnowed.{written}
-use Rattle.winnowing.specs.Scan.{unrank, ringSize, ringAt, Scanned, HasRoom, IsLowest, pickedFrom, IsPut, SameEnd}
-use Rattle.winnowing.proofs.Ranks.{unrank-rank}
-use Rattle.winnowing.proofs.Runs.{sketchFrom-run}
+use Rattle.winnowing.specs.Scan.{ringSize, ringAt, Scanned, HasRoom, IsPut, SameEnd}
+use Rattle.minimizers.specs.Places.{IsLowest, pickedFrom}
+use Rattle.minimizers.specs.Ranks.{unrank}
+use Rattle.minimizers.proofs.Ranks.{unrank-rank}
+use Rattle.minimizers.proofs.Runs.{sketchFrom-run}
 use Rattle.winnowing.proofs.Steps.{pushed}
-use Rattle.winnowing.proofs.Picks.{lowest-same, lowest-new, lowest-kept, lowest-moved, picked-new, picked-old, picked-none, spanSketch-none, spanSketch-short, spanSketch-long}
+use Rattle.minimizers.proofs.Picks.{lowest-same, lowest-new, lowest-kept, lowest-moved, picked-new, picked-old, picked-none, spanSketch-none, spanSketch-short, spanSketch-long}
 
 -- what is put stood first among what was to come
 pub put-first : (room n code position n′ : ℕ) (cs ps cs′ ps′ : List ℕ) → IsPut room n code position n′ cs ps cs′ ps′

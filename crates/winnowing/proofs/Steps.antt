@@ -15,13 +15,13 @@ use mir.Syntax.{w64}
 use mir.Val.{Fits}
 use borrow.Author.Tests.{eq-eqb, ne-eqb, ltb-true, ltb-false}
 use Rattle.counts.proofs.Lists.{clash}
-use Rattle.winnowing.specs.Limits.{kLimit}
-use Rattle.winnowing.specs.Letters.{value, isForeign, foreign}
-use Rattle.winnowing.specs.Kmers.{rank}
-use Rattle.winnowing.specs.Places.{codeAt, rankAt, runLength, runEnd}
+use Rattle.minimizers.specs.Limits.{kLimit}
+use Rattle.minimizers.specs.Letters.{value, isForeign, foreign}
+use Rattle.minimizers.specs.Kmers.{rank}
+use Rattle.minimizers.specs.Places.{codeAt, rankAt, runLength, runEnd}
 use Rattle.winnowing.specs.Scan.{ringSize, ringAt, Scanned}
-use Rattle.winnowing.proofs.Codes.{value-below, cut-digit, codeAt-below, codeAt-suc, codeAt-cut}
-use Rattle.winnowing.proofs.Runs.{runEnd-within, run-letters}
+use Rattle.minimizers.proofs.Codes.{value-below, cut-digit, codeAt-below, codeAt-suc, codeAt-cut}
+use Rattle.minimizers.proofs.Runs.{runEnd-within, run-letters}
 
 run-stop : (l : List ℕ) → isForeign (getD l (runLength l) 0) ≡ true
 unfolding isForeign value

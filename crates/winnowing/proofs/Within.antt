@@ -8,8 +8,8 @@ use lib.Dec.{ltb}
 use lib.ListN.{length}
 use borrow.Author.Tests.{ltb-false, le-ltb}
 use Rattle.counts.proofs.Lists.{or-neither}
-use Rattle.winnowing.specs.Limits.{kLimit, wLimit, letterLimit, outside}
-use Rattle.winnowing.specs.Sketch.{sketch}
+use Rattle.minimizers.specs.Limits.{kLimit, wLimit, letterLimit, outside}
+use Rattle.minimizers.specs.Sketch.{sketch}
 use Rattle.winnowing.specs.Winnowed.{written, isBeyond, winnowed}
 use Rattle.winnowing.specs.Scan.{HasRoom}
 

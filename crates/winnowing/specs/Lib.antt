@@ -1,10 +1,4 @@
--- From letters to their sketch, in the order of document 01.
-pub mod Limits
-pub mod Letters
-pub mod Kmers
-pub mod Windows
-pub mod Sketch
--- what the scan leaves in two buffers, and the same sketch by places in the letters, as the scan goes
+-- What winnowing leaves in two buffers.
 pub mod Winnowed
-pub mod Places
+-- what the code keeps from letter to letter
 pub mod Scan

@@ -1,30 +1,21 @@
 -- What the functions that scan letters keep from letter to letter, and what they have still to do.
 -- Assumes nothing.
-use Prim.Native.Nat.{ℕ, suc, _+_, _*_, _-_, _%_, _^_, _≤_, _<_}
+use Prim.Native.Nat.{ℕ, suc, _+_, _-_, _%_, _^_, _≤_, _<_}
 use mathlib.Core.Path.{_≡_}
 use mathlib.Core.List.{List, [], _++_}
 use lib.ListN.{length, getD}
-use Rattle.counts.specs.Lists.{keep, any}
-use Rattle.winnowing.specs.Limits.{kLimit, letterLimit}
-use Rattle.winnowing.specs.Letters.{value}
-use Rattle.winnowing.specs.Kmers.{Entry, rankModulus}
-use Rattle.winnowing.specs.Windows.{neighbours, picks}
+use Rattle.minimizers.specs.Limits.{kLimit, letterLimit}
+use Rattle.minimizers.specs.Letters.{value}
+use Rattle.minimizers.specs.Kmers.{Entry}
 use Rattle.winnowing.specs.Winnowed.{placed, written}
-use Rattle.winnowing.specs.Places.{codeAt, rankAt, span, runEnd}
+use Rattle.minimizers.specs.Places.{codeAt, rankAt, runEnd}
 
--- ---- letters and ranks
+-- ---- letters and the ring
 
 -- the value of each byte, at the byte
 pub record IsTable (values : List ℕ) : Type 0 where
   pub sized : length values ≡ 256
   pub known : (b : ℕ) → b < 256 → getD values b 0 ≡ value b
-
--- what takes a rank back to its code: 2,654,435,761 · 244,002,641 mod 2^30 = 1
-abbrev pub inverse : ℕ
-inverse = 244002641
-
-unfoldable pub unrank : ℕ → ℕ
-unrank r = r * inverse % rankModulus
 
 -- how many ranks the ring holds: those of a window, which is at most 64
 abbrev pub ringSize : ℕ
@@ -68,20 +59,6 @@ pub record Filled (last w : ℕ) (letters ring : List ℕ) (from at code : ℕ) 
   pub within : at + last ≤ runEnd letters from
   pub ended : at < from + w → at + last ≡ runEnd letters from
   pub scanned : Scanned last letters ring from at code
-
--- ---- windows
-
--- among the positions from `from` up to, and without, `to`, p has the lowest rank, and is the rightmost of equal ones
-pub record IsLowest (ranks : ℕ → ℕ) (from to p : ℕ) : Type 0 where
-  pub first : from ≤ p
-  pub last : p < to
-  pub left : (q : ℕ) → from ≤ q → q < p → ranks p ≤ ranks q
-  pub right : (q : ℕ) → p < q → q < to → ranks p < ranks q
-
--- of the k-mers from position m on, those that a window picks that begins at position i or later, where the run has its last
--- k-mer before position `to`
-unfoldable pub pickedFrom : ℕ → ℕ → List ℕ → ℕ → ℕ → ℕ → List Entry
-pickedFrom k w letters to i m = keep (λ (e : Entry). any (picks (e .position)) (neighbours w (span k letters i to))) (span k letters m to)
 
 -- ---- buffers
 

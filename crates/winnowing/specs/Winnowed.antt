@@ -5,9 +5,9 @@ use mathlib.Core.Bool.{Bool, cond, _||_}
 use mathlib.Core.List.{List, [], _∷_}
 use lib.Dec.{ltb}
 use lib.ListN.{length, set}
-use Rattle.winnowing.specs.Limits.{kLimit, wLimit, letterLimit, outside}
-use Rattle.winnowing.specs.Kmers.{Entry}
-use Rattle.winnowing.specs.Sketch.{sketch}
+use Rattle.minimizers.specs.Limits.{kLimit, wLimit, letterLimit, outside}
+use Rattle.minimizers.specs.Kmers.{Entry}
+use Rattle.minimizers.specs.Sketch.{sketch}
 
 -- the number of entries found, and the two buffers
 pub record Written : Type 0 where

@@ -1,9 +1,9 @@
 // Codes and ranks of k-mers. Assumes nothing.
 ghost use Prim.Native.Nat.{suc, _+_, _*_, _%_, _^_, _<_};
 ghost use mathlib.Core.Path.{_≡_};
-ghost use Rattle.winnowing.specs.Limits.{kLimit};
-ghost use Rattle.winnowing.specs.Kmers.{rank};
-ghost use Rattle.winnowing.specs.Scan.{unrank};
+ghost use Rattle.minimizers.specs.Limits.{kLimit};
+ghost use Rattle.minimizers.specs.Kmers.{rank};
+ghost use Rattle.minimizers.specs.Ranks.{unrank};
 
 // The multiplier of the rank, what takes a rank back to its code, and the modulus.
 const MULTIPLIER: u64 = 2654435761;

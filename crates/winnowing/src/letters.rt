@@ -1,7 +1,7 @@
 // Letters and their values. Assumes nothing.
 ghost use mathlib.Core.Path.{_≡_};
 ghost use lib.ListN.{getD};
-ghost use Rattle.winnowing.specs.Letters.{value};
+ghost use Rattle.minimizers.specs.Letters.{value};
 ghost use Rattle.winnowing.specs.Scan.{IsTable};
 
 // What stands for the value of a letter outside the eight.

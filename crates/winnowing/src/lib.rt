@@ -4,23 +4,12 @@ mod letters;
 mod scan;
 mod windows;
 
+use minimizers::K_LIMIT;
+use minimizers::LETTER_LIMIT;
+use minimizers::W_LIMIT;
+use minimizers::outside;
 ghost use mathlib.Core.Path.{_≡_};
-ghost use Rattle.winnowing.specs.Limits.{outside};
 ghost use Rattle.winnowing.specs.Winnowed.{wrote, isBeyond, winnowed};
-
-// The limits of document 01 on k, the window and the letters.
-pub const K_LIMIT: u32 = 15;
-
-pub const W_LIMIT: u32 = 64;
-
-pub const LETTER_LIMIT: usize = 1048576;
-
-// Whether n is outside low to high.
-pub fn outside(low: u32, high: u32, n: u32) -> bool
-    ensures { λ r. ⌜ r ≡ outside low high n ⌝ }
-{
-    n < low || high < n
-}
 
 // Whether k, w or the number of letters is beyond its limit, or a buffer shorter than the room.
 fn is_beyond(k: u32, w: u32, letters: usize, codes: usize, positions: usize, room: usize) -> bool

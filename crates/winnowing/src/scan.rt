@@ -2,9 +2,9 @@
 ghost use Prim.Native.Nat.{suc, _-_, _≤_};
 ghost use mathlib.Core.Path.{_≡_};
 ghost use lib.ListN.{length};
-ghost use Rattle.winnowing.specs.Limits.{kLimit, wLimit, letterLimit};
-ghost use Rattle.winnowing.specs.Sketch.{sketch};
-ghost use Rattle.winnowing.specs.Places.{runEnd, spanSketch};
+ghost use Rattle.minimizers.specs.Limits.{kLimit, wLimit, letterLimit};
+ghost use Rattle.minimizers.specs.Sketch.{sketch};
+ghost use Rattle.minimizers.specs.Places.{runEnd, spanSketch};
 ghost use Rattle.winnowing.specs.Winnowed.{wrote, written};
 ghost use Rattle.winnowing.specs.Scan.{ringSize, Ready, Passes, HasRoom};
 use crate::kmers::unrank;

@@ -2,9 +2,10 @@
 ghost use Prim.Native.Nat.{suc, _+_, _-_, _≤_, _<_};
 ghost use mathlib.Core.Path.{_≡_};
 ghost use lib.ListN.{length};
-ghost use Rattle.winnowing.specs.Limits.{wLimit, letterLimit};
-ghost use Rattle.winnowing.specs.Places.{codeAt, runEnd};
-ghost use Rattle.winnowing.specs.Scan.{ringAt, ringSize, Ready, Begun, Scanned, Filled, Passes, pickedFrom, IsLowest, HasRoom, IsPut};
+ghost use Rattle.minimizers.specs.Limits.{wLimit, letterLimit};
+ghost use Rattle.minimizers.specs.Places.{codeAt, runEnd};
+ghost use Rattle.winnowing.specs.Scan.{ringAt, ringSize, Ready, Begun, Scanned, Filled, Passes, HasRoom, IsPut};
+ghost use Rattle.minimizers.specs.Places.{pickedFrom, IsLowest};
 use crate::kmers::next_code;
 use crate::kmers::rank;
 use crate::kmers::unrank;

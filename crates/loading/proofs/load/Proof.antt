@@ -13,8 +13,8 @@ use borrow.Author.Tests.{lt-ltb, ltb-false, not-true, not-false}
 use denote.Ref.{now}
 use Rattle.counts.specs.Replies.{Reply, refused, after}
 use Rattle.counts.proofs.Lists.{or-left, or-right}
-use Rattle.winnowing.specs.Limits.{kLimit}
-use Rattle.winnowing.specs.Kmers.{codes as codesOf, positions as positionsOf}
+use Rattle.minimizers.specs.Limits.{kLimit}
+use Rattle.minimizers.specs.Kmers.{codes as codesOf, positions as positionsOf}
 use Rattle.store.specs.Words.{headerK, isHeader}
 use Rattle.store.specs.Load.{Judged, good, bad, judgeFrom, judge, storeK, storeW, loadRoom, judgedReply, loadReply, entriesOf, loadCodes, loadPositions}
 use Rattle.loading.specs.Verdicts.{counted, verdictReply}

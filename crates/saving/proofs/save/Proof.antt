@@ -10,8 +10,8 @@ use borrow.Author.Needs.{needs}
 use borrow.Author.Tests.{lt-ltb, eq-eqb, ne-eqb, not-true, not-false}
 use denote.Ref.{now}
 use Rattle.counts.specs.Replies.{Reply, accepted, refused, after}
-use Rattle.winnowing.specs.Limits.{kLimit, wLimit, outside}
-use Rattle.winnowing.specs.Kmers.{entries}
+use Rattle.minimizers.specs.Limits.{kLimit, wLimit, outside}
+use Rattle.minimizers.specs.Kmers.{entries}
 use Rattle.store.specs.Save.{stored, storable, saveReply, saveWords}
 use Rattle.store.proofs.WordLaws.{inside-range}
 use Rattle.store.proofs.Entries.{length-entries, length-stored}

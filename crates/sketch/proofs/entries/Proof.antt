@@ -6,7 +6,7 @@ use native.Mathlib.Nat.{zero-add}
 use mathlib.Core.Path.{_≡_, ap, _∙_}
 use mathlib.Core.List.{[]}
 use lib.ListN.{length}
-use Rattle.winnowing.specs.Sketch.{sketch}
+use Rattle.minimizers.specs.Sketch.{sketch}
 use Rattle.winnowing.specs.Winnowed.{Written, wrote, winnowed}
 use Rattle.winnowing.proofs.Within.{winnowed-within}
 use Rattle.sketch.proofs.Buffers.{written-nowhere}

@@ -11,12 +11,12 @@ use lib.IntN.{pos}
 use mir.Syntax.{w32}
 use mir.ValLaws.{toZ-pos}
 use Rattle.counts.specs.Replies.{accepted}
-use Rattle.winnowing.specs.Limits.{kLimit, wLimit, letterLimit, outside}
-use Rattle.winnowing.specs.Sketch.{sketch}
+use Rattle.minimizers.specs.Limits.{kLimit, wLimit, letterLimit, outside}
+use Rattle.minimizers.specs.Sketch.{sketch}
 use Rattle.sketch.specs.Replies.{hostNumber, countReply}
 use Rattle.winnowing.proofs.Within.{within-limits}
 use Rattle.sketch.proofs.Answering.{checked-k, checked-w, checked-many, checked-all}
-use Rattle.winnowing.proofs.Laws.{sketch-length}
+use Rattle.minimizers.proofs.Laws.{sketch-length}
 use Rattle.sketch.proofs.huddlewool_count.Statement.{statement}
 use Rattle.sketch.proofs.huddlewool_count.Tie as tie
 

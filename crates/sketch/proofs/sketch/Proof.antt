@@ -9,13 +9,13 @@ use mathlib.Core.Bool.{false}
 use mathlib.Core.List.{[], _∷_}
 use lib.ListN.{length}
 use Rattle.counts.specs.Replies.{refused}
-use Rattle.winnowing.specs.Limits.{kLimit, wLimit, letterLimit, outside}
-use Rattle.winnowing.specs.Sketch.{sketch}
+use Rattle.minimizers.specs.Limits.{kLimit, wLimit, letterLimit, outside}
+use Rattle.minimizers.specs.Sketch.{sketch}
 use Rattle.sketch.specs.Replies.{roomFor, sketchReply}
 use Rattle.sketch.specs.declared.Sketched.the-variants.{BadK, BadW, TooManyLetters, TooShort}
 use Rattle.winnowing.proofs.Within.{within-limits, winnowed-within}
 use Rattle.sketch.proofs.Answering.{checked-k, checked-w, checked-many, checked-all, room-short, room-enough, sketches-refused, sketches-accepted}
-use Rattle.winnowing.proofs.Laws.{sketch-length}
+use Rattle.minimizers.proofs.Laws.{sketch-length}
 use Rattle.sketch.proofs.sketch.Statement.{statement}
 use Rattle.sketch.proofs.sketch.Tie as tie
 

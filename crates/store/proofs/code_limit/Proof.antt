@@ -6,7 +6,7 @@ use native.Mathlib.Numerals.{add-one}
 use native.Mathlib.Omega.{arith}
 use mathlib.Core.Path.{_≡_, refl, sym, ap, _∙_}
 use lib.Dec.{lit<}
-use Rattle.winnowing.specs.Limits.{kLimit}
+use Rattle.minimizers.specs.Limits.{kLimit}
 use Rattle.store.proofs.code_limit.Statement.{statement}
 use Rattle.store.proofs.code_limit.Tie as tie
 

@@ -8,7 +8,7 @@ use Rattle.counts.specs.Counts.{occ}
 use lib.Dec.{leb}
 use Rattle.counts.specs.Marks.{marksOf}
 use Rattle.counts.proofs.Room.{mark-exact}
-use Rattle.winnowing.specs.Kmers.{entries}
+use Rattle.minimizers.specs.Kmers.{entries}
 use Rattle.strike.specs.Strike.{struck}
 use Rattle.strike.proofs.Marked.{sum-marks-le}
 use Rattle.strike.proofs.Replies.{kept-is, mark-le-one, codes-written, positions-written, room-short-codes, room-short-positions, room-enough}

@@ -4,7 +4,7 @@ use borrow.Author.Needs.{needs}
 use mathlib.Core.Path.{_≡_, sym, _∙_}
 use mathlib.Core.Bool.{false}
 use borrow.Author.Tests.{lt-ltb, le-ltb}
-use Rattle.winnowing.specs.Limits.{kLimit, wLimit, letterLimit, outside}
+use Rattle.minimizers.specs.Limits.{kLimit, wLimit, letterLimit, outside}
 use Rattle.winnowing.specs.Winnowed.{isBeyond}
 use Rattle.winnowing.proofs.is_beyond.Statement.{statement}
 use Rattle.winnowing.proofs.is_beyond.Tie as tie

@@ -8,7 +8,7 @@ use lib.ListN.{length, drop, drop-of-length-le}
 use lib.Seq.{drop-cons}
 use borrow.Author.Needs.{needs}
 use denote.Ref.{now}
-use Rattle.winnowing.specs.Kmers.{codes as codesOf, positions as positionsOf}
+use Rattle.minimizers.specs.Kmers.{codes as codesOf, positions as positionsOf}
 use Rattle.store.specs.Load.{judge, entriesOf}
 use Rattle.store.proofs.Entries.{length-codes, length-positions}
 use Rattle.store.proofs.RoundTrip.{loaded-at, length-loaded}

@@ -9,7 +9,7 @@ use lib.Dec.{ltb}
 use borrow.Author.Needs.{needs}
 use borrow.Author.Tests.{lt-ltb, le-ltb, not-true, not-false}
 use denote.Ref.{now}
-use Rattle.winnowing.specs.Kmers.{entries}
+use Rattle.minimizers.specs.Kmers.{entries}
 use Rattle.store.specs.Words.{isCode}
 use Rattle.store.specs.Save.{storable}
 use Rattle.store.proofs.WordLaws.{isCode-limit, isPosition-range}

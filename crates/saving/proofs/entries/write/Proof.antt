@@ -11,8 +11,8 @@ use lib.Seq.{take-suc-set, drop-set-lt}
 use lib.Dec.{lit<}
 use borrow.Author.Needs.{needs}
 use denote.Ref.{now}
-use Rattle.winnowing.specs.Limits.{letterLimit}
-use Rattle.winnowing.specs.Kmers.{entries}
+use Rattle.minimizers.specs.Limits.{letterLimit}
+use Rattle.minimizers.specs.Kmers.{entries}
 use Rattle.store.specs.Words.{isCode}
 use Rattle.store.specs.Save.{entryWords, stored, storable}
 use Rattle.store.proofs.WordLaws.{code-fits}

@@ -6,7 +6,7 @@ use native.Mathlib.Nat.{one-le-pow}
 use native.Mathlib.Omega.{arith}
 use mathlib.Core.Path.{_≡_}
 use lib.Dec.{lit<}
-use Rattle.winnowing.proofs.Codes.{shifted-four, masked}
+use Rattle.minimizers.proofs.Codes.{shifted-four, masked}
 use Rattle.winnowing.proofs.kmers.next_code.Statement.{statement}
 use Rattle.winnowing.proofs.kmers.next_code.Tie as tie
 

@@ -1,7 +1,7 @@
 -- `kmers::rank` meets its contract, by computing.
 -- Assumes nothing.
 use borrow.Author.Needs.{needs}
-use Rattle.winnowing.specs.Kmers.{rank}
+use Rattle.minimizers.specs.Kmers.{rank}
 use Rattle.winnowing.proofs.kmers.rank.Statement.{statement}
 use Rattle.winnowing.proofs.kmers.rank.Tie as tie
 

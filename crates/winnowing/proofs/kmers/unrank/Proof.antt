@@ -1,7 +1,7 @@
 -- `kmers::unrank` meets its contract, by computing.
 -- Assumes nothing.
 use borrow.Author.Needs.{needs}
-use Rattle.winnowing.specs.Scan.{unrank}
+use Rattle.minimizers.specs.Ranks.{unrank}
 use Rattle.winnowing.proofs.kmers.unrank.Statement.{statement}
 use Rattle.winnowing.proofs.kmers.unrank.Tie as tie
 

@@ -8,7 +8,7 @@ use mathlib.Core.Path.{_≡_, refl, _∙_}
 use lib.ListN.{length, getD, set, length-set}
 use lib.Seq.{getD-set-same, getD-set-other}
 use borrow.Author.Count.{below-more}
-use Rattle.winnowing.specs.Letters.{value}
+use Rattle.minimizers.specs.Letters.{value}
 use Rattle.winnowing.proofs.letters.table.Statement.{statement}
 use Rattle.winnowing.proofs.letters.table.Tie as tie
 

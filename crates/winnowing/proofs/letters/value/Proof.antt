@@ -2,7 +2,7 @@
 -- Assumes nothing.
 use mathlib.Core.Logic.{⊎-elim, inl, inr}
 use borrow.Author.Tests.{ne-eqb}
-use Rattle.winnowing.specs.Letters.{value}
+use Rattle.minimizers.specs.Letters.{value}
 use Rattle.winnowing.proofs.letters.value.Statement.{statement}
 use Rattle.winnowing.proofs.letters.value.Tie as tie
 

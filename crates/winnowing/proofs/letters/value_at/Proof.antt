@@ -4,7 +4,7 @@ use borrow.Author.Needs.{needs}
 use native.Mathlib.Omega.{arith}
 use mathlib.Core.Path.{sym, ap}
 use lib.ListN.{getD, List·getD-eq-default}
-use Rattle.winnowing.specs.Letters.{value}
+use Rattle.minimizers.specs.Letters.{value}
 use Rattle.winnowing.proofs.letters.value_at.Statement.{statement}
 use Rattle.winnowing.proofs.letters.value_at.Tie as tie
 

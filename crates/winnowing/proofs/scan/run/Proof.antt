@@ -3,8 +3,8 @@
 use Prim.Native.Nat.{_-_}
 use native.Mathlib.Omega.{arith}
 use mathlib.Core.Path.{_≡_, _∙_}
-use Rattle.winnowing.specs.Places.{runEnd}
-use Rattle.winnowing.proofs.Runs.{runEnd-within}
+use Rattle.minimizers.specs.Places.{runEnd}
+use Rattle.minimizers.proofs.Runs.{runEnd-within}
 use Rattle.winnowing.proofs.Steps.{runEnd-same, ring-scaled}
 use Rattle.winnowing.proofs.Passing.{ring-lowest, ring-code, run-none, run-short, run-long}
 use Rattle.winnowing.proofs.scan.run.Statement.{statement}

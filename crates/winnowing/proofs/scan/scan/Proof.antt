@@ -5,11 +5,11 @@ use Prim.Native.Nat.{suc, _-_, _≤_, zero-le}
 use native.Mathlib.Omega.{arith}
 use mathlib.Core.Path.{_≡_, refl, sym, ap, _∙_}
 use lib.ListN.{length}
-use Rattle.winnowing.specs.Sketch.{sketch}
-use Rattle.winnowing.specs.Places.{sketchFrom}
+use Rattle.minimizers.specs.Sketch.{sketch}
+use Rattle.minimizers.specs.Places.{sketchFrom}
 use Rattle.winnowing.specs.Winnowed.{written}
 use Rattle.winnowing.specs.Scan.{ringSize, HasRoom}
-use Rattle.winnowing.proofs.Runs.{runEnd-within, sketchFrom-end}
+use Rattle.minimizers.proofs.Runs.{runEnd-within, sketchFrom-end}
 use Rattle.winnowing.proofs.Passing.{run-passed}
 use Rattle.winnowing.proofs.scan.scan.Statement.{statement}
 use Rattle.winnowing.proofs.scan.scan.Tie as tie

@@ -6,11 +6,11 @@ use native.Mathlib.Nat.{le-refl}
 use native.Mathlib.Omega.{arith}
 use mathlib.Core.Path.{_≡_, sym, ap, _∙_, subst}
 use lib.ListN.{getD}
-use Rattle.winnowing.specs.Limits.{kLimit}
-use Rattle.winnowing.specs.Letters.{value, foreign}
-use Rattle.winnowing.specs.Kmers.{codeOf}
-use Rattle.winnowing.specs.Places.{codeAt, runEnd}
-use Rattle.winnowing.proofs.Runs.{runEnd-within}
+use Rattle.minimizers.specs.Limits.{kLimit}
+use Rattle.minimizers.specs.Letters.{value, foreign}
+use Rattle.minimizers.specs.Kmers.{codeOf}
+use Rattle.minimizers.specs.Places.{codeAt, runEnd}
+use Rattle.minimizers.proofs.Runs.{runEnd-within}
 use Rattle.winnowing.proofs.Steps.{end-here, end-later, digit-below, code-small, code-longer}
 use Rattle.winnowing.proofs.windows.first_letters.Statement.{statement}
 use Rattle.winnowing.proofs.windows.first_letters.Tie as tie

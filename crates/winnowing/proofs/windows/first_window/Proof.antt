@@ -7,11 +7,11 @@ use native.Mathlib.Omega.{arith}
 use mathlib.Core.Path.{_≡_, sym, _∙_, subst}
 use lib.Dec.{lit<}
 use lib.ListN.{getD}
-use Rattle.winnowing.specs.Letters.{value, foreign}
-use Rattle.winnowing.specs.Places.{runEnd}
+use Rattle.minimizers.specs.Letters.{value, foreign}
+use Rattle.minimizers.specs.Places.{runEnd}
 use Rattle.winnowing.specs.Scan.{Scanned}
-use Rattle.winnowing.proofs.Codes.{codeAt-below}
-use Rattle.winnowing.proofs.Runs.{runEnd-within, run-letters}
+use Rattle.minimizers.proofs.Codes.{codeAt-below}
+use Rattle.minimizers.proofs.Runs.{runEnd-within, run-letters}
 use Rattle.winnowing.proofs.Steps.{end-here, end-later, digit-below, pushed}
 use Rattle.winnowing.proofs.windows.first_window.Statement.{statement}
 use Rattle.winnowing.proofs.windows.first_window.Tie as tie

@@ -6,8 +6,9 @@ use native.Mathlib.Nat.{le-antisymm}
 use native.Mathlib.Numerals.{add-one}
 use native.Mathlib.Omega.{arith}
 use mathlib.Core.Path.{_≡_, refl, subst}
-use Rattle.winnowing.specs.Scan.{IsLowest, ringAt}
-use Rattle.winnowing.proofs.Picks.{lowest-one, lowest-new, lowest-kept}
+use Rattle.winnowing.specs.Scan.{ringAt}
+use Rattle.minimizers.specs.Places.{IsLowest}
+use Rattle.minimizers.proofs.Picks.{lowest-one, lowest-new, lowest-kept}
 use Rattle.winnowing.proofs.windows.lowest.Statement.{statement}
 use Rattle.winnowing.proofs.windows.lowest.Tie as tie
 

@@ -7,14 +7,15 @@ use native.Mathlib.Omega.{arith}
 use mathlib.Core.Path.{_≡_, refl, sym, ap, _∙_, subst}
 use mathlib.Core.List.{List, _++_}
 use lib.ListN.{length, getD}
-use Rattle.winnowing.specs.Limits.{letterLimit}
-use Rattle.winnowing.specs.Letters.{value, foreign}
-use Rattle.winnowing.specs.Kmers.{Entry}
-use Rattle.winnowing.specs.Places.{codeAt, rankAt, runEnd}
+use Rattle.minimizers.specs.Limits.{letterLimit}
+use Rattle.minimizers.specs.Letters.{value, foreign}
+use Rattle.minimizers.specs.Kmers.{Entry}
+use Rattle.minimizers.specs.Places.{codeAt, rankAt, runEnd}
 use Rattle.winnowing.specs.Winnowed.{written}
-use Rattle.winnowing.specs.Scan.{IsLowest, SameEnd}
+use Rattle.winnowing.specs.Scan.{SameEnd}
+use Rattle.minimizers.specs.Places.{IsLowest}
 use Rattle.winnowing.proofs.Passing.{Standing, Picking, toPick, ring-lowest, ring-code, window-new, picking-end, picking-left, picking-new, picking-kept}
-use Rattle.winnowing.proofs.Runs.{runEnd-within}
+use Rattle.minimizers.proofs.Runs.{runEnd-within}
 use Rattle.winnowing.proofs.Steps.{runEnd-same, end-here, end-later, digit-below, ring-scaled}
 use Rattle.winnowing.proofs.windows.pass_windows.Statement.{statement}
 use Rattle.winnowing.proofs.windows.pass_windows.Tie as tie

@@ -4,9 +4,9 @@ use Prim.Native.Nat.{ℕ, suc, _+_}
 use mathlib.Core.List.{List, [], _∷_, _++_}
 use lib.ListN.{length}
 use Rattle.counts.specs.Lists.{keep, any}
-use Rattle.winnowing.specs.Letters.{runs}
-use Rattle.winnowing.specs.Kmers.{Entry, kmers}
-use Rattle.winnowing.specs.Windows.{windows, picks}
+use Rattle.minimizers.specs.Letters.{runs}
+use Rattle.minimizers.specs.Kmers.{Entry, kmers}
+use Rattle.minimizers.specs.Windows.{windows, picks}
 
 -- the k-mers that some window picks, each once and in their order
 unfoldable pub pickedBy : List (List Entry) → List Entry → List Entry

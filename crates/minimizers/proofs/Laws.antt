@@ -11,15 +11,15 @@ use mathlib.Core.List.{List, [], _∷_, _++_, map, List·Memᴰ, List·Memᴰ·h
 use lib.ListN.{length, getD, take, drop, length-map}
 use Rattle.counts.specs.Lists.{keep, addIf, range, any}
 use Rattle.counts.proofs.Lists.{keep-mem, map-append}
-use Rattle.winnowing.specs.Limits.{kLimit}
-use Rattle.winnowing.specs.Letters.{value, isForeign}
-use Rattle.winnowing.specs.Kmers.{Entry, codeOf, codes, positions, entries, rank, rankModulus}
-use Rattle.winnowing.specs.Windows.{picks, windows}
-use Rattle.winnowing.specs.Sketch.{sketch, pickedBy}
-use Rattle.winnowing.specs.Places.{entryAt, codeAt, span, spanSketch, runEnd, sketchFrom}
-use Rattle.winnowing.proofs.Ranks.{rank-one-to-one}
-use Rattle.winnowing.proofs.Codes.{codeAt-below}
-use Rattle.winnowing.proofs.Runs.{by-runs, runEnd-within, run-letters}
+use Rattle.minimizers.specs.Limits.{kLimit}
+use Rattle.minimizers.specs.Letters.{value, isForeign}
+use Rattle.minimizers.specs.Kmers.{Entry, codeOf, codes, positions, entries, rank, rankModulus}
+use Rattle.minimizers.specs.Windows.{picks, windows}
+use Rattle.minimizers.specs.Sketch.{sketch, pickedBy}
+use Rattle.minimizers.specs.Places.{entryAt, codeAt, span, spanSketch, runEnd, sketchFrom}
+use Rattle.minimizers.proofs.Ranks.{rank-one-to-one}
+use Rattle.minimizers.proofs.Codes.{codeAt-below}
+use Rattle.minimizers.proofs.Runs.{by-runs, runEnd-within, run-letters}
 
 -- ---- codes and positions of any entries
 

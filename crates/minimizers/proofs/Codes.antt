@@ -11,11 +11,11 @@ use lib.Bits.{bitAnd, and-mask}
 use lib.ListN.{length, getD, take, drop, length-map, length-drop}
 use lib.Seq.{length-take-le, getD-take, getD-drop, take-suc, drop-cons}
 use Rattle.counts.proofs.Lists.{map-append, clash}
-use Rattle.winnowing.specs.Limits.{kLimit}
-use Rattle.winnowing.specs.Letters.{value, isForeign, eitherCase}
-use Rattle.winnowing.specs.Kmers.{codeOf, digits}
-use Rattle.winnowing.specs.Places.{codeAt}
-use Rattle.winnowing.proofs.Spans.{getD-map}
+use Rattle.minimizers.specs.Limits.{kLimit}
+use Rattle.minimizers.specs.Letters.{value, isForeign, eitherCase}
+use Rattle.minimizers.specs.Kmers.{codeOf, digits}
+use Rattle.minimizers.specs.Places.{codeAt}
+use Rattle.minimizers.proofs.Spans.{getD-map}
 
 pub value-below : (b : ℕ) → isForeign b ≡ false → value b < 4
 unfolding value isForeign

@@ -1,8 +1,8 @@
 -- `outside` meets its contract, by the two tests.
 -- Assumes nothing.
 use borrow.Author.Tests.{lt-ltb, le-ltb}
-use Rattle.winnowing.proofs.outside.Statement.{statement}
-use Rattle.winnowing.proofs.outside.Tie as tie
+use Rattle.minimizers.proofs.outside.Statement.{statement}
+use Rattle.minimizers.proofs.outside.Tie as tie
 
 returns : tie.Need-returns
 returns c = rw (lt-ltb (c .before .args .n) (c .before .args .low) (c .if1 .taken))

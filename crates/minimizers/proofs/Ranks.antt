@@ -4,8 +4,8 @@ use Prim.Native.Nat.{ℕ, zero, suc, _+_, _*_, _-_, _/_, _%_, _^_, _≤_, _<_, _
 use native.Mathlib.Nat.{pow-succ', mul-assoc, mul-mod-right, mod-one, mod-eq-of-lt, mod-eq-zero-of-dvd, dvd-of-mod-eq-zero, dvd-of-mul-dvd-mul-left, mul-dvd-mul-left, dvd-trans, dvd-mul-right, div-add-mod, mul-sub, mul-comm, zero-lt-suc, le-antisymm, add-mul-mod-self-left}
 use native.Mathlib.Omega.{arith}
 use mathlib.Core.Path.{_≡_, refl, sym, ap, _∙_, subst}
-use Rattle.winnowing.specs.Kmers.{rank, multiplier, rankModulus}
-use Rattle.winnowing.specs.Scan.{inverse, unrank}
+use Rattle.minimizers.specs.Kmers.{rank, multiplier, rankModulus}
+use Rattle.minimizers.specs.Ranks.{inverse, unrank}
 
 -- an odd factor may be left out: what it makes even was even
 even-factor : (d m : ℕ) → m % 2 ≡ 1 → d * m % 2 ≡ 0 → d % 2 ≡ 0

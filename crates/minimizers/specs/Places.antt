@@ -1,14 +1,14 @@
 -- K-mers by their position among all the letters: what the functions that scan letters speak of.
 -- Assumes nothing.
-use Prim.Native.Nat.{ℕ, suc, _+_, _-_}
+use Prim.Native.Nat.{ℕ, suc, _+_, _-_, _≤_, _<_}
 use mathlib.Core.Bool.{cond}
 use mathlib.Core.List.{List, [], _∷_, map}
 use lib.ListN.{take, drop}
-use Rattle.counts.specs.Lists.{range}
-use Rattle.winnowing.specs.Letters.{value, isForeign, runs}
-use Rattle.winnowing.specs.Kmers.{Entry, codeOf, rank}
-use Rattle.winnowing.specs.Windows.{windows}
-use Rattle.winnowing.specs.Sketch.{pickedBy, sketchRuns}
+use Rattle.counts.specs.Lists.{range, keep, any}
+use Rattle.minimizers.specs.Letters.{value, isForeign, runs}
+use Rattle.minimizers.specs.Kmers.{Entry, codeOf, rank}
+use Rattle.minimizers.specs.Windows.{windows, neighbours, picks}
+use Rattle.minimizers.specs.Sketch.{pickedBy, sketchRuns}
 
 -- the code of the k letters from position p on
 unfoldable pub codeAt : ℕ → List ℕ → ℕ → ℕ
@@ -40,3 +40,17 @@ runEnd letters at = at + runLength (drop at letters)
 -- what the letters from position `at` on add to the sketch, where a run begins there
 unfoldable pub sketchFrom : ℕ → ℕ → List ℕ → ℕ → List Entry
 sketchFrom k w letters at = sketchRuns k w at (runs (drop at letters))
+
+-- ---- windows
+
+-- among the positions from `from` up to, and without, `to`, p has the lowest rank, and is the rightmost of equal ones
+pub record IsLowest (ranks : ℕ → ℕ) (from to p : ℕ) : Type 0 where
+  pub first : from ≤ p
+  pub last : p < to
+  pub left : (q : ℕ) → from ≤ q → q < p → ranks p ≤ ranks q
+  pub right : (q : ℕ) → p < q → q < to → ranks p < ranks q
+
+-- of the k-mers from position m on, those that a window picks that begins at position i or later, where the run has its last
+-- k-mer before position `to`
+unfoldable pub pickedFrom : ℕ → ℕ → List ℕ → ℕ → ℕ → ℕ → List Entry
+pickedFrom k w letters to i m = keep (λ (e : Entry). any (picks (e .position)) (neighbours w (span k letters i to))) (span k letters m to)

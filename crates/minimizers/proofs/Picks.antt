@@ -12,12 +12,12 @@ use lib.ListN.{length, take, length-map}
 use borrow.Author.Tests.{ltb-true, ltb-false, eqb-true, eqb-false, leb-true, leb-false, le-leb, lt-leb, lt-ltb, le-ltb, eq-eqb, ne-eqb}
 use Rattle.counts.specs.Lists.{addIf, keep, any, range}
 use Rattle.counts.proofs.Lists.{length-range, or-left}
-use Rattle.winnowing.specs.Kmers.{Entry}
-use Rattle.winnowing.specs.Windows.{neighbours, windows, lower, lowest, picks}
-use Rattle.winnowing.specs.Sketch.{pickedBy}
-use Rattle.winnowing.specs.Places.{rankAt, entryAt, span, spanSketch}
-use Rattle.winnowing.specs.Scan.{IsLowest, pickedFrom}
-use Rattle.winnowing.proofs.Spans.{span-cons, span-none}
+use Rattle.minimizers.specs.Kmers.{Entry}
+use Rattle.minimizers.specs.Windows.{neighbours, windows, lower, lowest, picks}
+use Rattle.minimizers.specs.Sketch.{pickedBy}
+use Rattle.minimizers.specs.Places.{rankAt, entryAt, span, spanSketch}
+use Rattle.minimizers.specs.Places.{IsLowest, pickedFrom}
+use Rattle.minimizers.proofs.Spans.{span-cons, span-none}
 
 -- ---- the lowest of neighbouring positions, under any ranks
 

@@ -12,12 +12,12 @@ use borrow.Author.Tests.{leb-true, leb-false}
 use lib.ListN.{length, getD, take, drop, length-drop, length-take, length-map, drop-of-length-le}
 use lib.Seq.{drop-drop, take-all, getD-drop}
 use Rattle.counts.specs.Lists.{partsBetween, extend}
-use Rattle.winnowing.specs.Letters.{value, isForeign, runs}
-use Rattle.winnowing.specs.Kmers.{Entry, kmers}
-use Rattle.winnowing.specs.Windows.{windows}
-use Rattle.winnowing.specs.Sketch.{pickedBy, runSketch, sketchRuns}
-use Rattle.winnowing.specs.Places.{spanSketch, runLength, runEnd, sketchFrom}
-use Rattle.winnowing.proofs.Spans.{kmers-span}
+use Rattle.minimizers.specs.Letters.{value, isForeign, runs}
+use Rattle.minimizers.specs.Kmers.{Entry, kmers}
+use Rattle.minimizers.specs.Windows.{windows}
+use Rattle.minimizers.specs.Sketch.{pickedBy, runSketch, sketchRuns}
+use Rattle.minimizers.specs.Places.{spanSketch, runLength, runEnd, sketchFrom}
+use Rattle.minimizers.proofs.Spans.{kmers-span}
 
 run-within : (l : List ℕ) → runLength l ≤ length l
 run-within [] = zero-le

@@ -10,9 +10,9 @@ use lib.ListN.{length, getD, take, drop, length-take, length-drop, length-map}
 use lib.Seq.{drop-cons, take-take}
 use borrow.Author.Tests.{leb-true, leb-false}
 use Rattle.counts.specs.Lists.{range, addIf}
-use Rattle.winnowing.specs.Letters.{value}
-use Rattle.winnowing.specs.Kmers.{codeOf, kmers}
-use Rattle.winnowing.specs.Places.{codeAt, entryAt, span}
+use Rattle.minimizers.specs.Letters.{value}
+use Rattle.minimizers.specs.Kmers.{codeOf, kmers}
+use Rattle.minimizers.specs.Places.{codeAt, entryAt, span}
 
 -- the first k-mer of a span and the others
 pub span-cons : (k : ℕ) (letters : List ℕ) (from to : ℕ) → from < to → span k letters from to ≡ entryAt k letters from ∷ span k letters (suc from) to

@@ -6,7 +6,7 @@ use mathlib.Core.List.{List, [], _∷_}
 use lib.Dec.{leb, ltb, eqb}
 use lib.ListN.{length, take}
 use Rattle.counts.specs.Lists.{addIf}
-use Rattle.winnowing.specs.Kmers.{Entry, rank}
+use Rattle.minimizers.specs.Kmers.{Entry, rank}
 
 -- each w neighbouring k-mers
 abbrev pub neighbours : ℕ → List Entry → List (List Entry)

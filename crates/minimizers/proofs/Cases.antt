@@ -2,9 +2,9 @@
 -- Assumes nothing.
 use mathlib.Core.Path.{_≡_, refl}
 use mathlib.Core.List.{[], _∷_}
-use Rattle.winnowing.specs.Kmers.{codes, positions}
-use Rattle.winnowing.specs.Sketch.{sketch}
-use Rattle.winnowing.proofs.Compute.{winnowing-computes}
+use Rattle.minimizers.specs.Kmers.{codes, positions}
+use Rattle.minimizers.specs.Sketch.{sketch}
+use Rattle.minimizers.proofs.Compute.{minimizers-compute}
 
 -- 1. AAAT, w 2: positions 1, 2. 2. GTC, w 2: position 1. 3. CNA, w 2: positions 0, 2
 pub record SketchCases : Type 0 where
@@ -13,7 +13,7 @@ pub record SketchCases : Type 0 where
   pub case3 : positions (sketch 1 2 (67 ∷ 78 ∷ 65 ∷ [])) ≡ 0 ∷ 2 ∷ []
 
 pub sketch-cases : SketchCases
-unfolding winnowing-computes
+unfolding minimizers-compute
 sketch-cases = record { case1 = refl; case2 = refl; case3 = refl }
 
 -- each example below tells the definitions from one likely mistake
@@ -30,5 +30,5 @@ pub record SketchExamples : Type 0 where
   pub multiplied : positions (sketch 15 2 (67 ∷ 71 ∷ 67 ∷ 65 ∷ 71 ∷ 67 ∷ 65 ∷ 65 ∷ 65 ∷ 84 ∷ 71 ∷ 65 ∷ 84 ∷ 71 ∷ 84 ∷ 67 ∷ [])) ≡ 0 ∷ []
 
 pub sketch-examples : SketchExamples
-unfolding winnowing-computes
+unfolding minimizers-compute
 sketch-examples = record { first-highest = refl; foreign-ends = refl; lower-case = refl; short-run = refl; multiplied = refl }

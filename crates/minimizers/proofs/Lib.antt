@@ -1,0 +1,9 @@
+-- Laws about letters, ranks, windows and sketches, and examples that compute.
+pub mod Compute
+pub mod Cases
+pub mod Ranks
+pub mod Spans
+pub mod Codes
+pub mod Runs
+pub mod Picks
+pub mod Laws
