@@ -24,7 +24,7 @@ use Rattle.counts.proofs.Sorting.{Run, run-occ}
 
 -- ---- lists by their indices
 
-pub mem-at : {x : ℕ} (l : List ℕ) → List·Memᴰ x l → (i : ℕ) × (i < length l) × (x ≡ getD l i 0)
+mem-at : {x : ℕ} (l : List ℕ) → List·Memᴰ x l → (i : ℕ) × (i < length l) × (x ≡ getD l i 0)
 mem-at [] m = absurd (List·Memᴰ·not-nil m)
 mem-at {x} (y ∷ ys) m = go (mem-at ys) (List·Memᴰ·cases-cons m)
   where
@@ -37,12 +37,12 @@ at-mem [] i h = absurd (omega arith)
 at-mem (x ∷ xs) zero h = List·Memᴰ·head refl
 at-mem (x ∷ xs) (suc i) h = List·Memᴰ·tail (at-mem xs i (omega arith))
 
-pub getD-map-in : (f : ℕ → ℕ) (l : List ℕ) (i : ℕ) → i < length l → getD (map f l) i 0 ≡ f (getD l i 0)
+getD-map-in : (f : ℕ → ℕ) (l : List ℕ) (i : ℕ) → i < length l → getD (map f l) i 0 ≡ f (getD l i 0)
 getD-map-in f [] i h = absurd (omega arith)
 getD-map-in f (x ∷ xs) zero h = refl
 getD-map-in f (x ∷ xs) (suc i) h = getD-map-in f xs i (omega arith)
 
-pub same-mem : (l r : List ℕ) → SameKeys l r → {x : ℕ} → List·Memᴰ x l → List·Memᴰ x r
+same-mem : (l r : List ℕ) → SameKeys l r → {x : ℕ} → List·Memᴰ x l → List·Memᴰ x r
 same-mem l r h {x} m =
     let e : occ x l ≡ occ x r = ap (occ x) (sym (map-id l)) ∙ same-occ (λ (y : ℕ). y) l r h x ∙ ap (occ x) (map-id r) in
     let o : 1 ≤ occ x l = occ-mem x l m in
@@ -50,15 +50,15 @@ same-mem l r h {x} m =
 
 -- ---- marks put one after the other
 
-pub length-marked : (f : ℕ → ℕ) (keys marks : List ℕ) → length (markedBy f keys marks) ≡ length marks
+length-marked : (f : ℕ → ℕ) (keys marks : List ℕ) → length (markedBy f keys marks) ≡ length marks
 length-marked f [] marks = refl
 length-marked f (key ∷ keys) marks = length-marked f keys (set marks (indexOf key) (f key)) ∙ length-set marks (indexOf key) (f key)
 
-pub marked-append : (f : ℕ → ℕ) (l r marks : List ℕ) → markedBy f (l ++ r) marks ≡ markedBy f r (markedBy f l marks)
+marked-append : (f : ℕ → ℕ) (l r marks : List ℕ) → markedBy f (l ++ r) marks ≡ markedBy f r (markedBy f l marks)
 marked-append f [] r marks = refl
 marked-append f (key ∷ l) r marks = marked-append f l r (set marks (indexOf key) (f key))
 
-pub marked-same : (f g : ℕ → ℕ) (keys marks : List ℕ) → ((key : ℕ) → List·Memᴰ key keys → f key ≡ g key) → markedBy f keys marks ≡ markedBy g keys marks
+marked-same : (f g : ℕ → ℕ) (keys marks : List ℕ) → ((key : ℕ) → List·Memᴰ key keys → f key ≡ g key) → markedBy f keys marks ≡ markedBy g keys marks
 marked-same f g [] marks h = refl
 marked-same f g (key ∷ keys) marks h =
     ap (λ (x : ℕ). markedBy f keys (set marks (indexOf key) x)) (h key (List·Memᴰ·head refl))
@@ -206,7 +206,7 @@ module _ (keys : List ℕ) (sorted : Sorted (map wordOf keys)) (i j : ℕ) (apar
       rw w (ap (λ (n : ℕ). bit (leb n limit)) (run-occ (wordOf (getD keys i 0)) (map wordOf keys) i j run-of))
 
   -- the marks that the keys from i on put are those of the run, and then of the keys behind it
-  pub run-marks : (limit : ℕ) (marks : List ℕ) →
+  run-marks : (limit : ℕ) (marks : List ℕ) →
       markedBy (λ (key : ℕ). markOf (map wordOf keys) limit (wordOf key)) (drop i keys) marks ≡
       markedBy (λ (key : ℕ). markOf (map wordOf keys) limit (wordOf key)) (drop j keys) (markedBy (λ (key : ℕ). bit (leb (j - i) limit)) (slice i j keys) marks)
   run-marks limit marks =
@@ -241,7 +241,7 @@ runs-all limit keys marks₀ marks i h e = ap (λ (l : List ℕ). markedBy (λ (
 -- ---- the indices of the keys
 
 -- keys that are those of the words have indices below their number
-pub index-below : (words keys : List ℕ) → Fit32 words → SameKeys keys (keysFrom 0 words) → (k : ℕ) → k < length keys → indexOf (getD keys k 0) < length words
+index-below : (words keys : List ℕ) → Fit32 words → SameKeys keys (keysFrom 0 words) → (k : ℕ) → k < length keys → indexOf (getD keys k 0) < length words
 index-below words keys fit same k h =
     let r = keys-mem 0 words fit (same-mem keys (keysFrom 0 words) same (at-mem keys k h)) in
     let e : indexOf (getD keys k 0) ≡ 0 + r .0 = r .2 in

@@ -11,11 +11,11 @@ use lib.Seq.{length-take-le, take-all, drop-cons, getD-set-same, drop-set-lt, ta
 use borrow.Author.Tests.{le-leb, lt-leb}
 use Rattle.listing.specs.Writing.{fitting, overFrom, Written, LineWritten}
 
-pub fitting-all : (room : ℕ) (bytes : List ℕ) → length bytes ≤ room → fitting room bytes ≡ bytes
+fitting-all : (room : ℕ) (bytes : List ℕ) → length bytes ≤ room → fitting room bytes ≡ bytes
 unfolding fitting
 fitting-all room bytes h = rw (le-leb (length bytes) room h)
 
-pub fitting-none : (room : ℕ) (bytes : List ℕ) → room < length bytes → fitting room bytes ≡ []
+fitting-none : (room : ℕ) (bytes : List ℕ) → room < length bytes → fitting room bytes ≡ []
 unfolding fitting
 fitting-none room bytes h = rw (lt-leb (length bytes) room h)
 
@@ -25,7 +25,7 @@ unfolding fitting
 fitting-behind [] = refl
 fitting-behind (b ∷ bytes) = rw (leb·suc-zero (length bytes))
 
-pub overFrom-none : (at : ℕ) (old : List ℕ) → overFrom at [] old ≡ old
+overFrom-none : (at : ℕ) (old : List ℕ) → overFrom at [] old ≡ old
 unfolding overFrom
 overFrom-none at old = simp (add-zero, append-nil) (take-append-drop at old)
 

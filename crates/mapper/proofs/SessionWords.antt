@@ -42,7 +42,7 @@ module _ (work part : List ℕ) (many : 16384 ≤ length work) where
       ∙ getD-take 4096 work n 0 l
 
   module _ (size : length part ≡ 6144) where
-    pub same-number : length (withPart work part) ≡ length work
+    same-number : length (withPart work part) ≡ length work
     unfolding withPart
     same-number = same-len-mid 4096 6144 work part (size ∙ sym (mid-len 4096 10240 work (omega arith)))
 

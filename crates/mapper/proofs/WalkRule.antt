@@ -50,7 +50,7 @@ pub record PlaceWords (task : Task) (q columns row m : ℕ) : Type 0 where
   pub row-is : row ≡ nextRow (hitCount task) q
   pub shared-is : m ≡ nextShared task (columnsLeft (hitCount task) q) (nextRow (hitCount task) q)
 
-pub place-words : (task : Task) (q columns row m : ℕ) → PlaceAt task q columns row m → PlaceWords task q columns row m
+place-words : (task : Task) (q columns row m : ℕ) → PlaceAt task q columns row m → PlaceWords task q columns row m
 place-words task q zero row m (e, er, em) =
     let at = at-end (hitCount task) in
     record {

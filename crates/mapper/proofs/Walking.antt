@@ -81,7 +81,7 @@ update-stops terms columns row m left work p h r e =
 -- ---- a column as the code passes it
 
 -- the part that a column is lent has its three blocks
-pub part-length : (work : List ℕ) → 16384 ≤ length work → length (partOf work) ≡ 6144
+part-length : (work : List ℕ) → 16384 ≤ length work → length (partOf work) ≡ 6144
 unfolding partOf
 part-length work l = length-take-le 6144 (drop 4096 work) (let n = length-drop 4096 work in omega arith)
 

@@ -144,12 +144,12 @@ place-within h i j l k =
     omega arith
 
 -- the cells are the pairs (i, j), i ≤ j < h
-pub mem-cells : (h i j : ℕ) → i ≤ j → j < h → List·Memᴰ (cellAt i j) (cells h)
+mem-cells : (h i j : ℕ) → i ≤ j → j < h → List·Memᴰ (cellAt i j) (cells h)
 mem-cells h i j l k =
     subst (λ (cell : Cell). List·Memᴰ cell (cells h)) (getD-cells h i j (cellAt 0 0) l k)
     (getD-mem (cellAt 0 0) (cells h) (place h i j) (rw (length-cells h) (place-within h i j l k)))
 
-pub cells-mem : (h : ℕ) {cell : Cell} → List·Memᴰ cell (cells h) → (cell .row ≤ cell .column) × (cell .column < h)
+cells-mem : (h : ℕ) {cell : Cell} → List·Memᴰ cell (cells h) → (cell .row ≤ cell .column) × (cell .column < h)
 cells-mem h {cell} m =
     let r = mem-getD (cellAt 0 0) (cells h) m in
     let s : Stands h (r .0) (getD (cells h) (r .0) (cellAt 0 0)) = stands h (r .0) (cellAt 0 0) (rw (length-cells h) at (r .1)) in
@@ -191,7 +191,7 @@ drop-all-cells h = drop-of-length-le (cells h) (le-of-eq (length-cells h))
 -- ---- final intervals are cells
 
 -- the cell of two hits
-pub hits-cell : (task : Task) (a b : ℕ) → a ≤ b → b < length (task .text) → IsHit (task .pattern) (task .text) a → IsHit (task .pattern) (task .text) b → (cell : Cell) × List·Memᴰ cell (cellsOf task) × (leftEnd task cell ≡ a) × (rightEnd task cell ≡ b)
+hits-cell : (task : Task) (a b : ℕ) → a ≤ b → b < length (task .text) → IsHit (task .pattern) (task .text) a → IsHit (task .pattern) (task .text) b → (cell : Cell) × List·Memᴰ cell (cellsOf task) × (leftEnd task cell ≡ a) × (rightEnd task cell ≡ b)
 unfolding cellsOf leftEnd rightEnd
 hits-cell task a b l k hit-a hit-b =
     let first = hit-index task a (omega arith) hit-a in

@@ -62,7 +62,7 @@ module _ (task : Task) (steps : List Step) where
 
 module _ (task : Task) {steps : List Step} {given : List Answer} (demanded : Demanded task steps given) where
   -- the mappings handed out, by the test
-  pub demanded-list : handedOut given ≡ finalsOf task (take (passed given) (cellsOf task))
+  demanded-list : handedOut given ≡ finalsOf task (take (passed given) (cellsOf task))
   demanded-list = finals-list task (demanded .exact)
 
   -- at q = h(h + 1)/2 they are all of them

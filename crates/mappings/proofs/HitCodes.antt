@@ -117,7 +117,7 @@ module _ (task : Task) where
       sym (ap (drop i) joined ∙ drop-at (take i (hitCodes task)) inside i (length-take-le i (hitCodes task) (omega (arith, length-hitCodes))))
 
   -- a code of p occurs in [x i, x j] as often as among its hits
-  pub cell-occ : (i j y : ℕ) → i ≤ j → j < hitCount task → 1 ≤ occ y (task .pattern) → occ y (interval (task .text) (getD (hits task) i 0) (getD (hits task) j 0)) ≡ occ y (interval (hitCodes task) i j)
+  cell-occ : (i j y : ℕ) → i ≤ j → j < hitCount task → 1 ≤ occ y (task .pattern) → occ y (interval (task .text) (getD (hits task) i 0) (getD (hits task) j 0)) ≡ occ y (interval (hitCodes task) i j)
   cell-occ i j y l h k =
       sym (occ-keep (task .pattern) y (interval (task .text) (getD (hits task) i 0) (getD (hits task) j 0)) k)
       ∙ ap (occ y) (keep-interval i j l h)

@@ -37,7 +37,7 @@ hits-keep : (task : Task) → hits task ≡ keep (isHit (task .pattern) (task .t
 unfolding hits
 hits-keep task = hits-from (task .pattern) (task .text) 0 (task .text) refl
 
-pub hits-rise : (task : Task) → Rises (hits task)
+hits-rise : (task : Task) → Rises (hits task)
 hits-rise task = rw (hits-keep task) (rises-keep (isHit (task .pattern) (task .text)) (range 0 (length (task .text))) (rises-range 0 (length (task .text))))
 
 hits-mem : (task : Task) {x : ℕ} → List·Memᴰ x (hits task) → (x < length (task .text)) × IsHit (task .pattern) (task .text) x

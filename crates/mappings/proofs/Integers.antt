@@ -28,7 +28,7 @@ leZ-trans (negsuc a) (pos b) (negsuc c) h k = absurd (false≢true k)
 leZ-trans (negsuc a) (negsuc b) (pos c) h k = refl
 leZ-trans (negsuc a) (negsuc b) (negsuc c) h k = le-leb c a (omega (arith, leb-true b a h, leb-true c b k))
 
-pub leZ-antisym : (y z : ℤ) → leZ y z ≡ true → leZ z y ≡ true → y ≡ z
+leZ-antisym : (y z : ℤ) → leZ y z ≡ true → leZ z y ≡ true → y ≡ z
 leZ-antisym (pos a) (pos b) h k = ap pos (le-antisymm (leb-true a b h) (leb-true b a k))
 leZ-antisym (pos a) (negsuc b) h k = absurd (false≢true h)
 leZ-antisym (negsuc a) (pos b) h k = absurd (false≢true k)
@@ -53,7 +53,7 @@ difference a b = go (ltb a b) refl
     go false e = let h : b ≤ a = ltb-false a b e in up (a - b) (omega arith) (sub-subℕ a b ∙ rw e)
 
 -- two comparisons that pass together
-pub leb-same : (a b c d : ℕ) → (a ≤ b → c ≤ d) → (c ≤ d → a ≤ b) → leb a b ≡ leb c d
+leb-same : (a b c d : ℕ) → (a ≤ b → c ≤ d) → (c ≤ d → a ≤ b) → leb a b ≡ leb c d
 leb-same a b c d f g = same-test (leb a b) (leb c d) (λ h. le-leb c d (f (leb-true a b h))) (λ h. le-leb a b (g (leb-true c d h)))
 
 -- differences order as the sums across do
@@ -66,7 +66,7 @@ differences-order a b a′ b′ = go (difference a b) (difference a′ b′)
     go (down n p e) (up n′ p′ e′) = ap₂ leZ e e′ ∙ sym (le-leb (a + b′) (a′ + b) (omega arith))
     go (down n p e) (down n′ p′ e′) = ap₂ leZ e e′ ∙ leb-same n′ n (a + b′) (a′ + b) (omega arith) (omega arith)
 
-pub differences-same : (a b a′ b′ : ℕ) → a + b′ ≡ a′ + b → pos a -ℤ pos b ≡ pos a′ -ℤ pos b′
+differences-same : (a b a′ b′ : ℕ) → a + b′ ≡ a′ + b → pos a -ℤ pos b ≡ pos a′ -ℤ pos b′
 differences-same a b a′ b′ e =
     leZ-antisym (pos a -ℤ pos b) (pos a′ -ℤ pos b′)
     (differences-order a b a′ b′ ∙ le-leb (a + b′) (a′ + b) (omega arith))
@@ -75,7 +75,7 @@ differences-same a b a′ b′ e =
 -- ---- the linear score by naturals
 
 -- u·m − v·(len + |p| − 2m) is (u + 2v)·m − v·(len + |p|)
-pub linear-naturals : (u v size m len : ℕ) → 2 * m ≤ len + size → linear u v size m len ≡ pos ((u + 2 * v) * m) -ℤ pos (v * (len + size))
+linear-naturals : (u v size m len : ℕ) → 2 * m ≤ len + size → linear u v size m len ≡ pos ((u + 2 * v) * m) -ℤ pos (v * (len + size))
 unfolding linear distance
 linear-naturals u v size m len h =
     differences-same (u * m) (v * (len + size - 2 * m)) ((u + 2 * v) * m) (v * (len + size))

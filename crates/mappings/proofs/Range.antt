@@ -32,7 +32,7 @@ unfolding sharedOf
 shared-le-size task a b = shared-le-pattern (task .pattern) (interval (task .text) a b)
 
 -- so d is not cut off at 0
-pub twice-shared : (task : Task) (a b : ℕ) → b < length (task .text) → 2 * sharedOf task a b ≤ lengthOf a b + length (task .pattern)
+twice-shared : (task : Task) (a b : ℕ) → b < length (task .text) → 2 * sharedOf task a b ≤ lengthOf a b + length (task .pattern)
 twice-shared task a b h = omega (arith, shared-le-len task a b h, shared-le-size task a b)
 
 -- ---- a task within start's limits

@@ -101,7 +101,7 @@ pub data Passing (task : Task) : ℕ → ℕ → Answer → Type 0 where
   final : {q B : ℕ} (cell : Cell) → q < total task → drop q (cellsOf task) ≡ cell ∷ drop (suc q) (cellsOf task) → isFinalCell task cell ≡ true → Passing task q (suc B) (found (mappingOf task cell) 1)
   pass : {q B : ℕ} {answer : Answer} (cell : Cell) → q < total task → drop q (cellsOf task) ≡ cell ∷ drop (suc q) (cellsOf task) → isFinalCell task cell ≡ false → Passing task (suc q) B answer → Passing task q (suc B) (moreCells 1 answer)
 
-pub next-cell : (task : Task) (q : ℕ) → q < total task → drop q (cellsOf task) ≡ getD (cellsOf task) q (cellAt 0 0) ∷ drop (suc q) (cellsOf task)
+next-cell : (task : Task) (q : ℕ) → q < total task → drop q (cellsOf task) ≡ getD (cellsOf task) q (cellAt 0 0) ∷ drop (suc q) (cellsOf task)
 unfolding cellsOf
 next-cell task q h = drop-cons (cellsOf task) q (cellAt 0 0) (rw (length-cells (hitCount task)) h)
 

@@ -77,7 +77,7 @@ occ-distinct y (z ∷ zs) = go (occ-distinct y zs) (eq-or-ne y z) (eqb (occ z zs
     go rec (inr n) true t = let other : bit (eqb y z) ≡ 0 = bit-other y z n in omega arith
     go rec (inr n) false t = let other : bit (eqb y z) ≡ 0 = bit-other y z n in omega arith
 
-pub covers-distinct : (p : List ℕ) → Covers (distinct p) p
+covers-distinct : (p : List ℕ) → Covers (distinct p) p
 covers-distinct p = record {
   once = λ y. (let e : occ y (distinct p) ≡ min 1 (occ y p) = occ-distinct y p in omega arith);
   whole = λ y h. (let e : occ y (distinct p) ≡ min 1 (occ y p) = occ-distinct y p in omega arith);
@@ -90,11 +90,11 @@ covered-one-more l p s s′ x c h = over-one-more l p s s′ x h ∙ ap (λ (n :
     go true e = let less : occ x s < occ x p = ltb-true (occ x s) (occ x p) e in omega (arith, c .once x, c .whole x (omega arith))
     go false e = omega arith
 
-pub shared-one-more : (p s s′ : List ℕ) (x : ℕ) → OneMore x s s′ → shared p s′ ≡ bit (ltb (occ x s) (occ x p)) + shared p s
+shared-one-more : (p s s′ : List ℕ) (x : ℕ) → OneMore x s s′ → shared p s′ ≡ bit (ltb (occ x s) (occ x p)) + shared p s
 unfolding shared
 shared-one-more p s s′ x h = covered-one-more (distinct p) p s s′ x (covers-distinct p) h
 
-pub shared-cons : (p : List ℕ) (x : ℕ) (s : List ℕ) → shared p (x ∷ s) ≡ bit (ltb (occ x s) (occ x p)) + shared p s
+shared-cons : (p : List ℕ) (x : ℕ) (s : List ℕ) → shared p (x ∷ s) ≡ bit (ltb (occ x s) (occ x p)) + shared p s
 shared-cons p x s = shared-one-more p s (x ∷ s) x (λ y. refl)
 
 -- a code that is not in p adds nothing
@@ -132,7 +132,7 @@ shared-same p s s′ h =
     sum-same (λ y. min (occ y p) (occ y s)) (λ y. min (occ y p) (occ y s′)) (distinct p)
     (λ y m. ap (min (occ y p)) (h y (let e : 1 ≤ occ y (distinct p) = occ-mem y (distinct p) m in let f : occ y (distinct p) ≡ min 1 (occ y p) = occ-distinct y p in omega arith)))
 
-pub shared-comm : (p s : List ℕ) → shared p s ≡ shared s p
+shared-comm : (p s : List ℕ) → shared p s ≡ shared s p
 shared-comm p s =
     sym (shared-over (distinct (p ++ s)) p s left)
     ∙ sum-same (λ y. min (occ y p) (occ y s)) (λ y. min (occ y s) (occ y p)) (distinct (p ++ s)) (λ y m. min-comm (occ y p) (occ y s))
@@ -164,11 +164,11 @@ pub length-interval : (t : List ℕ) (a b : ℕ) → b < length t → length (in
 unfolding interval
 length-interval t a b h = length-slice a (suc b) t h
 
-pub interval-left : (t : List ℕ) (a b : ℕ) → a ≤ b → b < length t → interval t a b ≡ getD t a 0 ∷ interval t (suc a) b
+interval-left : (t : List ℕ) (a b : ℕ) → a ≤ b → b < length t → interval t a b ≡ getD t a 0 ∷ interval t (suc a) b
 unfolding interval
 interval-left t a b h k = slice-cons a (suc b) t 0 (suc-le-suc h) k
 
-pub interval-right : (t : List ℕ) (a b : ℕ) → a ≤ suc b → suc b < length t → interval t a (suc b) ≡ interval t a b ++ getD t (suc b) 0 ∷ []
+interval-right : (t : List ℕ) (a b : ℕ) → a ≤ suc b → suc b < length t → interval t a (suc b) ≡ interval t a b ++ getD t (suc b) 0 ∷ []
 unfolding interval
 interval-right t a b h k =
     ap (drop a) (take-suc t (suc b) 0 k)
@@ -183,10 +183,10 @@ more-right t a b h k y =
     ∙ occ-append y (interval t a b) (getD t (suc b) 0 ∷ [])
     ∙ omega arith
 
-pub shared-left : (p t : List ℕ) (a b : ℕ) → a ≤ b → b < length t → shared p (interval t a b) ≡ bit (ltb (occ (getD t a 0) (interval t (suc a) b)) (occ (getD t a 0) p)) + shared p (interval t (suc a) b)
+shared-left : (p t : List ℕ) (a b : ℕ) → a ≤ b → b < length t → shared p (interval t a b) ≡ bit (ltb (occ (getD t a 0) (interval t (suc a) b)) (occ (getD t a 0) p)) + shared p (interval t (suc a) b)
 shared-left p t a b h k = shared-one-more p (interval t (suc a) b) (interval t a b) (getD t a 0) (more-left t a b h k)
 
-pub shared-right : (p t : List ℕ) (a b : ℕ) → a ≤ suc b → suc b < length t → shared p (interval t a (suc b)) ≡ bit (ltb (occ (getD t (suc b) 0) (interval t a b)) (occ (getD t (suc b) 0) p)) + shared p (interval t a b)
+shared-right : (p t : List ℕ) (a b : ℕ) → a ≤ suc b → suc b < length t → shared p (interval t a (suc b)) ≡ bit (ltb (occ (getD t (suc b) 0) (interval t a b)) (occ (getD t (suc b) 0) p)) + shared p (interval t a b)
 shared-right p t a b h k = shared-one-more p (interval t a b) (interval t a (suc b)) (getD t (suc b) 0) (more-right t a b h k)
 
 -- the same by the whole interval: m grows exactly where the new end is reasonable

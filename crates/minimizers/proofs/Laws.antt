@@ -64,13 +64,13 @@ pub rising-length : (low high : ℕ) (ps : List ℕ) → Rising low high ps → 
 rising-length low high [] r = omega arith
 rising-length low high (p ∷ ps) r = let s : suc p + length ps ≤ high = rising-length (suc p) high ps (r .1) in omega arith
 
-pub rising-between : (low high : ℕ) (ps : List ℕ) → Rising low high ps → (i : ℕ) → i < length ps → (low ≤ getD ps i 0) × (getD ps i 0 < high)
+rising-between : (low high : ℕ) (ps : List ℕ) → Rising low high ps → (i : ℕ) → i < length ps → (low ≤ getD ps i 0) × (getD ps i 0 < high)
 rising-between low high [] r i h = absurd (omega arith)
 rising-between low high (p ∷ ps) r zero h = (r .0, omega (arith, rising-length (suc p) high ps (r .1)))
 rising-between low high (p ∷ ps) r (suc i) h = let s = rising-between (suc p) high ps (r .1) i (omega arith) in (omega arith)
 
 -- of two indices the greater has the greater number
-pub rising-strictly : (low high : ℕ) (ps : List ℕ) → Rising low high ps → (i j : ℕ) → i < j → j < length ps → getD ps i 0 < getD ps j 0
+rising-strictly : (low high : ℕ) (ps : List ℕ) → Rising low high ps → (i j : ℕ) → i < j → j < length ps → getD ps i 0 < getD ps j 0
 rising-strictly low high [] r i j h l = absurd (omega arith)
 rising-strictly low high (p ∷ ps) r i zero h l = absurd (omega arith)
 rising-strictly low high (p ∷ ps) r zero (suc j) h l = rising-between (suc p) high ps (r .1) j (omega arith) .0
@@ -138,7 +138,7 @@ span-kmer k letters at from (suc n) h i l {e} m = go (λ m′. span-kmer k lette
     go rec (inr m′) = rec m′
 
 -- each entry of a sketch is a k-mer of the letters
-pub sketch-kmer : (k w : ℕ) (letters : List ℕ) → 1 ≤ k → {e : Entry} → List·Memᴰ e (sketch k w letters) → IsKmer k letters e
+sketch-kmer : (k w : ℕ) (letters : List ℕ) → 1 ≤ k → {e : Entry} → List·Memᴰ e (sketch k w letters) → IsKmer k letters e
 unfolding sketch sketchFrom spanSketch pickedBy
 sketch-kmer k w letters some {e} m = by-runs k w letters some P (λ at h m′. absurd (List·Memᴰ·not-nil m′)) run (length letters) 0 (omega arith) m
   where
@@ -181,7 +181,7 @@ module _ (k w : ℕ) (letters : List ℕ) (some : 1 ≤ k) where
       rw (e .2) (code-below k letters (e .0) (e .1))
 
 -- a code of k letters, k at most 15, is below the modulus of the rank
-pub below-modulus : (k x : ℕ) → k ≤ kLimit → x < 4 ^ k → x < rankModulus
+below-modulus : (k x : ℕ) → k ≤ kLimit → x < 4 ^ k → x < rankModulus
 below-modulus k x h l = lt-of-lt-of-le l (pow-le-pow-right (zero-lt-suc 3) h)
 
 -- unequal codes of one k have unequal ranks

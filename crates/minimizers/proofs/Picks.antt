@@ -59,7 +59,7 @@ module _ (ranks : ℕ → ℕ) where
   lowest-moved from to p is h = record { first = h; last = is .last; left = λ q a b. is .left q (omega arith) b; right = is .right }
 
   -- the lowest never moves left
-  pub lowest-mono : (from to p from′ to′ p′ : ℕ) → IsLowest ranks from to p → IsLowest ranks from′ to′ p′ → from ≤ from′ → to ≤ to′ → p ≤ p′
+  lowest-mono : (from to p from′ to′ p′ : ℕ) → IsLowest ranks from to p → IsLowest ranks from′ to′ p′ → from ≤ from′ → to ≤ to′ → p ≤ p′
   lowest-mono from to p from′ to′ p′ is is′ a b = go (ltb p′ p) refl
     where
       go : (l : Bool) → ltb p′ p ≡ l → p ≤ p′
@@ -80,7 +80,7 @@ module _ (ranks : ℕ → ℕ) where
         right = λ q a b. subst (λ (x : ℕ). x < ranks′ q) at (subst (λ (x : ℕ). ranks p < x) (same q (le-trans (is .first) (le-of-lt a)) b) (is .right q a b));
       }
 
-  pub lowest-unique : (from to p p′ : ℕ) → IsLowest ranks from to p → IsLowest ranks from to p′ → p ≡ p′
+  lowest-unique : (from to p p′ : ℕ) → IsLowest ranks from to p → IsLowest ranks from to p′ → p ≡ p′
   lowest-unique from to p p′ is is′ =
       le-antisymm
       (lowest-mono from to p from to p′ is is′ (le-refl from) (le-refl to))
@@ -120,7 +120,7 @@ module _ (k : ℕ) (letters : List ℕ) where
       (found .0, found .1, λ x. ap (picks x) (span-cons k letters from to h) ∙ ap (λ (e : Entry). eqb x (e .position)) (found .2))
 
   -- a window picks its lowest
-  pub picks-lowest : (from to p : ℕ) → IsLowest (rankAt k letters) from to p → (x : ℕ) → picks x (span k letters from to) ≡ eqb x p
+  picks-lowest : (from to p : ℕ) → IsLowest (rankAt k letters) from to p → (x : ℕ) → picks x (span k letters from to) ≡ eqb x p
   picks-lowest from to p is x =
       let found = lowest-found from to (lt-of-le-of-lt (is .first) (is .last)) in
       found .2 x ∙ ap (eqb x) (lowest-unique (rankAt k letters) from to (found .0) p (found .1) is)

@@ -54,7 +54,7 @@ odd-multiple-le n m x y odd hx h =
     omega arith
 
 -- ONE LAW for any power of two and any odd multiplier: unequal numbers below the power have unequal remainders
-pub odd-multiple-one-to-one : (n m x y : ℕ) → m % 2 ≡ 1 → x < 2 ^ n → y < 2 ^ n → x * m % 2 ^ n ≡ y * m % 2 ^ n → x ≡ y
+odd-multiple-one-to-one : (n m x y : ℕ) → m % 2 ≡ 1 → x < 2 ^ n → y < 2 ^ n → x * m % 2 ^ n ≡ y * m % 2 ^ n → x ≡ y
 odd-multiple-one-to-one n m x y odd hx hy h = le-antisymm (odd-multiple-le n m x y odd hx h) (odd-multiple-le n m y x odd hy (sym h))
 
 -- a factor and its inverse undo each other, and remainders may be taken on the way

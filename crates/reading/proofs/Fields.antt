@@ -193,7 +193,7 @@ module _ (ns l : List ℕ) where
   too-many h true s = absurd (omega (arith, signed-whole l s))
   too-many h false s = ap (lastField ns) (parts-more space l h) ∙ more-than-one ns (firstPart space l) (drop (suc (length (firstPart space l))) l)
 
-  pub left-last : left 0 ns (fields l) ≡ cond (isSigned l) (made ns (signedValue l)) noFirstLine
+  left-last : left 0 ns (fields l) ≡ cond (isSigned l) (made ns (signedValue l)) noFirstLine
   unfolding fields
   left-last = go (decided (ltb (length (firstPart space l)) (length l)))
     where

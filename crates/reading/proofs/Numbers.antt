@@ -28,7 +28,7 @@ and-false true = refl
 and-false false = refl
 
 -- a digit more makes the number no smaller
-pub value-le : (n : ℕ) (l : List ℕ) → n ≤ decimalValue n l
+value-le : (n : ℕ) (l : List ℕ) → n ≤ decimalValue n l
 value-le n [] = omega arith
 value-le n (b ∷ l) = let h : 10 * n + (b - digit 0) ≤ decimalValue (10 * n + (b - digit 0)) l = value-le (10 * n + (b - digit 0)) l in omega arith
 

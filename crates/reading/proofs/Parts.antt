@@ -45,7 +45,7 @@ module _ (b : ℕ) where
       go rec true e = rw e (at x l e)
       go rec false e = rw (e, first-extend x (parts b l)) (more x l e rec)
 
-  pub first-take : (l : List ℕ) → firstPart b l ≡ take (length (firstPart b l)) l
+  first-take : (l : List ℕ) → firstPart b l ≡ take (length (firstPart b l)) l
   first-take = parts-by (λ l p ps. p ≡ take (length p) l) refl (λ x l e. refl) (λ x l e rec. ap (λ (r : List ℕ). x ∷ r) rec)
 
   pub first-le : (l : List ℕ) → length (firstPart b l) ≤ length l

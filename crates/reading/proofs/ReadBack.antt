@@ -42,7 +42,7 @@ is-decimal-digits =
     (λ n rest l h r p e. r (omega arith) (and-both (digit-is-digit (n % 10) (omega arith)) e))
 
 -- it has digits alone, at least one, and no leading zero
-pub is-decimal : (n : ℕ) → n < 10 ^ 10 → isDecimal (decimal n) ≡ true
+is-decimal : (n : ℕ) → n < 10 ^ 10 → isDecimal (decimal n) ≡ true
 unfolding decimal
 is-decimal zero h = refl
 is-decimal (suc n) h = is-decimal-digits 9 (suc n) [] h (omega arith) refl

@@ -58,7 +58,7 @@ held-facts places k size a b m e8 =
 
 -- the ends as wider numbers
 module _ (places : List ℕ) (k size a b from to end : ℕ) (ea : from ≡ a) (eb : to ≡ b) (e : EndOf places k size from to end) where
-  pub end-is : Holds places k size a b → end ≡ getD places b 0 + k
+  end-is : Holds places k size a b → end ≡ getD places b 0 + k
   end-is h = e .held (rw (ea, eb) h) ∙ ap (λ (i : ℕ). getD places i 0 + k) eb
 
   pub not-held : end < 1 → Holds places k size a b → ⊥

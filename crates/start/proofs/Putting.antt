@@ -181,7 +181,7 @@ module _ (task : Task) where
     head-at i l = let e : i ≡ 0 + i = omega arith in ap (λ (n : ℕ). getD w₆ n 0) e ∙ puts .put-heading .inside i l
 
     -- the words of a fresh session
-    pub puts-session : 16384 ≤ length old → w₆ ≡ sessionWords task old 0
+    puts-session : 16384 ≤ length old → w₆ ≡ sessionWords task old 0
     puts-session many = hold-words task old 0 small many w₆ (record {
       held = record {
         number = puts .put-heading .same-length ∙ puts .put-whole .same-length ∙ puts .put-best .same-length ∙ puts .put-reach .same-length ∙ puts .put-index .same-length ∙ puts .put-back .same-length;

@@ -106,7 +106,7 @@ module _ (sorted g : List ℕ) where
     turn-is = now .turn code s lower some
 
     -- a hit's place is one of its word's slots
-    pub turn-less : getD turns s 0 < occ code sorted
+    turn-less : getD turns s 0 < occ code sorted
     turn-less = rw turn-is (mod-lt (before g code j) some)
 
     pub place-within : s + getD turns s 0 < length sorted

@@ -140,7 +140,7 @@ module _ (p g : List ℕ) where
   reach-from i = first-from (λ (j : ℕ). ltb (occ (getD g i 0) p) (occ (getD g i 0) (interval g i j))) i (length g - i)
 
   -- up to it a hit's code occurs at most as often as in p
-  pub reach-low : (i j : ℕ) → i ≤ j → j ≤ reach p g i → i < length g → before g (getD g i 0) j ≤ before g (getD g i 0) i + occ (getD g i 0) p
+  reach-low : (i j : ℕ) → i ≤ j → j ≤ reach p g i → i < length g → before g (getD g i 0) j ≤ before g (getD g i 0) i + occ (getD g i 0) p
   unfolding reach
   reach-low i zero h l k = let e : i ≡ 0 = omega arith in rw e (omega arith)
   reach-low i (suc j) h l k = go (eq-or-ne i (suc j))
@@ -157,7 +157,7 @@ module _ (p g : List ℕ) where
           omega arith
 
   -- from it on more often
-  pub reach-high : (i : ℕ) → i < length g → reach p g i < length g → before g (getD g i 0) i + occ (getD g i 0) p < before g (getD g i 0) (suc (reach p g i))
+  reach-high : (i : ℕ) → i < length g → reach p g i < length g → before g (getD g i 0) i + occ (getD g i 0) p < before g (getD g i 0) (suc (reach p g i))
   unfolding reach
   reach-high i h l =
       let t : ltb (occ (getD g i 0) p) (occ (getD g i 0) (interval g i (reach p g i))) ≡ true = first-passes (λ (j : ℕ). ltb (occ (getD g i 0) p) (occ (getD g i 0) (interval g i j))) i (length g - i) (omega arith) in
@@ -207,7 +207,7 @@ module _ (p g : List ℕ) where
   -- ---- what holds where each code of the hits occurs in p
 
   module _ (all : AllIn p g) where
-    pub reach-after : (i : ℕ) → i < length g → i < reach p g i
+    reach-after : (i : ℕ) → i < length g → i < reach p g i
     reach-after i h = go (eq-or-ne i (reach p g i))
       where
         go : (i ≡ reach p g i) ⊎ (i ≡ reach p g i → ⊥) → i < reach p g i

@@ -70,7 +70,7 @@ out-block block rest old n k e (inr b) = go (leb (block .begins) n)
     go true = rw (e, le-ltb n (block .begins + k) b)
     go false = refl
 
-pub length-withCells : (task : Task) (best : List ℕ) (cells : List Cell) → length (withCells task best cells) ≡ length best
+length-withCells : (task : Task) (best : List ℕ) (cells : List Cell) → length (withCells task best cells) ≡ length best
 unfolding withCell
 length-withCells task best [] = refl
 length-withCells task best (cell ∷ cells) = length-withCells task (withCell task best cell) cells ∙ length-set best (cell .row) _

@@ -50,7 +50,7 @@ entries-drop cs ps i same h =
     let h′ : i < length ps = omega arith in
     ap₂ entries (drop-cons cs i 0 h) (drop-cons ps i 0 h′)
 
-pub length-entryWords : (n : ℕ) (es : List Entry) → length (entryWords n es) ≡ 2 * length es + 1
+length-entryWords : (n : ℕ) (es : List Entry) → length (entryWords n es) ≡ 2 * length es + 1
 length-entryWords n [] = refl
 length-entryWords n (e ∷ es) = let r : length (entryWords n es) ≡ 2 * length es + 1 = length-entryWords n es in omega arith
 
@@ -114,7 +114,7 @@ storable-at k low (e ∷ es) (suc i) s h =
     storable-at k (suc (e .position)) es i (parts .rest-good) (omega arith)
 
 -- codes below 4^k at positions that rise strictly below 1,048,576 are storable
-pub rising-storable :
+rising-storable :
     (k low : ℕ) (es : List Entry) →
     Rising low letterLimit (positions es) →
     ((i : ℕ) → i < length es → getD (codes es) i 0 < 4 ^ k) →

@@ -14,7 +14,7 @@ use Rattle.store.specs.Words.{kind, content, headerK, headerW, isHeader,
 use Rattle.store.specs.Load.{Judged, good, bad, withEntry, lastWord, judgeFrom, judge, storeK, storeW}
 
 -- a word with a code is no last word
-pub code-not-last : (k x : ℕ) → isCodeWord k x ≡ true → eqb (kind x) 3 ≡ false
+code-not-last : (k x : ℕ) → isCodeWord k x ≡ true → eqb (kind x) 3 ≡ false
 code-not-last k x h = rw (eqb-true (kind x) 1 (and-left (eqb (kind x) 1) (isCode k (content x)) h))
 
 module _ (k index n low x : ℕ) where

@@ -33,7 +33,7 @@ inside-range low high n h =
     let e = or-neither (ltb n low) (ltb high n) h in
     (ltb-false n low (e .0), ltb-false high n (e .1))
 
-pub isCode-below : (k x : ℕ) → isCode k x ≡ true → x < 4 ^ k
+isCode-below : (k x : ℕ) → isCode k x ≡ true → x < 4 ^ k
 unfolding isCode
 isCode-below k x h = ltb-true x (4 ^ k) h
 

@@ -33,7 +33,7 @@ module _ {A : Type 0} where
   map-sublist g (Sublistᴰ·cons-cons e s) = Sublistᴰ·cons-cons (ap g e) (map-sublist g s)
 
 -- the struck entries are some of the entries, in their order
-pub struck-sublist : (c : ℕ) (es : List Entry) → Sublistᴰ (struck c es) es
+struck-sublist : (c : ℕ) (es : List Entry) → Sublistᴰ (struck c es) es
 unfolding struck strike
 struck-sublist c es = keep-sublist (λ (e : Entry). leb (occ (e .code) (codes es)) c) es
 
@@ -54,7 +54,7 @@ StrictlyRising l = (i j : ℕ) → i < j → j < length l → getD l i 0 < getD 
 rising-tail : (x : ℕ) (l : List ℕ) → StrictlyRising (x ∷ l) → StrictlyRising l
 rising-tail x l r i j h m = r (suc i) (suc j) (omega arith) (omega arith)
 
-pub rising-sublist : {l r : List ℕ} → Sublistᴰ l r → StrictlyRising r → StrictlyRising l
+rising-sublist : {l r : List ℕ} → Sublistᴰ l r → StrictlyRising r → StrictlyRising l
 rising-sublist Sublistᴰ·slnil rise i j h m = absurd (omega arith)
 rising-sublist (Sublistᴰ·cons {a = a} {l₂ = r} s) rise i j h m = rising-sublist s (rising-tail a r rise) i j h m
 rising-sublist (Sublistᴰ·cons-cons e s) rise zero zero h m = absurd (omega arith)
@@ -82,7 +82,7 @@ unfolding struck strike
 mem-struck c es {e} m h = mem-keep (λ (x : Entry). leb (occ (x .code) (codes es)) c) m (le-leb (occ (e .code) (codes es)) c h)
 
 -- the codes kept are the codes that occur at most c times
-pub codes-keep : (f : ℕ → Bool) (es : List Entry) → codes (keep (λ (e : Entry). f (e .code)) es) ≡ keep f (codes es)
+codes-keep : (f : ℕ → Bool) (es : List Entry) → codes (keep (λ (e : Entry). f (e .code)) es) ≡ keep f (codes es)
 codes-keep f [] = refl
 codes-keep f (e ∷ es) = go (f (e .code)) ∙ ap (addIf (f (e .code)) (e .code)) (codes-keep f es)
   where
@@ -90,7 +90,7 @@ codes-keep f (e ∷ es) = go (f (e .code)) ∙ ap (addIf (f (e .code)) (e .code)
     go true = refl
     go false = refl
 
-pub struck-keeps : (c : ℕ) (es : List Entry) → codes (struck c es) ≡ keep (λ (x : ℕ). leb (occ x (codes es)) c) (codes es)
+struck-keeps : (c : ℕ) (es : List Entry) → codes (struck c es) ≡ keep (λ (x : ℕ). leb (occ x (codes es)) c) (codes es)
 unfolding struck strike
 struck-keeps c es = codes-keep (λ (x : ℕ). leb (occ x (codes es)) c) es
 
@@ -110,7 +110,7 @@ struck-occ c es x h = ap (occ x) (struck-keeps c es) ∙ occ-keep (λ (y : ℕ).
 
 -- ---- lengths
 
-pub struck-length : (c : ℕ) (es : List Entry) → length (struck c es) ≤ length es
+struck-length : (c : ℕ) (es : List Entry) → length (struck c es) ≤ length es
 unfolding struck strike
 struck-length c es = length-keep (λ (e : Entry). leb (occ (e .code) (codes es)) c) es
 

@@ -29,7 +29,7 @@ pub sum-drop : (l : List ℕ) (i : ℕ) → i < length l → sum (drop i l) ≡ 
 sum-drop l i h = ap sum (drop-cons l i 0 h)
 
 -- where something is left to count, an index is left
-pub sum-left : (l : List ℕ) (i : ℕ) → 0 < sum (drop i l) → i < length l
+sum-left : (l : List ℕ) (i : ℕ) → 0 < sum (drop i l) → i < length l
 sum-left l i h = go (leb (length l) i) refl
   where
     go : (b : Bool) → leb (length l) i ≡ b → i < length l

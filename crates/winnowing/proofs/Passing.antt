@@ -21,7 +21,7 @@ use Rattle.winnowing.proofs.Steps.{pushed}
 use Rattle.minimizers.proofs.Picks.{lowest-same, lowest-new, lowest-kept, lowest-moved, picked-new, picked-old, picked-none, spanSketch-none, spanSketch-short, spanSketch-long}
 
 -- what is put stood first among what was to come
-pub put-first : (room n code position n′ : ℕ) (cs ps cs′ ps′ : List ℕ) → IsPut room n code position n′ cs ps cs′ ps′
+put-first : (room n code position n′ : ℕ) (cs ps cs′ ps′ : List ℕ) → IsPut room n code position n′ cs ps cs′ ps′
     → (es : List Entry) → written room n′ cs′ ps′ es ≡ written room n cs ps (record { code = code; position = position } ∷ es)
 put-first room n code position n′ cs ps cs′ ps′ is es = rw (is .counted, is .codes-after, is .positions-after)
 
@@ -52,7 +52,7 @@ module _ (last w room to : ℕ) (letters : List ℕ) (some : 1 ≤ w) (i b p : �
       ∙ ap (λ (l : List Entry). written room n cs ps (l ++ es)) (sym (picked-new (suc last) letters w to some i m p (subst (λ (x : ℕ). x ≤ to) (sym wide) within) here h))
 
   -- and nothing is where it is not
-  pub window-old : (m : ℕ) → p < m → pickedFrom (suc last) w letters to i m ≡ pickedFrom (suc last) w letters to (suc i) m
+  window-old : (m : ℕ) → p < m → pickedFrom (suc last) w letters to i m ≡ pickedFrom (suc last) w letters to (suc i) m
   window-old m h = picked-old (suc last) letters w to some i m p (subst (λ (x : ℕ). x ≤ to) (sym wide) within) here h
 
 -- ---- what holds in the loops over windows and letters
