@@ -8,7 +8,7 @@ use borrow.Author.Tests.{eqb-true, leb-true, eq-eqb, le-leb, lt-leb}
 use lib.Dec.{leb, eqb}
 use lib.ListN.{length}
 use Rattle.column.specs.declared.cells.Line.{Line}
-use Rattle.column.specs.Passing.{seenBefore, Update, nonePassed, passRows, fits, columnPass}
+use Rattle.column.specs.Passing.{seenBefore, nonePassed, passRows, fits, columnPass}
 
 both : (a b : Bool) → (a && b) ≡ true → (a ≡ true) × (b ≡ true)
 both true true e = (e, e)

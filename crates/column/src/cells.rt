@@ -7,7 +7,7 @@ use crate::score::score_word;
 use layout::BEST;
 use layout::REACH;
 ghost use mathlib.Core.Path.{_≡_};
-ghost use Prim.Native.Nat.{ℕ, _+_, _-_, _≤_, _<_};
+ghost use Prim.Native.Nat.{_+_, _-_, _≤_, _<_};
 ghost use lib.ListN.{length};
 ghost use Rattle.column.specs.Passing.{seenBefore, finalTest, quietRows, nonePassed, passRows, fits as fitsPart, columnPass};
 

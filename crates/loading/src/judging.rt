@@ -1,5 +1,5 @@
 // Judging the words of a store, and reading the entries of a good one.
-use crate::layout;
+use crate::format;
 ghost use mathlib.Core.Path.{_≡_};
 ghost use Prim.Native.Nat.{suc, _≤_, _<_};
 ghost use lib.ListN.{length, drop, getD};
@@ -21,7 +21,7 @@ fn judge_last(words: &[u32], index: usize, n: usize) -> Verdict
     requires { ⌜ index < length (now words) ⌝ }
     ensures { λ r. ⌜ verdictReply r ≡ counted n (lastWord index n (getD (now (words .entry)) index 0) (drop (suc index) (now (words .entry)))) ⌝ }
 {
-    if layout::content(words[index]) as usize != n {
+    if format::content(words[index]) as usize != n {
         return Verdict::BadEnd(index);
     }
     let next = index + 1;
@@ -42,10 +42,10 @@ pub(crate) fn judge(words: &[u32], k: u32) -> Verdict
     let mut low: u32 = 0;
     while index < words.len() {
         let first = words[index];
-        if layout::kind(first) == 3 {
+        if format::kind(first) == 3 {
             return judge_last(words, index, n);
         }
-        if !layout::is_code_word(first, limit) {
+        if !format::is_code_word(first, limit) {
             return Verdict::BadWord(index);
         }
         let next = index + 1;
@@ -53,10 +53,10 @@ pub(crate) fn judge(words: &[u32], k: u32) -> Verdict
             return Verdict::BadEnd(next);
         }
         let second = words[next];
-        if !layout::is_position_word(second, low) {
+        if !format::is_position_word(second, low) {
             return Verdict::BadWord(next);
         }
-        low = layout::content(second) + 1;
+        low = format::content(second) + 1;
         n += 1;
         index += 2;
     }
@@ -73,8 +73,8 @@ pub(crate) fn read(words: &[u32], n: usize, codes: &mut [u32], positions: &mut [
 {
     let mut i = 0;
     while i < n {
-        codes[i] = layout::content(words[2 * i + 1]);
-        positions[i] = layout::content(words[2 * i + 2]);
+        codes[i] = format::content(words[2 * i + 1]);
+        positions[i] = format::content(words[2 * i + 2]);
         i += 1;
     }
 }

@@ -1,7 +1,7 @@
 // `load` judges the words of a store, and reads a sketch's entries back from a good one.
 // Assumes nothing.
+mod format;
 mod judging;
-mod layout;
 
 use judging::Verdict;
 use store::Loaded;
@@ -20,11 +20,11 @@ pub fn load(words: &[u32], codes: &mut [u32], positions: &mut [u32]) -> Loaded
         return Loaded::BadHeader(0);
     }
     let header = words[0];
-    if !layout::is_header(header) {
+    if !format::is_header(header) {
         return Loaded::BadHeader(0);
     }
-    let k = layout::header_k(header);
-    let w = layout::header_w(header);
+    let k = format::header_k(header);
+    let w = format::header_w(header);
     match judging::judge(words, k) {
         Verdict::BadWord(index) => Loaded::BadWord(index),
         Verdict::BadEnd(index) => Loaded::BadEnd(index),

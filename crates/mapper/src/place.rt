@@ -6,7 +6,7 @@ use layout::SHARED;
 use layout::WHOLE;
 use layout::wider;
 ghost use mathlib.Core.Path.{_≡_};
-ghost use Prim.Native.Nat.{ℕ, _≤_};
+ghost use Prim.Native.Nat.{_≤_};
 ghost use lib.ListN.{length};
 ghost use Rattle.mapper.specs.Walking.{topShared, settled as settledPlace, saved};
 

@@ -10,7 +10,7 @@ use layout::PART_END;
 use layout::wide;
 use layout::wider;
 ghost use mathlib.Core.Path.{_≡_};
-ghost use Prim.Native.Nat.{ℕ, _-_, _≤_, _<_, min};
+ghost use Prim.Native.Nat.{_-_, _≤_, _<_, min};
 ghost use lib.ListN.{length};
 ghost use Rattle.mapper.specs.Walking.{lineOf, columnUpdate, withPart};
 

@@ -13,7 +13,7 @@ use column::score::lowered;
 use layout::INDEX;
 ghost use mathlib.Core.Path.{_≡_};
 ghost use mathlib.Core.Bool.{cond};
-ghost use Prim.Native.Nat.{ℕ, _+_, _≤_, _<_};
+ghost use Prim.Native.Nat.{_+_, _≤_, _<_};
 ghost use lib.ListN.{length};
 ghost use Rattle.column.specs.Passing as Passing;
 ghost use Rattle.mapper.specs.Walking.{spentWalk, finishedWalk, foundWalk, walkOn};

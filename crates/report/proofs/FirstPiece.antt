@@ -1,7 +1,6 @@
 -- The first piece from the answer of the calls, and the session that it leaves to be printed.
 -- Assumes nothing.
 use Prim.Native.Nat.{ℕ, _-_}
-use native.Mathlib.Omega.{arith}
 use mathlib.Core.Path.{_≡_, sym, _∙_, subst}
 use mathlib.Core.List.{List}
 use Rattle.reading.specs.Input.{inputOf}

@@ -4,6 +4,7 @@ use crate::lines::put_last;
 use layout::HIT_LIMIT;
 use layout::HITS;
 use layout::PASSED;
+use layout::PATTERN_LIMIT;
 use layout::WORK_WORDS;
 use layout::wide;
 use layout::wider;
@@ -11,13 +12,10 @@ use listing::huddlewool_per_mille;
 use listing::writing::put_line;
 use mapper::answer::Stepped;
 use mapper::session::step;
+use sketch::TEXT_LIMIT;
 ghost use mathlib.Core.Path.{_≡_};
-ghost use lib.ListN.{length, getD};
+ghost use lib.ListN.{getD};
 ghost use Rattle.report.specs.Pieces.{cellsLeft, EndOf, MappingWritten, Fills};
-
-const LEN_LIMIT: usize = 65535;
-
-const SIZE_LIMIT: usize = 4096;
 
 const WORD_LIMIT: u64 = 4294967296;
 
@@ -75,10 +73,10 @@ fn end_of(positions: &[u32], k: u32, size: usize, from: usize, to: usize) -> u64
     if positions.len() <= to {
         return 0;
     }
-    if LEN_LIMIT <= to - from {
+    if TEXT_LIMIT <= to - from {
         return 0;
     }
-    if SIZE_LIMIT < size {
+    if PATTERN_LIMIT < size {
         return 0;
     }
     let end = wider(positions[to]) + wider(k);

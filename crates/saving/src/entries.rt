@@ -1,5 +1,5 @@
 // Whether entries can be stored, and the words of their store.
-use crate::layout;
+use crate::format;
 ghost use mathlib.Core.Path.{_≡_};
 ghost use mathlib.Core.Bool.{true};
 ghost use Prim.Native.Nat.{_+_, _*_, _≤_};
@@ -39,12 +39,12 @@ pub(crate) fn write(codes: &[u32], positions: &[u32], k: u32, w: u32, words: &mu
     requires { ⌜ 2 * length (now codes) + 2 ≤ length (now words) ⌝ }
     ensures { λ _. ⌜ now (words .exit) ≡ over (stored k w (entries (now (codes .entry)) (now (positions .entry)))) (now (words .entry)) ⌝ }
 {
-    words[0] = layout::header(k, w);
+    words[0] = format::header(k, w);
     let mut i = 0;
     while i < codes.len() {
-        words[2 * i + 1] = layout::word(1, codes[i]);
-        words[2 * i + 2] = layout::word(2, positions[i]);
+        words[2 * i + 1] = format::word(1, codes[i]);
+        words[2 * i + 2] = format::word(2, positions[i]);
         i += 1;
     }
-    words[2 * i + 1] = layout::word(3, i as u32);
+    words[2 * i + 1] = format::word(3, i as u32);
 }

@@ -1,7 +1,7 @@
 // `save` writes a sketch's entries as words of 32 bits: its store.
 // Assumes nothing.
 mod entries;
-mod layout;
+mod format;
 
 use store::Saved;
 ghost use mathlib.Core.Path.{_≡_};

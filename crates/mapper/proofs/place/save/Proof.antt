@@ -1,7 +1,6 @@
 -- `place::save` meets its contract. Assumes nothing.
 use lib.ListN.{length-set}
 use Rattle.mapper.specs.Walking.{saved}
-use native.Mathlib.Omega.{arith}
 use borrow.Author.Needs.{needs}
 use Rattle.mapper.proofs.place.save.Statement.{statement}
 use Rattle.mapper.proofs.place.save.Tie as tie

@@ -1,7 +1,6 @@
 -- `place::settled` meets its contract. Assumes nothing.
 use borrow.Author.Tests.{lt-ltb, le-ltb}
 use Rattle.mapper.specs.Walking.{settled}
-use native.Mathlib.Omega.{arith}
 use borrow.Author.Needs.{needs}
 use Rattle.mapper.proofs.place.settled.Statement.{statement}
 use Rattle.mapper.proofs.place.settled.Tie as tie

@@ -1,10 +1,10 @@
 -- `update::update_one` meets its contract: what `pass_one` has passed in the part is the column's update. Assumes nothing.
-use Prim.Native.Nat.{_-_, min}
+use Prim.Native.Nat.{_-_}
 use native.Mathlib.Omega.{arith}
-use mathlib.Core.Path.{_≡_, ap, _∙_}
+use mathlib.Core.Path.{ap, _∙_}
 use borrow.Author.Needs.{needs}
-use Rattle.column.specs.Passing.{Update, columnPass}
-use Rattle.mapper.specs.Walking.{withPart, partOf, columnUpdate}
+use Rattle.column.specs.Passing.{Update}
+use Rattle.mapper.specs.Walking.{withPart, partOf}
 use Rattle.mapper.proofs.Walking.{update-is}
 use Rattle.mapper.proofs.update.update_one.Statement.{statement}
 use Rattle.mapper.proofs.update.update_one.Tie as tie

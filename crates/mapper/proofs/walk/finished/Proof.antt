@@ -1,7 +1,6 @@
 -- `walk::finished` meets its contract. Assumes nothing.
 use mathlib.Core.Path.{refl}
 use Rattle.mapper.specs.Walking.{finishedWalk}
-use native.Mathlib.Omega.{arith}
 use borrow.Author.Needs.{needs}
 use Rattle.mapper.proofs.walk.finished.Statement.{statement}
 use Rattle.mapper.proofs.walk.finished.Tie as tie

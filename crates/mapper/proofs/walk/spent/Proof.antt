@@ -1,7 +1,6 @@
 -- `walk::spent` meets its contract. Assumes nothing.
 use mathlib.Core.Path.{refl}
 use Rattle.mapper.specs.Walking.{spentWalk}
-use native.Mathlib.Omega.{arith}
 use borrow.Author.Needs.{needs}
 use Rattle.mapper.proofs.walk.spent.Statement.{statement}
 use Rattle.mapper.proofs.walk.spent.Tie as tie

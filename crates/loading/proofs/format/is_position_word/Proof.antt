@@ -1,9 +1,9 @@
--- `loading::layout::is_position_word` meets its contract: each return is one case of the definition.
+-- `loading::format::is_position_word` meets its contract: each return is one case of the definition.
 -- Assumes nothing.
 use borrow.Author.Needs.{needs}
 use borrow.Author.Tests.{eq-eqb, ne-eqb}
-use Rattle.loading.proofs.layout.is_position_word.Statement.{statement}
-use Rattle.loading.proofs.layout.is_position_word.Tie as tie
+use Rattle.loading.proofs.format.is_position_word.Statement.{statement}
+use Rattle.loading.proofs.format.is_position_word.Tie as tie
 
 kind-requires : tie.Need-kind-requires
 kind-requires c κs = search needs

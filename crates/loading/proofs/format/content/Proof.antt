@@ -1,9 +1,9 @@
--- `loading::layout::content` meets its contract: the result is the definition itself.
+-- `loading::format::content` meets its contract: the result is the definition itself.
 -- Assumes nothing.
 use mathlib.Core.Path.{refl}
 use Rattle.store.specs.Words.{content}
-use Rattle.loading.proofs.layout.content.Statement.{statement}
-use Rattle.loading.proofs.layout.content.Tie as tie
+use Rattle.loading.proofs.format.content.Statement.{statement}
+use Rattle.loading.proofs.format.content.Tie as tie
 
 returns : tie.Need-returns
 unfolding content

@@ -1,9 +1,9 @@
--- `loading::layout::kind` meets its contract: the result is the definition itself.
+-- `loading::format::kind` meets its contract: the result is the definition itself.
 -- Assumes nothing.
 use mathlib.Core.Path.{refl}
 use Rattle.store.specs.Words.{kind}
-use Rattle.loading.proofs.layout.kind.Statement.{statement}
-use Rattle.loading.proofs.layout.kind.Tie as tie
+use Rattle.loading.proofs.format.kind.Statement.{statement}
+use Rattle.loading.proofs.format.kind.Tie as tie
 
 returns : tie.Need-returns
 unfolding kind

@@ -1,10 +1,10 @@
--- `saving::layout::word` meets its contract: what is required keeps the word below 2^32.
+-- `saving::format::word` meets its contract: what is required keeps the word below 2^32.
 -- Assumes nothing.
 use borrow.Author.Needs.{needs}
 use native.Mathlib.Omega.{arith}
 use Rattle.store.specs.Words.{word}
-use Rattle.saving.proofs.layout.word.Statement.{statement}
-use Rattle.saving.proofs.layout.word.Tie as tie
+use Rattle.saving.proofs.format.word.Statement.{statement}
+use Rattle.saving.proofs.format.word.Tie as tie
 
 mul-result : tie.Need-mul-result
 mul-result c = search needs

@@ -1,9 +1,9 @@
--- `loading::layout::header_k` meets its contract: the result is the definition itself.
+-- `loading::format::header_k` meets its contract: the result is the definition itself.
 -- Assumes nothing.
 use mathlib.Core.Path.{refl}
 use Rattle.store.specs.Words.{headerK}
-use Rattle.loading.proofs.layout.header_k.Statement.{statement}
-use Rattle.loading.proofs.layout.header_k.Tie as tie
+use Rattle.loading.proofs.format.header_k.Statement.{statement}
+use Rattle.loading.proofs.format.header_k.Tie as tie
 
 returns : tie.Need-returns
 unfolding headerK

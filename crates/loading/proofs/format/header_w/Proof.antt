@@ -1,9 +1,9 @@
--- `loading::layout::header_w` meets its contract: the result is the definition itself.
+-- `loading::format::header_w` meets its contract: the result is the definition itself.
 -- Assumes nothing.
 use mathlib.Core.Path.{refl}
 use Rattle.store.specs.Words.{headerW}
-use Rattle.loading.proofs.layout.header_w.Statement.{statement}
-use Rattle.loading.proofs.layout.header_w.Tie as tie
+use Rattle.loading.proofs.format.header_w.Statement.{statement}
+use Rattle.loading.proofs.format.header_w.Tie as tie
 
 returns : tie.Need-returns
 unfolding headerW

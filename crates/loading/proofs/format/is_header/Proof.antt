@@ -1,10 +1,10 @@
--- `loading::layout::is_header` meets its contract: each return is one case of the definition.
+-- `loading::format::is_header` meets its contract: each return is one case of the definition.
 -- Assumes nothing.
 use borrow.Author.Needs.{needs}
 use borrow.Author.Tests.{eq-eqb, ne-eqb, lt-ltb, le-ltb}
 use Rattle.store.specs.Words.{isHeader}
-use Rattle.loading.proofs.layout.is_header.Statement.{statement}
-use Rattle.loading.proofs.layout.is_header.Tie as tie
+use Rattle.loading.proofs.format.is_header.Statement.{statement}
+use Rattle.loading.proofs.format.is_header.Tie as tie
 
 kind-requires : tie.Need-kind-requires
 kind-requires c κs = search needs

@@ -1,10 +1,10 @@
--- `saving::layout::header` meets its contract: what is required keeps the word below 2^32.
+-- `saving::format::header` meets its contract: what is required keeps the word below 2^32.
 -- Assumes nothing.
 use borrow.Author.Needs.{needs}
 use native.Mathlib.Omega.{arith}
 use Rattle.store.specs.Words.{header, word}
-use Rattle.saving.proofs.layout.header.Statement.{statement}
-use Rattle.saving.proofs.layout.header.Tie as tie
+use Rattle.saving.proofs.format.header.Statement.{statement}
+use Rattle.saving.proofs.format.header.Tie as tie
 
 mul-result : tie.Need-mul-result
 mul-result c = search needs
