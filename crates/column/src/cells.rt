@@ -1,4 +1,4 @@
-// Passing the cells of one column: up to a final one, or all of some rows. Assumes nothing.
+// Passing the cells of one column: up to a final one, or all of some rows. A function assumes what its `requires` says.
 use crate::score::below;
 use crate::score::greater;
 use crate::score::lowered;

@@ -1,4 +1,4 @@
-// Marking rare words by sorting their keys: equal words then stand side by side.
+// Marking rare words by sorting their keys: equal words then stand side by side. A function assumes what its `requires` says.
 use crate::radix;
 ghost use mathlib.Core.Path.{_≡_};
 ghost use mathlib.Core.Bool.{true, false};

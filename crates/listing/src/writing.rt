@@ -1,5 +1,5 @@
 // Writers of bytes, of numbers and of the printed line into a lent buffer. Each writes all or nothing.
-// Assumes nothing.
+// A function assumes what its `requires` says.
 use crate::LINE_FEED;
 use crate::MINUS;
 use crate::SPACE;

@@ -1,4 +1,4 @@
-// The words of a store: kinds, contents, and what each kind may hold.
+// The words of a store: kinds, contents, and what each kind may hold. Assumes nothing.
 ghost use mathlib.Core.Path.{_≡_};
 ghost use mathlib.Core.Bool.{_&&_};
 ghost use lib.Dec.{eqb, ltb};

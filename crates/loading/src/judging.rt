@@ -1,4 +1,4 @@
-// Judging the words of a store, and reading the entries of a good one.
+// Judging the words of a store, and reading the entries of a good one. A function assumes what its `requires` says.
 use crate::format;
 ghost use mathlib.Core.Path.{_≡_};
 ghost use Prim.Native.Nat.{suc, _≤_, _<_};

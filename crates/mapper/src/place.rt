@@ -1,4 +1,5 @@
 // The place of a session: how many columns are left, the row of the next cell, and the m of that cell.
+// A function assumes what its `requires` says.
 use layout::COLUMNS;
 use layout::PASSED;
 use layout::ROW;

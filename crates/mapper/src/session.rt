@@ -1,4 +1,4 @@
-// A step of a session: what is refused, and the walk from the place in the work words.
+// A step of a session: what is refused, and the walk from the place in the work words. A function assumes what its `requires` says.
 use crate::answer::Stepped;
 use crate::place::Place;
 use crate::update::Terms;

@@ -1,4 +1,5 @@
-// The update of a column in the work words: cells of it are passed in the blocks that it is lent. Assumes nothing.
+// The update of a column in the work words: cells of it are passed in the blocks that it is lent.
+// A function assumes what its `requires` says.
 use crate::place::Place;
 use column::cells::Line;
 use column::cells::Passed;

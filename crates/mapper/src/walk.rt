@@ -1,4 +1,5 @@
 // Walking along the columns from a place, until a final cell, the budget's end or the last cell.
+// A function assumes what its `requires` says.
 use crate::answer::Stepped;
 use crate::place::Place;
 use crate::place::save;

@@ -1,5 +1,5 @@
 // Reading the three lines of standard input: `k w c u v threshold`, the text line and the read line.
-// Assumes nothing.
+// A function assumes what its `requires` says.
 use listing::LINE_FEED;
 use listing::MINUS;
 use listing::SPACE;

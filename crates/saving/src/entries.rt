@@ -1,4 +1,4 @@
-// Whether entries can be stored, and the words of their store.
+// Whether entries can be stored, and the words of their store. A function assumes what its `requires` says.
 use crate::format;
 ghost use mathlib.Core.Path.{_≡_};
 ghost use mathlib.Core.Bool.{true};

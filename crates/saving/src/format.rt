@@ -1,4 +1,4 @@
-// The words of a store, from kind and content, and from k and w.
+// The words of a store, from kind and content, and from k and w. A function assumes what its `requires` says.
 ghost use mathlib.Core.Path.{_≡_};
 ghost use Prim.Native.Nat.{_≤_, _<_};
 ghost use Rattle.minimizers.specs.Limits.{kLimit, wLimit};

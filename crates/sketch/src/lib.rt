@@ -1,4 +1,5 @@
-// Sketches of letters: the sketch in two buffers, and for a host program the count of its entries. Assumes nothing.
+// Sketches of letters: the sketch in two buffers, and for a host program the count of its entries.
+// A function assumes what its `requires` says.
 use minimizers::K_LIMIT;
 use minimizers::LETTER_LIMIT;
 use minimizers::W_LIMIT;

@@ -1,5 +1,5 @@
 // Blocks of words: arrays of zeros, and blocks of the work words, each written from an index of its own: one word again and again,
-// a copy, and the heading.
+// a copy, and the heading. A function assumes what its `requires` says.
 use layout::COLUMNS;
 use layout::HITS;
 use layout::KIND;

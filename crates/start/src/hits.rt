@@ -1,4 +1,5 @@
 // Hits of the text: one pass over it that searches each entry among the pattern's words in order.
+// A function assumes what its `requires` says.
 use crate::search::lower_bound;
 use layout::wide;
 ghost use mathlib.Core.Path.{_≡_};

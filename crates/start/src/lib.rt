@@ -1,4 +1,5 @@
 // Starting a mapping session: `start` copies what a session needs into lent work words.
+// A function assumes what its `requires` says.
 mod blocks;
 mod hits;
 mod per_hit;

@@ -1,4 +1,4 @@
-// What a session knows of each hit: back, reach and whole.
+// What a session knows of each hit: back, reach and whole. A function assumes what its `requires` says.
 use crate::blocks::fill;
 use crate::blocks::zeros_4096;
 use crate::hits::one_at;

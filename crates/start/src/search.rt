@@ -1,4 +1,4 @@
-// Searching words in order: where the words from a given one on begin.
+// Searching words in order: where the words from a given one on begin. A function assumes what its `requires` says.
 use layout::PATTERN_LIMIT;
 ghost use mathlib.Core.Path.{_≡_};
 ghost use Prim.Native.Nat.{_≤_};

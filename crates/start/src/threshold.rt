@@ -1,4 +1,4 @@
-// Thresholds inside the work words: with 2^31 added, so that unsigned words order as signed numbers do.
+// Thresholds inside the work words: with 2^31 added, so that unsigned words order as signed numbers do. Assumes nothing.
 ghost use mathlib.Core.Path.{_≡_};
 ghost use Rattle.mappings.specs.Bias.{biasedZ};
 

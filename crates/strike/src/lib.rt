@@ -1,4 +1,5 @@
 // Striking of frequent k-mers from a sketch. It needs no heap: the marks of the entries and what counts them lie on the stack.
+// A function assumes what its `requires` says.
 use sketch::TEXT_LIMIT;
 ghost use mathlib.Core.Path.{_≡_};
 ghost use Prim.Native.Nat.{ℕ, _≤_, _<_, _^_};

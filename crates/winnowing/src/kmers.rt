@@ -1,4 +1,4 @@
-// Codes and ranks of k-mers. Assumes nothing.
+// Codes and ranks of k-mers. A function assumes what its `requires` says.
 ghost use Prim.Native.Nat.{suc, _+_, _*_, _%_, _^_, _<_};
 ghost use mathlib.Core.Path.{_≡_};
 ghost use Rattle.minimizers.specs.Limits.{kLimit};

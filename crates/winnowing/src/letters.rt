@@ -1,4 +1,4 @@
-// Letters and their values. Assumes nothing.
+// Letters and their values. A function assumes what its `requires` says.
 ghost use mathlib.Core.Path.{_≡_};
 ghost use lib.ListN.{getD};
 ghost use Rattle.minimizers.specs.Letters.{value};

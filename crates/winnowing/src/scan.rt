@@ -1,4 +1,4 @@
-// The runs of the letters, one after the other. Assumes nothing.
+// The runs of the letters, one after the other. A function assumes what its `requires` says.
 ghost use Prim.Native.Nat.{suc, _-_, _≤_};
 ghost use mathlib.Core.Path.{_≡_};
 ghost use lib.ListN.{length};

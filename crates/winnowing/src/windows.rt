@@ -1,4 +1,5 @@
-// Windows of k-mers: the scan of a run's letters, and the k-mers that its windows pick. Assumes nothing.
+// Windows of k-mers: the scan of a run's letters, and the k-mers that its windows pick.
+// A function assumes what its `requires` says.
 ghost use Prim.Native.Nat.{suc, _+_, _-_, _≤_, _<_};
 ghost use mathlib.Core.Path.{_≡_};
 ghost use lib.ListN.{length};
