@@ -2,26 +2,22 @@
 -- Assumes nothing.
 use Prim.Native.Nat.{ℕ, _-_, _≤_, _<_}
 use mathlib.Core.Path.{_≡_, refl}
-use mathlib.Core.Bool.{Bool, true, false, _&&_, false≢true}
+use mathlib.Core.Bool.{Bool, true, false, _&&_}
 use mathlib.Core.List.{List}
 use borrow.Author.Tests.{eqb-true, leb-true, eq-eqb, le-leb, lt-leb}
 use lib.Dec.{leb, eqb}
 use lib.ListN.{length}
+use Rattle.counts.proofs.Lists.{and-left, and-right}
 use Rattle.column.specs.declared.cells.Line.{Line}
 use Rattle.column.specs.Passing.{seenBefore, nonePassed, passRows, fits, columnPass}
-
-both : (a b : Bool) → (a && b) ≡ true → (a ≡ true) × (b ≡ true)
-both true true e = (e, e)
-both true false e = absurd (false≢true e)
-both false b e = absurd (false≢true e)
 
 module _ (part : List ℕ) (from to : ℕ) where
   pub fits-says : fits part from to ≡ true → (length part ≡ 6144) × (from ≤ to) × (to ≤ 2048)
   unfolding fits
   fits-says e =
-      let outer = both (eqb (length part) 6144 && leb to 2048) (leb from to) e in
-      let inner = both (eqb (length part) 6144) (leb to 2048) (outer .0) in
-      (eqb-true (length part) 6144 (inner .0), leb-true from to (outer .1), leb-true to 2048 (inner .1))
+      let long = eqb (length part) 6144 in
+      let front = and-left (long && leb to 2048) (leb from to) e in
+      (eqb-true (length part) 6144 (and-left long (leb to 2048) front), leb-true from to (and-right (long && leb to 2048) (leb from to) e), leb-true to 2048 (and-right long (leb to 2048) front))
 
   pub fits-all : length part ≡ 6144 → from ≤ to → to ≤ 2048 → fits part from to ≡ true
   unfolding fits

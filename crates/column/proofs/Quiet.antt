@@ -5,13 +5,14 @@ use native.Mathlib.Nat.{le-refl, le-suc, mod-lt, mod-eq-of-lt}
 use native.Mathlib.Omega.{arith}
 use native.Mathlib.Numerals.{add-one}
 use mathlib.Core.Path.{_≡_, refl, sym, ap, _∙_, subst}
-use mathlib.Core.Bool.{Bool, true, false, cond, _&&_, false≢true}
+use mathlib.Core.Bool.{Bool, true, false, cond, _&&_}
 use mathlib.Core.List.{List}
 use borrow.Author.Tests.{le-leb, lt-leb, le-ltb, eqb-true}
 use lib.Arith.{digits-mod}
 use lib.Dec.{leb, ltb, eqb}
 use lib.ListN.{length, getD, set, length-set}
 use Rattle.counts.specs.Lists.{bit}
+use Rattle.counts.proofs.Lists.{and-left, and-right}
 use Rattle.column.specs.declared.cells.Line.{Line}
 use Rattle.column.specs.declared.cells.Paused.{Paused}
 use Rattle.column.specs.Passing.{lowered, lineScore, bestWith, inReach, finalTest, Pause, quietRows, Update, passRows}
@@ -77,15 +78,11 @@ restored (suc k) l =
     ap (λ (n : ℕ). (n + 1) % 4294967296) f ∙ mod-eq-of-lt (let g : k + 1 < 4294967296 = omega arith in g) ∙ add-one k
 
 -- a final cell's left end is reasonable
-third : (a b c d : Bool) → (a && b && c && d) ≡ true → c ≡ true
-third true true true d e = refl
-third true true false d e = absurd (false≢true e)
-third true false c d e = absurd (false≢true e)
-third false b c d e = absurd (false≢true e)
-
-final-one : (threshold s best one back i : ℕ) → finalTest threshold s best one back i ≡ true → one ≡ 1
+pub final-one : (threshold s best one back i : ℕ) → finalTest threshold s best one back i ≡ true → one ≡ 1
 unfolding finalTest
-final-one threshold s best one back i t = eqb-true one 1 (third (leb threshold s) (eqb s best) (eqb one 1) (leb back i) t)
+final-one threshold s best one back i t =
+    let front = leb threshold s && eqb s best in
+    eqb-true one 1 (and-right front (eqb one 1) (and-left (front && eqb one 1) (leb back i) t))
 
 -- where no cell reached the threshold, none is judged final
 none-final : (threshold s best back i : ℕ) → finalTest threshold s best 0 back i ≡ false

@@ -5,15 +5,14 @@ use native.Mathlib.Nat.{le-refl}
 use native.Mathlib.Omega.{arith}
 use mathlib.Core.Path.{_≡_, refl, sym, ap, _∙_, subst}
 use mathlib.Core.Logic.{_⊎_, inl, inr}
-use mathlib.Core.Bool.{Bool, true, false, _&&_}
+use mathlib.Core.Bool.{Bool, true, false}
 use mathlib.Core.List.{List, _∷_}
-use lib.Dec.{ltb, leb, eqb}
-use borrow.Author.Tests.{eqb-true}
+use lib.Dec.{ltb}
 use lib.ListN.{length, getD, set, drop, length-set}
 use lib.Seq.{getD-set-same, getD-set-other}
 use lib.Signed.{mag}
 use Rattle.counts.specs.Lists.{bit}
-use Rattle.counts.proofs.Lists.{eq-or-ne, and-left, and-right}
+use Rattle.counts.proofs.Lists.{eq-or-ne}
 use Rattle.mappings.specs.Score.{Task}
 use Rattle.mappings.specs.Bias.{bias, biasedZ}
 use Rattle.mappings.specs.Cells.{hits, hitCodes, hitCount, cellsOf, isFinalCell, mappingOf, leftEnd, rightEnd, place}
@@ -26,6 +25,7 @@ use Rattle.start.specs.WorkWords.{bestBefore, withCell, bestAfter}
 use Rattle.start.proofs.WorkWords.{Outside, length-bestAfter}
 use Rattle.column.specs.declared.cells.Line.{Line}
 use Rattle.column.specs.Passing.{lowered, lineScore, bestWith, inReach, finalTest, Update, passRows}
+use Rattle.column.proofs.Quiet.{final-one}
 use Rattle.mapper.proofs.Best.{scoreAt, BestAt, before-top, best-at, best-suc}
 use Rattle.mapper.proofs.CellTests.{sharedAt, score-word, shared-next, final-test}
 
@@ -104,14 +104,10 @@ module _ (task : Task) (limited : Limited task) (threshold-fits : mag (task .thr
 
     -- the left end of a final cell is reasonable, so that m falls by one behind it
     lower-by-one : isFinalCell task (cellAt i j) ≡ true → lowered (sharedAt task i j) 1 ≡ sharedAt task (suc i) j
-    unfolding finalTest
     lower-by-one f =
         let s = lineScore (sessionLine j) m (getD part i 0) in
-        let best = bestWith part i before s in
         let one = inReach (sessionLine j) part i in
-        let all : (leb (biasedZ (task .threshold)) s && eqb s best && eqb one 1 && leb (back (task .pattern) (hitCodes task) j) i) ≡ true = test-is ∙ f in
-        let three = and-left (leb (biasedZ (task .threshold)) s && eqb s best && eqb one 1) (leb (back (task .pattern) (hitCodes task) j) i) all in
-        let e : one ≡ 1 = eqb-true one 1 (and-right (leb (biasedZ (task .threshold)) s && eqb s best) (eqb one 1) three) in
+        let e : one ≡ 1 = final-one (biasedZ (task .threshold)) s (bestWith part i before s) one (back (task .pattern) (hitCodes task) j) i (test-is ∙ f) in
         ap (λ (n : ℕ). lowered (sharedAt task i j) n) (sym e) ∙ ap (λ (n : ℕ). lowered n one) (sym em) ∙ m-next
 
     next : drop q (cellsOf task) ≡ cellAt i j ∷ drop (suc q) (cellsOf task)

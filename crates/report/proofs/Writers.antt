@@ -12,7 +12,7 @@ use lib.Seq.{drop-drop, drop-append-add, take-at, length-take-le}
 use borrow.Author.Tests.{leb-true}
 use Rattle.counts.specs.Replies.{over}
 use Rattle.listing.specs.Writing.{Written, LineWritten, fitting, overFrom}
-use Rattle.listing.proofs.Buffers.{written-index, written-buffer, length-overFrom, part-to-end}
+use Rattle.listing.proofs.Buffers.{written-index, written-buffer, part-to-end}
 
 fitting-short : (room : ℕ) (bytes : List ℕ) → length (fitting room bytes) ≤ room
 unfolding fitting
@@ -25,9 +25,6 @@ fitting-short room bytes = go (leb (length bytes) room) refl
 module _ {bytes : List ℕ} {at : ℕ} {old new : List ℕ} {next : ℕ} (w : Written bytes at old new next) (inside : at ≤ length old) where
   pub written-inside : next ≤ length old
   written-inside = let e : next ≡ at + length (fitting (length old - at) bytes) = w .index in let l = fitting-short (length old - at) bytes in omega arith
-
-  pub written-same : length new ≡ length old
-  written-same = let l = fitting-short (length old - at) bytes in ap length (w .buffer) ∙ length-overFrom at old (fitting (length old - at) bytes) (omega arith)
 
   -- the bytes behind what was written keep their content
   pub written-past : drop next new ≡ drop next old

@@ -4,11 +4,12 @@ use Prim.Native.Nat.{ℕ, _+_, _*_, _^_, _≤_, _<_, min}
 use native.Mathlib.Nat.{le-trans, pow-le-pow-right}
 use native.Mathlib.Omega.{arith}
 use mathlib.Core.Path.{_≡_}
-use mathlib.Core.Bool.{true, false, not, _&&_}
+use mathlib.Core.Bool.{true, not, _&&_}
 use lib.Dec.{eqb, ltb, leb, lit<}
-use borrow.Author.Tests.{lt-ltb, le-ltb, eq-eqb, ltb-true, ltb-false, leb-true, not-true}
-use Rattle.counts.proofs.Lists.{and-both, and-left, and-right, or-neither}
+use borrow.Author.Tests.{lt-ltb, eq-eqb, ltb-true, leb-true, not-true}
+use Rattle.counts.proofs.Lists.{and-both, and-left, and-right}
 use Rattle.minimizers.specs.Limits.{kLimit, wLimit, letterLimit, outside}
+use Rattle.minimizers.proofs.Ranges.{inside, inside-range}
 use Rattle.store.specs.Words.{kindUnit, kind, content, word, header, headerK, headerW, isHeader, isCode, isPosition}
 
 pub kind-word : (t x : ℕ) → x < kindUnit → kind (word t x) ≡ t
@@ -23,15 +24,7 @@ pub word-content : (t x : ℕ) → kind x ≡ t → x ≡ word t (content x)
 unfolding kind content word
 word-content t x h = omega arith
 
--- ---- ranges
-
-pub inside : (low high n : ℕ) → low ≤ n → n ≤ high → outside low high n ≡ false
-inside low high n p q = rw (le-ltb n low p) (le-ltb high n q)
-
-pub inside-range : (low high n : ℕ) → outside low high n ≡ false → (low ≤ n) × (n ≤ high)
-inside-range low high n h =
-    let e = or-neither (ltb n low) (ltb high n) h in
-    (ltb-false n low (e .0), ltb-false high n (e .1))
+-- ---- codes and positions
 
 isCode-below : (k x : ℕ) → isCode k x ≡ true → x < 4 ^ k
 unfolding isCode

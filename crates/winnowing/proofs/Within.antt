@@ -9,22 +9,17 @@ use lib.ListN.{length}
 use borrow.Author.Tests.{ltb-false, le-ltb}
 use Rattle.counts.proofs.Lists.{or-neither}
 use Rattle.minimizers.specs.Limits.{kLimit, wLimit, letterLimit, outside}
+use Rattle.minimizers.proofs.Ranges.{inside-range}
 use Rattle.minimizers.specs.Sketch.{sketch}
 use Rattle.winnowing.specs.Winnowed.{written, isBeyond, winnowed}
 use Rattle.winnowing.specs.Scan.{HasRoom}
-
--- a number that is not outside is within
-not-outside : (low high n : ℕ) → outside low high n ≡ false → (low ≤ n) × (n ≤ high)
-not-outside low high n h =
-    let neither = or-neither (ltb n low) (ltb high n) h in
-    (ltb-false n low (neither .0), ltb-false high n (neither .1))
 
 -- what the checks of k, w and the letters leave
 pub within-limits : (k w letters : ℕ) → outside 1 kLimit k ≡ false → outside 1 wLimit w ≡ false → letters ≤ letterLimit
     → (1 ≤ k) × (k ≤ kLimit) × (1 ≤ w) × (w ≤ wLimit) × (letters ≤ letterLimit)
 within-limits k w letters h i l =
-    let for-k = not-outside 1 kLimit k h in
-    let for-w = not-outside 1 wLimit w i in
+    let for-k = inside-range 1 kLimit k h in
+    let for-w = inside-range 1 wLimit w i in
     (for-k .0, for-k .1, for-w .0, for-w .1, l)
 
 -- what is left where nothing is beyond its limit

@@ -13,7 +13,7 @@ use Rattle.counts.specs.Replies.{Reply, accepted, refused, after}
 use Rattle.minimizers.specs.Limits.{kLimit, wLimit, outside}
 use Rattle.minimizers.specs.Kmers.{entries}
 use Rattle.store.specs.Save.{stored, storable, saveReply, saveWords}
-use Rattle.store.proofs.WordLaws.{inside-range}
+use Rattle.minimizers.proofs.Ranges.{inside-range}
 use Rattle.store.proofs.Entries.{length-entries, length-stored}
 use Rattle.store.proofs.Accepting.{Savable, save-accepts, save-fills}
 use Rattle.saving.proofs.save.Statement.{statement}
