@@ -1,5 +1,4 @@
--- The cells up to one at the threshold, unrolled by one cell, and the column's update by way of them.
--- Assumes nothing.
+-- The cells up to one at the floor, unrolled by one cell, and the column's update by way of them.
 use Prim.Native.Nat.{ℕ, zero, suc, _+_, _-_, _*_, _%_, _≤_, _<_, zero-le}
 use native.Mathlib.Nat.{le-refl, le-suc, mod-lt, mod-eq-of-lt}
 use native.Mathlib.Omega.{arith}
@@ -15,20 +14,33 @@ use Rattle.counts.specs.Lists.{bit}
 use Rattle.counts.proofs.Lists.{and-left, and-right}
 use Rattle.column.specs.declared.cells.Line.{Line}
 use Rattle.column.specs.declared.cells.Paused.{Paused}
+use Rattle.column.specs.declared.cells.Judged.{Judged}
+use Rattle.column.specs.Deciding.{decides, judged}
 use Rattle.column.specs.Passing.{lowered, lineScore, bestWith, inReach, finalTest, Pause, quietRows, Update, passRows}
-use Rattle.column.proofs.Passing.{AtCell, left-suc, best-with, low-score}
+use Rattle.column.proofs.Deciding.{decides-one, unreasonable}
+use Rattle.column.proofs.Passing.{AtCell, left-suc, foundAt, score-with, best-with, low-score, high-score}
 
 -- ---- one cell
 
-module _ (line : Line) (to i m before : ℕ) (part : List ℕ) (s one greatest best : ℕ) (h : i < to) (at : AtCell line i m before part s one greatest best) where
-  unrolled : quietRows line (to - i) i m before part ≡ cond (leb (line .threshold) s) (record { answer = record { row = suc i; m = lowered m one; best = best; score = s; reach = getD part (2048 + i) 0 }; part = set part (4096 + i) best }) (quietRows line (to - (i + 1)) (suc i) (lowered m one) best (set part (4096 + i) best))
-  unrolled = rw (left-suc to i h, at .score, at .reach, ← best-with line to i m before part s one greatest best h at)
+-- a pause behind the cell of row i
+abbrev pausedAt : ℕ → ℕ → ℕ → ℕ → ℕ → ℕ → List ℕ → Pause
+pausedAt i m best s reach x part = record { answer = record { row = i; m = m; best = best; score = s; reach = reach; left = x }; part = part }
 
-  pub quiet-stop : (m′ : ℕ) → line .threshold ≤ s → m′ ≡ lowered m one → quietRows line (to - i) i m before part ≡ record { answer = record { row = i + 1; m = m′; best = best; score = s; reach = getD part (2048 + i) 0 }; part = set part (4096 + i) best }
-  quiet-stop m′ t e = unrolled ∙ rw (le-leb (line .threshold) s t, e, add-one)
+module _ (line : Line) (to i m before : ℕ) (part : List ℕ) (x s one greatest best : ℕ)
+    (h : i < to) (at : AtCell line i m before part x s one greatest best) where
+  unrolled : quietRows line (to - i) i m before part
+      ≡ cond (leb (line .floor) s) (pausedAt (suc i) (lowered m one) best s (getD part (2048 + i) 0) x (set part (4096 + i) best))
+      (quietRows line (to - (i + 1)) (suc i) (lowered m one) best (set part (4096 + i) best))
+  unrolled =
+      rw (left-suc to i h, score-with line to i m before part x s one greatest best h at, best-with line to i m before part x s one greatest best h at, ← at .reach, ← at .left)
 
-  pub quiet-on : (m′ : ℕ) → s < line .threshold → m′ ≡ lowered m one → quietRows line (to - i) i m before part ≡ quietRows line (to - (i + 1)) (i + 1) m′ best (set part (4096 + i) best)
-  quiet-on m′ t e = unrolled ∙ rw (lt-leb (line .threshold) s t, e, add-one)
+  pub quiet-stop : (m′ : ℕ) → line .floor ≤ s → m′ ≡ lowered m one
+      → quietRows line (to - i) i m before part ≡ pausedAt (i + 1) m′ best s (getD part (2048 + i) 0) x (set part (4096 + i) best)
+  quiet-stop m′ t e = unrolled ∙ rw (le-leb (line .floor) s t, e, add-one)
+
+  pub quiet-on : (m′ : ℕ) → s < line .floor → m′ ≡ lowered m one
+      → quietRows line (to - i) i m before part ≡ quietRows line (to - (i + 1)) (i + 1) m′ best (set part (4096 + i) best)
+  quiet-on m′ t e = unrolled ∙ rw (lt-leb (line .floor) s t, e, add-one)
 
 -- ---- where the cells pause
 
@@ -46,12 +58,14 @@ lowered-word m one = mod-lt (m + 4294967296 - one) (let l : 0 < 4294967296 = ome
 paced : (line : Line) (n i m before : ℕ) (part : List ℕ) → Paced i n m part (quietRows line n i m before part)
 paced line zero i m before part = record { from = le-refl i; to = omega arith; moved = λ l. omega arith; word = λ l. l; size = refl }
 paced line (suc n) i m before part =
-    let s = lineScore line m (getD part i 0) in
+    let x = getD part i 0 in
+    let s = lineScore line m x in
     let best = bestWith part i before s in
     let one = inReach line part i in
-    go (leb (line .threshold) s) best s one (getD part (2048 + i) 0) (paced line n (suc i) (lowered m one) best (set part (4096 + i) best))
+    go (leb (line .floor) s) best s one (getD part (2048 + i) 0) (paced line n (suc i) (lowered m one) best (set part (4096 + i) best))
   where
-    go : (b : Bool) (best s one reach : ℕ) {later : Pause} → Paced (suc i) n (lowered m one) (set part (4096 + i) best) later → Paced i (suc n) m part (cond b (record { answer = record { row = suc i; m = lowered m one; best = best; score = s; reach = reach }; part = set part (4096 + i) best }) later)
+    go : (b : Bool) (best s one reach : ℕ) {later : Pause} → Paced (suc i) n (lowered m one) (set part (4096 + i) best) later
+        → Paced i (suc n) m part (cond b (pausedAt (suc i) (lowered m one) best s reach (getD part i 0) (set part (4096 + i) best)) later)
     go true best s one reach r = record {
       from = le-suc i;
       to = omega arith;
@@ -78,65 +92,74 @@ restored (suc k) l =
     ap (λ (n : ℕ). (n + 1) % 4294967296) f ∙ mod-eq-of-lt (let g : k + 1 < 4294967296 = omega arith in g) ∙ add-one k
 
 -- a final cell's left end is reasonable
-pub final-one : (threshold s best one back i : ℕ) → finalTest threshold s best one back i ≡ true → one ≡ 1
+pub final-one : (line : Line) (s best one i m x : ℕ) → finalTest line s best one i m x ≡ true → one ≡ 1
 unfolding finalTest
-final-one threshold s best one back i t =
-    let front = leb threshold s && eqb s best in
-    eqb-true one 1 (and-right front (eqb one 1) (and-left (front && eqb one 1) (leb back i) t))
-
--- where no cell reached the threshold, none is judged final
-none-final : (threshold s best back i : ℕ) → finalTest threshold s best 0 back i ≡ false
-unfolding finalTest
-none-final threshold s best back i = go (leb threshold s) (eqb s best) (leb back i)
-  where
-    go : (a b d : Bool) → (a && b && false && d) ≡ false
-    go true true d = refl
-    go true false d = refl
-    go false b d = refl
+final-one line s best one i m x t = decides-one line s best one i m x (and-right (leb (line .floor) s) (decides line s best one i m x) t)
 
 -- 1 where a left end with this reach is reasonable in the line's column
 abbrev reaches : Line → ℕ → ℕ
 reaches line reach = bit (ltb (line .column) reach)
 
+-- m of the cell at a pause, from m behind it
+abbrev pub raised : ℕ → ℕ
+raised m = (m + 1) % 4294967296
+
+-- what is judged, and decided, of the cell at a pause
+abbrev pub judgedAt : Line → Paused → Judged
+judgedAt line answer = judged line (answer .score) (answer .best) (reaches line (answer .reach)) (answer .row - 1) (raised (answer .m)) (answer .left)
+
+abbrev pub decidesAt : Line → Paused → Bool
+decidesAt line answer = decides line (answer .score) (answer .best) (reaches line (answer .reach)) (answer .row - 1) (raised (answer .m)) (answer .left)
+
 -- the update from a pause on: its cell is judged, and where it is not final the update goes on behind it
 abbrev resumed : Line → ℕ → Pause → Update
 resumed line to pause =
-    cond (finalTest (line .threshold) (pause .answer .score) (pause .answer .best) (reaches line (pause .answer .reach)) (line .back) (pause .answer .row - 1))
-    (record { answer = record { found = true; row = pause .answer .row; m = (pause .answer .m + 1) % 4294967296; score = pause .answer .score }; part = pause .part })
+    cond (decidesAt line (pause .answer)) (foundAt line (pause .answer .row) (raised (pause .answer .m)) (pause .answer .left) (pause .part))
     (passRows line (to - pause .answer .row) (pause .answer .row) (pause .answer .m) (pause .answer .best) (pause .part))
 
-module _ (line : Line) (n i to m s best reach : ℕ) (part : List ℕ) (e : to ≡ i + suc n) (l : m < 4294967296) where
+module _ (line : Line) (n i to m s best reach x : ℕ) (part : List ℕ) (e : to ≡ i + suc n) (l : m < 4294967296) where
   abbrev one : ℕ
   one = reaches line reach
 
-  at-pause : (f : Bool) → finalTest (line .threshold) s best one (line .back) i ≡ f → (later : Update) → cond f (record { answer = record { found = true; row = suc i; m = m; score = s }; part = part }) later ≡ cond f (record { answer = record { found = true; row = suc i; m = (lowered m one + 1) % 4294967296; score = s }; part = part }) later
-  at-pause true t later =
-      let w : (lowered m one + 1) % 4294967296 ≡ m = ap (λ (k : ℕ). (lowered m k + 1) % 4294967296) (final-one (line .threshold) s best one (line .back) i t) ∙ restored m l in
-      rw w
-  at-pause false t later = refl
+  -- the cell is judged by its own m, which is had back where its left end is reasonable, and else does not matter
+  at-pause : (later : Update) → cond (decides line s best one i m x) (foundAt line (suc i) m x part) later
+      ≡ cond (decides line s best one i (raised (lowered m one)) x) (foundAt line (suc i) (raised (lowered m one)) x part) later
+  at-pause later = go (eqb one 1) refl
+    where
+      go : (b : Bool) → eqb one 1 ≡ b → cond (decides line s best one i m x) (foundAt line (suc i) m x part) later
+          ≡ cond (decides line s best one i (raised (lowered m one)) x) (foundAt line (suc i) (raised (lowered m one)) x part) later
+      go true t =
+          let w : raised (lowered m one) ≡ m = ap (λ (k : ℕ). raised (lowered m k)) (eqb-true one 1 t) ∙ restored m l in
+          rw w
+      go false t = rw (unreasonable line s best one i m x t, unreasonable line s best one i (raised (lowered m one)) x t)
 
-  one-more : (c : Bool) → leb (line .threshold) s ≡ c → (later : Pause) → passRows line n (suc i) (lowered m one) best part ≡ resumed line to later → cond (finalTest (line .threshold) s best one (line .back) i) (record { answer = record { found = true; row = suc i; m = m; score = s }; part = part }) (passRows line n (suc i) (lowered m one) best part) ≡ resumed line to (cond c (record { answer = record { row = suc i; m = lowered m one; best = best; score = s; reach = reach }; part = part }) later)
+  one-more : (c : Bool) → leb (line .floor) s ≡ c → (later : Pause) → passRows line n (suc i) (lowered m one) best part ≡ resumed line to later
+      → cond (finalTest line s best one i m x) (foundAt line (suc i) m x part) (passRows line n (suc i) (lowered m one) best part)
+      ≡ resumed line to (cond c (pausedAt (suc i) (lowered m one) best s reach x part) later)
   one-more true t later r =
       let k : to - suc i ≡ n = omega arith in
       let j : suc i - 1 ≡ i = omega arith in
-      at-pause (finalTest (line .threshold) s best one (line .back) i) refl (passRows line n (suc i) (lowered m one) best part) ∙ rw (k, j)
-  one-more false t later r = rw (low-score (line .threshold) s best one (line .back) i t) r
+      rw (high-score line s best one i m x t) (at-pause (passRows line n (suc i) (lowered m one) best part) ∙ rw (k, j))
+  one-more false t later r = rw (low-score line s best one i m x t) r
 
-by-pauses : (line : Line) (n i to m before : ℕ) (part : List ℕ) → to ≡ i + n → m < 4294967296 → passRows line n i m before part ≡ resumed line to (quietRows line n i m before part)
+by-pauses : (line : Line) (n i to m before : ℕ) (part : List ℕ) → to ≡ i + n → m < 4294967296
+    → passRows line n i m before part ≡ resumed line to (quietRows line n i m before part)
 unfolding inReach
 by-pauses line zero i to m before part e l =
     let k : to - i ≡ 0 = omega arith in
     let none : reaches line 0 ≡ 0 = ap bit (le-ltb (line .column) 0 zero-le) in
-    rw (none, none-final (line .threshold) 0 before (line .back) (i - 1), k)
+    rw (none, unreasonable line 0 before 0 (i - 1) (raised m) 0 refl, k)
 by-pauses line (suc n) i to m before part e l =
-    let s = lineScore line m (getD part i 0) in
+    let x = getD part i 0 in
+    let s = lineScore line m x in
     let best = bestWith part i before s in
     let one = inReach line part i in
     let updated = set part (4096 + i) best in
-    one-more line n i to m s best (getD part (2048 + i) 0) updated e l (leb (line .threshold) s) refl (quietRows line n (suc i) (lowered m one) best updated)
+    one-more line n i to m s best (getD part (2048 + i) 0) x updated e l (leb (line .floor) s) refl (quietRows line n (suc i) (lowered m one) best updated)
     (by-pauses line n (suc i) to (lowered m one) best updated (omega arith) (lowered-word m one))
 
-module _ (line : Line) (to i m before : ℕ) (part : List ℕ) (answer : Paused) (after : List ℕ) (h : i ≤ to) (l : m < 4294967296) (a : answer ≡ quietRows line (to - i) i m before part .answer) (b : after ≡ quietRows line (to - i) i m before part .part) where
+module _ (line : Line) (to i m before : ℕ) (part : List ℕ) (answer : Paused) (after : List ℕ) (h : i ≤ to) (l : m < 4294967296)
+    (a : answer ≡ quietRows line (to - i) i m before part .answer) (b : after ≡ quietRows line (to - i) i m before part .part) where
   whole : record { answer = answer; part = after } ≡ quietRows line (to - i) i m before part
   whole = λ j. record { answer = a j; part = b j }
 
@@ -146,8 +169,10 @@ module _ (line : Line) (to i m before : ℕ) (part : List ℕ) (answer : Paused)
   resumes : passRows line (to - i) i m before part ≡ resumed line to (record { answer = answer; part = after })
   resumes = by-pauses line (to - i) i to m before part (omega arith) l ∙ ap (resumed line to) (sym whole)
 
-  pub pause-stop : finalTest (line .threshold) (answer .score) (answer .best) (bit (ltb (line .column) (answer .reach))) (line .back) (answer .row - 1) ≡ true → passRows line (to - i) i m before part ≡ record { answer = record { found = true; row = answer .row; m = (answer .m + 1) % 4294967296; score = answer .score }; part = after }
+  pub pause-stop : decidesAt line answer ≡ true
+      → passRows line (to - i) i m before part ≡ foundAt line (answer .row) (raised (answer .m)) (answer .left) after
   pause-stop t = resumes ∙ rw t
 
-  pub pause-on : finalTest (line .threshold) (answer .score) (answer .best) (bit (ltb (line .column) (answer .reach))) (line .back) (answer .row - 1) ≡ false → passRows line (to - i) i m before part ≡ passRows line (to - answer .row) (answer .row) (answer .m) (answer .best) after
+  pub pause-on : decidesAt line answer ≡ false
+      → passRows line (to - i) i m before part ≡ passRows line (to - answer .row) (answer .row) (answer .m) (answer .best) after
   pause-on t = resumes ∙ rw t

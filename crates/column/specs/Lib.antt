@@ -1,2 +1,3 @@
--- What passing the cells of a column does to any words.
+-- What passing the cells of a column answers and leaves.
+pub mod Deciding
 pub mod Passing

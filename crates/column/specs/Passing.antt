@@ -1,14 +1,15 @@
 -- What passing the cells of a column answers, and what it leaves of any part of any work words, made by start and steps or not.
--- Assumes nothing.
 use Prim.Native.Nat.{ℕ, zero, suc, _+_, _-_, _*_, _%_, max}
 use mathlib.Core.Bool.{Bool, true, false, cond, _&&_}
 use mathlib.Core.List.{List}
 use lib.Dec.{leb, ltb, eqb}
 use lib.ListN.{length, getD, set}
+use lib.IntN.{pos}
 use Rattle.counts.specs.Lists.{bit}
 use Rattle.column.specs.declared.cells.Line.{Line}
 use Rattle.column.specs.declared.cells.Passed.{Passed}
 use Rattle.column.specs.declared.cells.Paused.{Paused}
+use Rattle.column.specs.Deciding.{cellScore, decides}
 
 -- m less one or none, as a word
 abbrev pub lowered : ℕ → ℕ → ℕ
@@ -31,26 +32,27 @@ bestWith part i before s = max before (max (getD part (4096 + i) 0) s)
 unfoldable pub inReach : Line → List ℕ → ℕ → ℕ
 inReach line part i = bit (ltb (line .column) (getD part (2048 + i) 0))
 
--- the four tests of Definition 1 at a cell of row i
-unfoldable pub finalTest : ℕ → ℕ → ℕ → ℕ → ℕ → ℕ → Bool
-finalTest threshold s best one from i = leb threshold s && eqb s best && eqb one 1 && leb from i
+-- the quick test of the score word, and then the deciding one
+unfoldable pub finalTest : Line → ℕ → ℕ → ℕ → ℕ → ℕ → ℕ → Bool
+finalTest line s best one i m x = leb (line .floor) s && decides line s best one i m x
 
--- where the cells were passed up to one at the threshold: what is answered, and the part of the work words afterwards
+-- where the cells were passed up to one that the quick test lets through: what is answered, and the part of the work words afterwards
 pub record Pause : Type 0 where
   pub answer : Paused
   pub part : List ℕ
 
--- the next n cells of the line from row i on, up to the first whose score word reaches the threshold
+-- the next n cells of the line from row i on, up to the first whose score word reaches the threshold's
 abbrev pub quietRows : Line → ℕ → ℕ → ℕ → ℕ → List ℕ → Pause
-quietRows line zero i m before part = record { answer = record { row = i; m = m; best = before; score = 0; reach = 0 }; part = part }
+quietRows line zero i m before part = record { answer = record { row = i; m = m; best = before; score = 0; reach = 0; left = 0 }; part = part }
 quietRows line (suc n) i m before part =
-    let s = lineScore line m (getD part i 0) in
+    let x = getD part i 0 in
+    let s = lineScore line m x in
     let best = bestWith part i before s in
     let one = inReach line part i in
     let updated = set part (4096 + i) best in
     let later = quietRows line n (suc i) (lowered m one) best updated in
-    cond (leb (line .threshold) s)
-    (record { answer = record { row = suc i; m = lowered m one; best = best; score = s; reach = getD part (2048 + i) 0 }; part = updated })
+    cond (leb (line .floor) s)
+    (record { answer = record { row = suc i; m = lowered m one; best = best; score = s; reach = getD part (2048 + i) 0; left = x }; part = updated })
     later
 
 -- a column's update: what it answers, and the part of the work words afterwards
@@ -58,21 +60,22 @@ pub record Update : Type 0 where
   pub answer : Passed
   pub part : List ℕ
 
--- what is answered where no cell is passed from row i on
+-- what is answered where no cell passed was final: the row and m of the next one
 abbrev pub nonePassed : ℕ → ℕ → Passed
-nonePassed i m = record { found = false; row = i; m = m; score = 0 }
+nonePassed i m = record { found = false; row = i; m = m; score = pos 0 }
 
 -- the next n cells of the line from row i on, up to the first final one; `before` is what the rows before i have seen
 abbrev pub passRows : Line → ℕ → ℕ → ℕ → ℕ → List ℕ → Update
 passRows line zero i m before part = record { answer = nonePassed i m; part = part }
 passRows line (suc n) i m before part =
-    let s = lineScore line m (getD part i 0) in
+    let x = getD part i 0 in
+    let s = lineScore line m x in
     let best = bestWith part i before s in
     let one = inReach line part i in
     let updated = set part (4096 + i) best in
     let later = passRows line n (suc i) (lowered m one) best updated in
-    cond (finalTest (line .threshold) s best one (line .back) i)
-    (record { answer = record { found = true; row = suc i; m = m; score = s }; part = updated })
+    cond (finalTest line s best one i m x)
+    (record { answer = record { found = true; row = suc i; m = m; score = cellScore line m x }; part = updated })
     later
 
 -- a part of three blocks of 2,048 words, in which the rows from `from` up to `to` lie

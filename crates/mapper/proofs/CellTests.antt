@@ -1,7 +1,6 @@
 -- At a cell of a session, the code's numbers are those of the definitions: the score word, m along the column, and the four tests of
 -- Definition 1.
--- Assumes nothing.
-use Prim.Native.Nat.{ℕ, suc, _+_, _-_, _*_, _%_, _≤_, _<_, max}
+use Prim.Native.Nat.{ℕ, suc, _+_, _-_, _*_, _%_, _^_, _≤_, _<_, max}
 use native.Mathlib.Nat.{le-trans, mul-add, mul-le-mul, add-mod-mod}
 use native.Mathlib.Omega.{arith}
 use mathlib.Core.Path.{_≡_, refl, sym, ap, _∙_, subst}
@@ -20,19 +19,23 @@ use Rattle.mappings.proofs.Cells.{cellAt}
 use Rattle.mappings.proofs.Definition1.{MaximalCell, cell-final}
 use Rattle.mappings.proofs.HitCodes.{length-hitCodes, cell-shared, cell-reasonable}
 use Rattle.mappings.proofs.Hits.{hit-within, hit-at-most}
-use Rattle.mappings.proofs.Range.{Limited, shared-le-size, biased-within, scores-order, threshold-order}
+use Rattle.mappings.proofs.Range.{Limited, shared-le-len, shared-le-size, biased-within, scores-order, threshold-order}
 use Rattle.mappings.proofs.Shared.{shared-left-end}
 use Rattle.start.specs.Tables.{reach, back}
 use Rattle.start.proofs.Tables.{reach-test, back-test, hit-codes-in}
+use Rattle.column.specs.declared.cells.Line.{Line}
+use Rattle.column.specs.Deciding.{isScorable, cellScore, decides}
 use Rattle.column.specs.Passing.{lowered, finalTest}
+use Rattle.column.proofs.Deciding.{says-scorable}
+use Rattle.mapper.specs.Walking.{lift}
 use Rattle.mapper.proofs.Best.{scoreAt, Top, TopBefore, top-cell}
 
 one-is : (b : Bool) → eqb (bit b) 1 ≡ b
 one-is true = refl
 one-is false = refl
 
--- the tests in the code's order and in the definition's
-reordered : (a b c d : Bool) → (a && b && c && d) ≡ (a && c && d && b)
+-- the tests in the code's order, where the quick one and the deciding one agree, and in the definition's
+reordered : (a b c d : Bool) → (a && (b && c && d && true && a)) ≡ (a && c && d && b)
 reordered true true true true = refl
 reordered true true true false = refl
 reordered true true false d = refl
@@ -43,17 +46,17 @@ reordered false b c d = refl
 
 -- ---- the score word
 
-shifted : (gained left right both : ℕ) → both ≡ left + right → both ≤ 2147483648 → gained + left + (17594333528064 - both) ≡ 17592186044416 + (gained + 2147483648 - right)
+shifted : (gained left right both : ℕ) → both ≡ left + right → both ≤ 2147483648 → gained + left + (lift - both) ≡ 2 ^ 44 + (gained + 2147483648 - right)
 shifted gained left right both e l = omega arith
 
 -- gain·m + v·x + base, where base has the column's part and 2^44 added: the remainder is the biased score
-word-is : (u v size m x y : ℕ) → x ≤ y → v * (y + 1 + size) ≤ 2147483648 → biased u v size m (suc y - x) < 4294967296 → ((u + 2 * v) * m + v * x + (17594333528064 - v * (y + 1 + size)) % 4294967296) % 4294967296 ≡ biased u v size m (suc y - x)
+word-is : (u v size m x y : ℕ) → x ≤ y → v * (y + 1 + size) ≤ 2147483648 → biased u v size m (suc y - x) < 4294967296 → ((u + 2 * v) * m + v * x + (lift - v * (y + 1 + size)) % 4294967296) % 4294967296 ≡ biased u v size m (suc y - x)
 unfolding biased
 word-is u v size m x y a b d =
     let e : y + 1 + size ≡ x + (suc y - x + size) = omega arith in
     let f : v * (y + 1 + size) ≡ v * x + v * (suc y - x + size) = ap (λ (n : ℕ). v * n) e ∙ mul-add v x (suc y - x + size) in
-    let g : (u + 2 * v) * m + v * x + (17594333528064 - v * (y + 1 + size)) ≡ 4096 * 4294967296 + ((u + 2 * v) * m + 2147483648 - v * (suc y - x + size)) = shifted ((u + 2 * v) * m) (v * x) (v * (suc y - x + size)) (v * (y + 1 + size)) f b in
-    add-mod-mod ((u + 2 * v) * m + v * x) (17594333528064 - v * (y + 1 + size)) 4294967296
+    let g : (u + 2 * v) * m + v * x + (lift - v * (y + 1 + size)) ≡ 4096 * 4294967296 + ((u + 2 * v) * m + 2147483648 - v * (suc y - x + size)) = shifted ((u + 2 * v) * m) (v * x) (v * (suc y - x + size)) (v * (y + 1 + size)) f b in
+    add-mod-mod ((u + 2 * v) * m + v * x) (lift - v * (y + 1 + size)) 4294967296
     ∙ ap (λ (n : ℕ). n % 4294967296) g
     ∙ digits-mod 4096 d
 
@@ -62,7 +65,7 @@ abbrev pub sharedAt : Task → ℕ → ℕ → ℕ
 sharedAt task i j = shared (task .pattern) (interval (hitCodes task) i j)
 
 module _ (task : Task) (limited : Limited task) (threshold-fits : mag (task .threshold) < bias) where
-  pub score-word : (i j : ℕ) → i ≤ j → j < hitCount task → ((task .u + 2 * task .v) * sharedAt task i j + task .v * getD (hits task) i 0 + (17594333528064 - task .v * (getD (hits task) j 0 + 1 + length (task .pattern))) % 4294967296) % 4294967296 ≡ scoreAt task i j
+  pub score-word : (i j : ℕ) → i ≤ j → j < hitCount task → ((task .u + 2 * task .v) * sharedAt task i j + task .v * getD (hits task) i 0 + (lift - task .v * (getD (hits task) j 0 + 1 + length (task .pattern))) % 4294967296) % 4294967296 ≡ scoreAt task i j
   unfolding scoreAt biasedOf lengthOf
   score-word i j a l =
       let inside : getD (hits task) j 0 < length (task .text) = hit-within task j l in
@@ -107,19 +110,63 @@ module _ (task : Task) (limited : Limited task) (threshold-fits : mag (task .thr
       in
       eq-eqb (scoreAt task i j) (max before (max own (scoreAt task i j))) (omega arith)
 
-  -- the four tests
-  pub final-test : (i j before own : ℕ) → i ≤ j → j < hitCount task → TopBefore task before i j → Top task own i (suc j) → finalTest (biasedZ (task .threshold)) (scoreAt task i j) (max before (max own (scoreAt task i j))) (bit (ltb j (reach (task .pattern) (hitCodes task) i))) (back (task .pattern) (hitCodes task) j) i ≡ isFinalCell task (cellAt i j)
-  unfolding finalTest isFinalCell leftEnd rightEnd
+  -- what the cells of column j share
+  abbrev pub sessionLine : ℕ → Line
+  sessionLine j = record {
+    threshold = task .threshold;
+    u = task .u;
+    v = task .v;
+    size = length (task .pattern);
+    right = getD (hits task) j 0;
+    back = back (task .pattern) (hitCodes task) j;
+    column = j;
+    gain = task .u + 2 * task .v;
+    base = (lift - task .v * (getD (hits task) j 0 + 1 + length (task .pattern))) % 4294967296;
+    floor = biasedZ (task .threshold);
+  }
+
+  -- weights and counts of a cell are a session's
+  counted : (i j : ℕ) → i ≤ j → j < hitCount task
+      → isScorable (task .u) (task .v) (length (task .pattern)) (getD (hits task) j 0) (sharedAt task i j) (getD (hits task) i 0) ≡ true
+  counted i j a l =
+      let x = getD (hits task) i 0 in
+      let y = getD (hits task) j 0 in
+      let inside : y < length (task .text) = hit-within task j l in
+      says-scorable (task .u) (task .v) (length (task .pattern)) y (sharedAt task i j) x
+      (record {
+        small-u = limited .small-u;
+        small-v = limited .small-v;
+        short-pattern = limited .short-pattern;
+        ordered = hit-at-most task i j a l;
+        short = omega (arith, limited .short-text);
+        at-most-size = rw (← cell-shared task i j a l) (shared-le-size task x y);
+        at-most-len = rw (← cell-shared task i j a l) (shared-le-len task x y inside);
+      })
+
+  -- and its score is the definition's
+  pub score-is : (i j : ℕ) → i ≤ j → j < hitCount task
+      → cellScore (sessionLine j) (sharedAt task i j) (getD (hits task) i 0) ≡ scoreOf task (getD (hits task) i 0) (getD (hits task) j 0)
+  unfolding cellScore scoreOf
+  score-is i j a l = rw (cell-shared task i j a l)
+
+  -- the quick test and the deciding one
+  pub final-test : (i j before own : ℕ) → i ≤ j → j < hitCount task → TopBefore task before i j → Top task own i (suc j)
+      → finalTest (sessionLine j) (scoreAt task i j) (max before (max own (scoreAt task i j))) (bit (ltb j (reach (task .pattern) (hitCodes task) i))) i
+      (sharedAt task i j) (getD (hits task) i 0) ≡ isFinalCell task (cellAt i j)
+  unfolding finalTest decides isFinalCell leftEnd rightEnd
   final-test i j before own a l t o =
       let x = getD (hits task) i 0 in
       let y = getD (hits task) j 0 in
       let k : j < length (hitCodes task) = subst (λ (n : ℕ). j < n) (sym (length-hitCodes task)) l in
+      let reasonable = bit (ltb j (reach (task .pattern) (hitCodes task) i)) in
+      let top = eqb (scoreAt task i j) (max before (max own (scoreAt task i j))) in
       let enough : leZ (task .threshold) (scoreOf task x y) ≡ leb (biasedZ (task .threshold)) (scoreAt task i j) = threshold-is i j l in
-      let left : isReasonable task x y x ≡ eqb (bit (ltb j (reach (task .pattern) (hitCodes task) i))) 1 =
+      let left : isReasonable task x y x ≡ eqb reasonable 1 =
       cell-reasonable task i j i a l (omega arith) ∙ sym (reach-test (task .pattern) (hitCodes task) i j a k) ∙ sym (one-is (ltb j (reach (task .pattern) (hitCodes task) i)))
       in
       let right : isReasonable task x y y ≡ leb (back (task .pattern) (hitCodes task) j) i =
       cell-reasonable task i j j a l l ∙ sym (back-test (task .pattern) (hitCodes task) (hit-codes-in task) i j a k)
       in
-      reordered (leb (biasedZ (task .threshold)) (scoreAt task i j)) (eqb (scoreAt task i j) (max before (max own (scoreAt task i j)))) (eqb (bit (ltb j (reach (task .pattern) (hitCodes task) i))) 1) (leb (back (task .pattern) (hitCodes task) j) i)
-      ∙ rw (← enough, ← left, ← right) (sym (cell-final task i j a l (eqb (scoreAt task i j) (max before (max own (scoreAt task i j)))) (greatest i j before own a l t o) (greatest′ i j before own a l t o)))
+      rw (counted i j a l, score-is i j a l, enough)
+      (reordered (leb (biasedZ (task .threshold)) (scoreAt task i j)) top (eqb reasonable 1) (leb (back (task .pattern) (hitCodes task) j) i)
+      ∙ rw (← enough, ← left, ← right) (sym (cell-final task i j a l top (greatest i j before own a l t o) (greatest′ i j before own a l t o))))

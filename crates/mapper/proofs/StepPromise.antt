@@ -1,6 +1,5 @@
 -- Step keeps its promise, way by way: refused for too few words or for bad ones, words that no session has, and the walk.
--- Assumes nothing.
-use Prim.Native.Nat.{ℕ, zero, suc, _+_, _-_, _*_, _≤_, _<_}
+use Prim.Native.Nat.{ℕ, zero, suc, _+_, _-_, _≤_, _<_}
 use native.Mathlib.Nat.{le-refl}
 use native.Mathlib.Omega.{arith}
 use mathlib.Core.Path.{_≡_, refl, sym, ap, _∙_, subst}
@@ -12,6 +11,8 @@ use lib.ListN.{length, getD}
 use borrow.Author.Tests.{lt-ltb, le-ltb, ltb-true}
 use Rattle.counts.proofs.Lists.{clash, eq-or-ne}
 use Rattle.mappings.specs.Score.{Task}
+use Rattle.mappings.specs.Bias.{unbiased}
+use Rattle.mappings.proofs.Integers.{unbiased-biasedZ}
 use Rattle.mappings.specs.Cells.{hitCount, cells, cellCount}
 use Rattle.mappings.specs.Rule.{Answer, reported, moreCells, ruleAnswer}
 use Rattle.mappings.proofs.Cells.{cellAt, stands}
@@ -20,10 +21,9 @@ use Rattle.start.specs.Start.{badWeights}
 use Rattle.start.specs.WorkWords.{columnsLeft, nextRow, nextShared, sessionWords}
 use Rattle.start.proofs.WorkWords.{Holds, words-hold}
 use Rattle.mapper.specs.declared.answer.Stepped.the-variants.{Spent, TooFewWords, BadWords}
-use Rattle.mapper.specs.declared.update.Terms.{Terms}
 use Rattle.mapper.specs.Answers.{answerOf}
 use Rattle.mapper.specs.Step.{tooFewWords, badWords}
-use Rattle.mapper.specs.Walking.{Walk, walkOn}
+use Rattle.mapper.specs.Walking.{Walk, termsIn, walkOn}
 use Rattle.mapper.specs.Promise.{Accepts, StepPromise}
 use Rattle.mapper.proofs.Accepted.{Admitted, admitted}
 use Rattle.mapper.proofs.Chunk.{more-none}
@@ -135,9 +135,13 @@ module _ (work : List ℕ) (budget : ℕ) where
           lost task before q s (inr o) =
               omega (arith, s .held .columns-word, s .held .row-word, row-within (hitCount task) q)
 
-      pub walk-promise : (terms : Terms) → terms .gain ≡ getD work 1 0 + 2 * getD work 2 0 → terms .v ≡ getD work 2 0 → terms .size ≡ getD work 5 0 → terms .threshold ≡ getD work 6 0 → StepPromise work budget (walkOn terms budget (getD work 7 0) (getD work 8 0) (getD work 9 0) budget work .answer) (walkOn terms budget (getD work 7 0) (getD work 8 0) (getD work 9 0) budget work .words)
-      unfolding tooFewWords
-      walk-promise terms eg ev es et = record {
+      -- the walk from the place in the words
+      abbrev pub walked : Walk
+      walked = walkOn (termsIn work) budget (getD work 7 0) (getD work 8 0) (getD work 9 0) budget work
+
+      pub walk-promise : StepPromise work budget (walked .answer) (walked .words)
+      unfolding tooFewWords termsIn
+      walk-promise = record {
         few = λ e. clash e (le-ltb (length work) 16384 l);
         bad = λ e f. clash f good;
         session = λ task before q a k e. ruled task before q a k (in-session task before q work a e);
@@ -145,22 +149,24 @@ module _ (work : List ℕ) (budget : ℕ) where
         beyond = kept .beyond;
       }
         where
-          kept : Kept work (walkOn terms budget (getD work 7 0) (getD work 8 0) (getD work 9 0) budget work .words)
-          kept = kept-walk terms budget (getD work 7 0) (getD work 8 0) (getD work 9 0) budget work l
+          kept : Kept work (walked .words)
+          kept = kept-walk (termsIn work) budget (getD work 7 0) (getD work 8 0) (getD work 9 0) budget work l
 
-          walk-of : Terms → Walk
-          walk-of t = walkOn t budget (getD work 7 0) (getD work 8 0) (getD work 9 0) budget work
+          terms-are : (task : Task) (before : List ℕ) (q : ℕ) → Accepts task before → InSession task before q work → termsIn work ≡ termsOf task
+          terms-are task before q a s =
+              let held = s .held .held in
+              let threshold : unbiased (getD work 6 0) ≡ task .threshold = ap unbiased (held .threshold-word) ∙ unbiased-biasedZ (task .threshold) (a .threshold-fits) in
+              λ i. record { threshold = threshold i; u = held .u-word i; v = held .v-word i; size = held .size-word i; floor = held .threshold-word i }
 
-          ruled : (task : Task) (before : List ℕ) (q : ℕ) → Accepts task before → q ≤ cellCount (hitCount task) → InSession task before q work → (answerOf (walk-of terms .answer) ≡ ruleAnswer task q budget) × (walk-of terms .words ≡ sessionWords task before (q + reported (ruleAnswer task q budget)))
+          ruled : (task : Task) (before : List ℕ) (q : ℕ) → Accepts task before → q ≤ cellCount (hitCount task) → InSession task before q work
+              → (answerOf (walked .answer) ≡ ruleAnswer task q budget) × (walked .words ≡ sessionWords task before (q + reported (ruleAnswer task q budget)))
           ruled task before q a k s =
               let m = s .limits in
               let held = s .held .held in
-              let gain : terms .gain ≡ task .u + 2 * task .v = eg ∙ rw (held .u-word, held .v-word) in
-              let same : terms ≡ termsOf task = λ i. record { gain = gain i; v = (ev ∙ held .v-word) i; size = (es ∙ held .size-word) i; threshold = (et ∙ held .threshold-word) i } in
               let none : budget - budget ≡ 0 = omega arith in
               let at : PlaceAt task q (getD work 7 0) (getD work 8 0) (getD work 9 0) = rw (s .held .columns-word, s .held .row-word, s .held .shared-word) (placed task q k) in
-              let r : Ruled task (m .limited) (a .threshold-fits) (m .few-hits) before (m .many-words) q budget q budget (walk-of terms) =
-              rw same (walk-rule task (m .limited) (a .threshold-fits) (m .few-hits) before (m .many-words) q budget (getD work 7 0) q (getD work 8 0) (getD work 9 0) budget work held (s .held .passed-word) (omega arith) (le-refl budget) at)
+              let r : Ruled task (m .limited) (a .threshold-fits) (m .few-hits) before (m .many-words) q budget q budget walked =
+              rw (terms-are task before q a s) (walk-rule task (m .limited) (a .threshold-fits) (m .few-hits) before (m .many-words) q budget (getD work 7 0) q (getD work 8 0) (getD work 9 0) budget work held (s .held .passed-word) (omega arith) (le-refl budget) at)
               in
-              let answer : answerOf (walk-of terms .answer) ≡ ruleAnswer task q budget = r .answer-is ∙ ap (λ (n : ℕ). moreCells n (ruleAnswer task q budget)) none ∙ more-none (ruleAnswer task q budget) in
+              let answer : answerOf (walked .answer) ≡ ruleAnswer task q budget = r .answer-is ∙ ap (λ (n : ℕ). moreCells n (ruleAnswer task q budget)) none ∙ more-none (ruleAnswer task q budget) in
               (answer, r .words-are ∙ ap (λ (x : Answer). sessionWords task before (q + reported x)) answer)

@@ -1,5 +1,4 @@
 -- A walk in the words of a session answers as the rule does, and leaves the words of the session further on.
--- Assumes nothing.
 use Prim.Native.Nat.{ℕ, zero, suc, _+_, _-_, _*_, _≤_, _<_, min, zero-le, suc-le-suc}
 use native.Mathlib.Omega.{arith}
 use mathlib.Core.Path.{_≡_, refl, sym, ap, _∙_, subst}
@@ -12,13 +11,12 @@ use lib.Signed.{mag}
 use borrow.Author.Tests.{ne-eqb, ltb-true, ltb-false}
 use Rattle.counts.proofs.Lists.{eq-or-ne}
 use Rattle.mappings.specs.Score.{Task, scoreOf, sharedOf}
-use Rattle.mappings.specs.Bias.{bias, biasedZ, unbiased}
+use Rattle.mappings.specs.Bias.{bias, biasedZ}
 use Rattle.mappings.specs.Cells.{hits, hitCount, cellCount, mappingOf, leftEnd, rightEnd, place}
 use Rattle.mappings.specs.Rule.{found, finished, spent, reported, moreCells, ruleAnswer}
 use Rattle.mappings.proofs.Cells.{cellAt, cellCount-mono, place-row, place-column, place-last, place-within}
 use Rattle.mappings.proofs.HitCodes.{cell-shared}
-use Rattle.mappings.proofs.Hits.{hit-within}
-use Rattle.mappings.proofs.Range.{Limited, score-biased}
+use Rattle.mappings.proofs.Range.{Limited}
 use Rattle.mappings.proofs.Rule.{rule-no-budget, rule-none-left, more-cells}
 use Rattle.start.specs.Tables.{whole}
 use Rattle.start.specs.WorkWords.{bestBefore, bestAfter, columnsLeft, nextRow, nextShared, sessionWords}
@@ -28,16 +26,15 @@ use Rattle.mapper.specs.declared.place.Place.{Place}
 use Rattle.mapper.specs.Answers.{answerOf}
 use Rattle.column.specs.Passing.{lowered, seenBefore, Update}
 use Rattle.mapper.specs.Walking.{topShared, settled, saved, lineOf, Walk, spentWalk, finishedWalk, foundWalk, partOf, withPart, columnUpdate, walkOn}
-use Rattle.mapper.proofs.Best.{scoreAt}
-use Rattle.mapper.proofs.CellTests.{sharedAt}
-use Rattle.mapper.proofs.Chunk.{PartHolds, sessionLine, Chunk, all-passed, one-found, chunk, more-none}
+use Rattle.mapper.proofs.CellTests.{sharedAt, sessionLine}
+use Rattle.mapper.proofs.Chunk.{PartHolds, Chunk, all-passed, one-found, chunk, more-none}
 use Rattle.mapper.proofs.Places.{at-cell, at-end}
 use Rattle.mapper.proofs.SessionWords.{blocks-part, part-blocks, passed-back, place-saved}
 use Rattle.mapper.proofs.Walking.{walk-spent, walk-found, walk-part, walk-next}
 
--- what the score words of a task share
+-- what the scores of a task share
 abbrev pub termsOf : Task → Terms
-termsOf task = record { gain = task .u + 2 * task .v; v = task .v; size = length (task .pattern); threshold = biasedZ (task .threshold) }
+termsOf task = record { threshold = task .threshold; u = task .u; v = task .v; size = length (task .pattern); floor = biasedZ (task .threshold) }
 
 -- the place after q cells: behind the last column, or a cell of the last column left with its m
 abbrev pub PlaceAt : Task → ℕ → ℕ → ℕ → ℕ → Type 0
@@ -174,10 +171,10 @@ module _ (task : Task) (limited : Limited task) (threshold-fits : mag (task .thr
 
     -- a final cell of the column
     at-final : (q j row k m left : ℕ) (work : List ℕ) (update : Update) → HoldsBlocks task before q work → getD work 3 0 ≡ q₀ → q₀ + (budget - left) ≡ q → left ≤ budget → suc k ≤ left → j < hitCount task → row + k ≤ j → place (hitCount task) row j ≡ q
-        → update .answer .row ≡ suc (row + k) → update .answer .m ≡ sharedAt task (row + k) j → update .answer .score ≡ scoreAt task (row + k) j → lowered (sharedAt task (row + k) j) 1 ≡ sharedAt task (suc (row + k)) j
+        → update .answer .row ≡ suc (row + k) → update .answer .m ≡ sharedAt task (row + k) j → update .answer .score ≡ scoreOf task (getD (hits task) (row + k) 0) (getD (hits task) j 0) → lowered (sharedAt task (row + k) j) 1 ≡ sharedAt task (suc (row + k)) j
         → HoldsBlocks task before (q + suc k) (withPart work (update .part)) → ((B : ℕ) → ruleAnswer task q (suc k + B) ≡ found (mappingOf task (cellAt (row + k) j)) (suc k))
         → Ruled q left (foundWalk (withPart work (update .part)) (suc j) (update .answer) (budget - (left - (update .answer .row - row))))
-    unfolding foundWalk mappingOf leftEnd rightEnd scoreAt
+    unfolding foundWalk mappingOf leftEnd rightEnd
     at-final q j row k m left work update h e₀ e fits spends l inside at er em es lower h′ rule =
         let words = withPart work (update .part) in
         let cells : budget - (left - (update .answer .row - row)) ≡ budget - left + suc k = rw er (omega arith) in
@@ -190,9 +187,6 @@ module _ (task : Task) (limited : Limited task) (threshold-fits : mag (task .thr
         let right-end : getD words (4096 + suc j - 1) 0 ≡ getD (hits task) j 0 =
         (let f : 4096 + suc j - 1 ≡ 4096 + j = omega arith in ap (λ (n : ℕ). getD words n 0) f ∙ h′ .index-word j l)
         in
-        let score : unbiased (update .answer .score) ≡ scoreOf task (getD (hits task) (row + k) 0) (getD (hits task) j 0) =
-        ap unbiased es ∙ sym (score-biased task limited (getD (hits task) (row + k) 0) (getD (hits task) j 0) (hit-within task j l))
-        in
         let shares : update .answer .m ≡ sharedOf task (getD (hits task) (row + k) 0) (getD (hits task) j 0) = em ∙ sym (cell-shared task (row + k) j inside l) in
         let further : place (hitCount task) (suc (row + k)) j ≡ q + suc k = place-further (hitCount task) row (suc k) j (suc (row + k)) q at (omega arith) in
         let within : place (hitCount task) (row + k) j < cellCount (hitCount task) = place-within (hitCount task) (row + k) j inside l in
@@ -204,7 +198,7 @@ module _ (task : Task) (limited : Limited task) (threshold-fits : mag (task .thr
         let count : getD words 3 0 + (budget - (left - (update .answer .row - row))) ≡ q + suc k = rw (passed-back task limited threshold-fits small before many q work (update .part) h, e₀, cells) (omega arith) in
         let total : q + suc k ≡ q₀ + (budget - (left - (update .answer .row - row))) = rw cells (omega arith) in
         record {
-          answer-is = rw (left-end, right-end, score, shares, cells, answer);
+          answer-is = rw (left-end, right-end, es, shares, cells, answer);
           words-are =
               saved-is (q + suc k) (budget - (left - (update .answer .row - row))) words (settled words (suc j) (update .answer .row) (lowered (update .answer .m) 1)) h′ (omega arith) count settles
               ∙ ap (sessionWords task before) total;

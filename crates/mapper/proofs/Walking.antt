@@ -1,5 +1,4 @@
 -- Laws of a walk: where a place settles, and a walk unrolled by one column.
--- Assumes nothing.
 use Prim.Native.Nat.{ℕ, suc, _+_, _-_, _%_, _≤_, _<_, min, zero-le}
 use native.Mathlib.Nat.{le-refl}
 use native.Mathlib.Omega.{arith}
@@ -11,7 +10,6 @@ use lib.Dec.{ltb}
 use borrow.Author.Tests.{ne-eqb, lt-ltb, le-ltb}
 use lib.ListN.{length, getD, drop, set, length-drop}
 use lib.Seq.{getD-set-other, length-take-le}
-use Rattle.mappings.specs.Bias.{unbiased}
 use Rattle.column.specs.Passing.{lowered, seenBefore, columnPass}
 use Rattle.column.specs.declared.cells.Line.{Line}
 use Rattle.column.specs.declared.cells.Passed.{Passed}
@@ -123,7 +121,7 @@ module _ (terms : Terms) (columns row m : ℕ) (work : List ℕ) (p : Passed) (w
   stops : Stops columns row 1 p
   stops = update-stops terms columns row m 1 work p (omega arith) (omega arith) ep
 
-  pub one-found : p .found ≡ true → (after : List ℕ) → after ≡ saved words (record { columns = columns; row = p .row; m = lowered (p .m) 1 }) 1 → walkOn terms 1 columns row m 1 work ≡ record { answer = Found (getD after (4096 + p .row - 1) 0) (getD after (4096 + columns - 1) 0) (unbiased (p .score)) (p .m) 1; words = after }
+  pub one-found : p .found ≡ true → (after : List ℕ) → after ≡ saved words (record { columns = columns; row = p .row; m = lowered (p .m) 1 }) 1 → walkOn terms 1 columns row m 1 work ≡ record { answer = Found (getD after (4096 + p .row - 1) 0) (getD after (4096 + columns - 1) 0) (p .score) (p .m) 1; words = after }
   unfolding foundWalk settled
   one-found f after e =
       let one : 1 - (1 - (p .row - row)) ≡ 1 = omega (arith, stops .moved f) in

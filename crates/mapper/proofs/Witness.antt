@@ -1,7 +1,6 @@
 -- Demand 3's hypotheses can be met: for document 01's own example sketch, strike and start accept, with buffers of four words and 16,384
 -- zeros, and every list of steps can be run on the session that start then leaves.
--- Assumes nothing.
-use Prim.Native.Nat.{ℕ, _+_, _*_, _≤_}
+use Prim.Native.Nat.{ℕ, _≤_}
 use native.Mathlib.Omega.{arith}
 use mathlib.Core.Path.{_≡_, refl, ap, _∙_}
 use mathlib.Core.Bool.{Bool, true, false}
@@ -17,7 +16,6 @@ use Rattle.mappings.proofs.Compute.{mappings-compute}
 use Rattle.start.specs.Start.{badWeights, startReply, startWords}
 use Rattle.mapper.specs.declared.answer.Stepped.{Stepped}
 use Rattle.mapper.specs.declared.answer.Stepped.the-variants.{TooFewWords, BadWords}
-use Rattle.mapper.specs.declared.update.Terms.{Terms}
 use Rattle.mapper.specs.Answers.{answerOf}
 use Rattle.mapper.specs.Step.{badWords}
 use Rattle.mapper.specs.Promise.{StepPromise}
@@ -78,9 +76,7 @@ promise-kept work budget = number (ltb (length work) workWords) refl
   where
     words : (b : Bool) → badWords work ≡ b → workWords ≤ length work → (answer : Stepped) × (after : List ℕ) × StepPromise work budget answer after
     words true e l = (BadWords, work, bad-promise work budget l e)
-    words false e l =
-        let terms : Terms = record { gain = getD work 1 0 + 2 * getD work 2 0; v = getD work 2 0; size = getD work 5 0; threshold = getD work 6 0 } in
-        (_, _, walk-promise work budget l e terms refl refl refl refl)
+    words false e l = (_, _, walk-promise work budget l e)
 
     number : (b : Bool) → ltb (length work) workWords ≡ b → (answer : Stepped) × (after : List ℕ) × StepPromise work budget answer after
     number true e = (TooFewWords, work, few-promise work budget (ltb-true (length work) workWords e))

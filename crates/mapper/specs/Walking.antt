@@ -1,11 +1,10 @@
 -- What a step does to any work words from a place on, made by start and steps or not: column after column.
--- Assumes nothing.
-use Prim.Native.Nat.{ℕ, zero, suc, _+_, _-_, _*_, _%_, min}
+use Prim.Native.Nat.{ℕ, zero, suc, _+_, _-_, _*_, _%_, _^_, min}
 use mathlib.Core.Bool.{cond}
 use mathlib.Core.List.{List, _++_}
 use lib.Dec.{ltb, eqb}
 use lib.ListN.{getD, take, drop, set}
-use Rattle.mappings.specs.Bias.{unbiased}
+use Rattle.mappings.specs.Bias.{bias, unbiased}
 use Rattle.column.specs.Passing.{lowered, seenBefore, Update, passRows}
 use Rattle.column.specs.declared.cells.Line.{Line}
 use Rattle.column.specs.declared.cells.Passed.{Passed}
@@ -34,16 +33,33 @@ saved work place cells =
     9
     (place .m)
 
+-- what the scores of the session in these words share
+unfoldable pub termsIn : List ℕ → Terms
+termsIn work = record {
+  threshold = unbiased (getD work 6 0);
+  u = getD work 1 0;
+  v = getD work 2 0;
+  size = getD work 5 0;
+  floor = getD work 6 0;
+}
+
+-- added to the base of a column's score words: 2^31, their bias, and 2^44, which keeps the base of any words above 0
+abbrev pub lift : ℕ
+lift = 2 ^ 44 + bias
+
 -- what the cells of column j share
 unfoldable pub lineOf : List ℕ → Terms → ℕ → Line
 lineOf work terms j = record {
-  column = j;
-  gain = terms .gain;
-  v = terms .v;
-  -- 2^44 + 2^31: 2^31 is the score words' bias, and 2^44 keeps any words' numbers above 0
-  base = (17594333528064 - terms .v * (getD work (4096 + j) 0 + 1 + terms .size)) % 4294967296;
-  back = getD work (2048 + j) 0;
   threshold = terms .threshold;
+  u = terms .u;
+  v = terms .v;
+  size = terms .size;
+  right = getD work (4096 + j) 0;
+  back = getD work (2048 + j) 0;
+  column = j;
+  gain = terms .u + 2 * terms .v;
+  base = (lift - terms .v * (getD work (4096 + j) 0 + 1 + terms .size)) % 4294967296;
+  floor = terms .floor;
 }
 
 -- a step's answer, and the words afterwards
@@ -59,7 +75,7 @@ finishedWalk work place cells = record { answer = Finished cells; words = saved 
 
 unfoldable pub foundWalk : List ℕ → ℕ → Passed → ℕ → Walk
 foundWalk work columns p cells = record {
-  answer = Found (getD work (4096 + p .row - 1) 0) (getD work (4096 + columns - 1) 0) (unbiased (p .score)) (p .m) cells;
+  answer = Found (getD work (4096 + p .row - 1) 0) (getD work (4096 + columns - 1) 0) (p .score) (p .m) cells;
   words = saved work (settled work columns (p .row) (lowered (p .m) 1)) cells;
 }
 

@@ -1,4 +1,4 @@
-// Scores out of the work words, which hold a score plus 2^31. Assumes nothing.
+// The threshold out of the work words, which hold it plus 2^31.
 ghost use mathlib.Core.Path.{_≡_};
 ghost use Rattle.mappings.specs.Bias.{unbiased as unbiasedOf};
 

@@ -1,6 +1,7 @@
-// A step of a session: what is refused, and the walk from the place in the work words. A function assumes what its `requires` says.
+// A step of a session: what is refused, and the walk from the place in the work words.
 use crate::answer::Stepped;
 use crate::place::Place;
+use crate::score::unbiased;
 use crate::update::Terms;
 use crate::walk::walk;
 use crate::walk::walk_one;
@@ -19,11 +20,12 @@ use layout::WORK_WORDS;
 use layout::wide;
 use layout::wider;
 ghost use mathlib.Core.Path.{_≡_};
-ghost use Prim.Native.Nat.{_+_, _*_, _≤_};
+ghost use Prim.Native.Nat.{_+_, _≤_};
 ghost use mathlib.Core.Bool.{_&&_};
 ghost use lib.Dec.{eqb, ltb};
-ghost use lib.ListN.{length, getD};
+ghost use lib.ListN.{length};
 ghost use Rattle.mapper.specs.Step.{badWords};
+ghost use Rattle.mapper.specs.Walking.{termsIn};
 ghost use Rattle.mapper.specs.Promise.{StepPromise};
 
 // Words 0 to 3 hold h over 2,048, u or v outside 1 to 1,000, or more cells passed than h(h + 1)/2.
@@ -54,23 +56,18 @@ fn bad_words(work: &[u32]) -> bool
     cells < passed
 }
 
-// What the score words of the session share.
+// What the scores of the session share.
 fn terms_of(work: &[u32]) -> Terms
     requires { ⌜ 16384 ≤ length (now work) ⌝ }
-    ensures gain { λ r. ⌜ r .gain ≡ getD (now (work .entry)) 1 0 + 2 * getD (now (work .entry)) 2 0 ⌝ }
-    ensures v { λ r. ⌜ r .v ≡ getD (now (work .entry)) 2 0 ⌝ }
-    ensures size { λ r. ⌜ (r .size ≡ getD (now (work .entry)) 5 0) × (r .size ≤ 4294967295) ⌝ }
-    ensures threshold { λ r. ⌜ r .threshold ≡ getD (now (work .entry)) 6 0 ⌝ }
+    ensures { λ r. ⌜ (r ≡ termsIn (now (work .entry))) × (r .size ≤ 4294967295) ⌝ }
 {
-    let u = wider(work[U]);
-    let v = wider(work[V]);
-    let size = wider(work[SIZE]);
-    let threshold = work[THRESHOLD];
+    let floor = work[THRESHOLD];
     Terms {
-        gain: u + 2 * v,
-        v,
-        size,
-        threshold,
+        threshold: unbiased(floor),
+        u: wider(work[U]),
+        v: wider(work[V]),
+        size: wider(work[SIZE]),
+        floor,
     }
 }
 
@@ -97,19 +94,17 @@ pub fn step(work: &mut [u32], budget: u32) -> Stepped
         return Stepped::BadWords;
     }
     let columns = wide(work[COLUMNS]);
-    let row = wide(work[ROW]);
     if wide(work[HITS]) < columns {
         return Stepped::Spent(0);
     }
+    let row = wide(work[ROW]);
+    let m = work[SHARED];
+    let terms = terms_of(work);
     if one_inside(budget, row, columns) {
-        let terms = terms_of(work);
-        let m = work[SHARED];
         return walk_one(work, terms, Place { columns, row, m });
     }
     if columns < row {
         return Stepped::Spent(0);
     }
-    let terms = terms_of(work);
-    let m = work[SHARED];
     walk(work, terms, Place { columns, row, m }, wide(budget))
 }

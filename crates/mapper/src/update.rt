@@ -1,5 +1,4 @@
 // The update of a column in the work words: cells of it are passed in the blocks that it is lent.
-// A function assumes what its `requires` says.
 use crate::place::Place;
 use column::cells::Line;
 use column::cells::Passed;
@@ -15,13 +14,17 @@ ghost use Prim.Native.Nat.{_-_, _≤_, _<_, min};
 ghost use lib.ListN.{length};
 ghost use Rattle.mapper.specs.Walking.{lineOf, columnUpdate, withPart};
 
-// What the score words of a session share: u + 2v, v, the pattern's length, and the threshold with its bias.
+// What the scores of a session share: the threshold, the weights, the pattern's length, and floor, the threshold's word.
 pub struct Terms {
-    pub gain: u64,
+    pub threshold: i32,
+    pub u: u64,
     pub v: u64,
     pub size: u64,
-    pub threshold: u32,
+    pub floor: u32,
 }
+
+// Added to the base of a column's score words: 2^31, their bias, and 2^44, which keeps the base of any words above 0.
+const LIFT: u64 = 17594333528064;
 
 // The smaller of two.
 fn smaller(a: usize, b: usize) -> usize
@@ -30,28 +33,34 @@ fn smaller(a: usize, b: usize) -> usize
     if a < b { a } else { b }
 }
 
-// What the cells of column j share. The base has 2^44 added, so that words that no start made stay within range.
+// What the cells of column j share.
 fn line_of(work: &[u32], terms: Terms, j: usize) -> Line
-    requires { ⌜ (16384 ≤ length (now work)) × (j < 2048) × (terms .gain ≤ 3000) × (terms .v ≤ 1000) × (terms .size ≤ 4294967295) ⌝ }
+    requires { ⌜ (16384 ≤ length (now work)) × (j < 2048) × (terms .u ≤ 1000) × (terms .v ≤ 1000) × (terms .size ≤ 4294967295) ⌝ }
     ensures { λ r. ⌜ r ≡ lineOf (now (work .entry)) terms j ⌝ }
 {
-    let x = wider(work[INDEX + j]);
+    let right = work[INDEX + j];
     let back = wide(work[BACK + j]);
+    let u = terms.u;
     let v = terms.v;
+    let size = terms.size;
     Line {
-        column: j as u32,
-        gain: terms.gain as u32,
-        v: v as u32,
-        base: ((17594333528064 - v * (x + 1 + terms.size)) % 4294967296) as u32,
-        back,
         threshold: terms.threshold,
+        u: u as u32,
+        v: v as u32,
+        size: size as u32,
+        right,
+        back,
+        column: j as u32,
+        gain: (u + 2 * v) as u32,
+        base: ((LIFT - v * (wider(right) + 1 + size)) % 4294967296) as u32,
+        floor: terms.floor,
     }
 }
 
 // Passes cells of the last of the place's columns from its row on: at most `left` of them, and up to the first final one.
 pub fn update(work: &mut [u32], terms: Terms, place: Place, left: usize) -> Passed
     requires { ⌜ (16384 ≤ length (now work)) × (1 ≤ place .columns) × (place .columns ≤ 2048) × (place .row ≤ place .columns) ⌝ }
-    requires { ⌜ (terms .gain ≤ 3000) × (terms .v ≤ 1000) × (terms .size ≤ 4294967295) ⌝ }
+    requires { ⌜ (terms .u ≤ 1000) × (terms .v ≤ 1000) × (terms .size ≤ 4294967295) ⌝ }
     ensures { λ r. ⌜ r ≡ columnUpdate terms (place .columns - 1) (place .row) (place .m) left (now (work .entry)) .answer ⌝ }
     ensures { λ _. ⌜ now (work .exit) ≡ withPart (now (work .entry)) (columnUpdate terms (place .columns - 1) (place .row) (place .m) left (now (work .entry)) .part) ⌝ }
 {
@@ -64,7 +73,7 @@ pub fn update(work: &mut [u32], terms: Terms, place: Place, left: usize) -> Pass
 // The same of one cell.
 pub fn update_one(work: &mut [u32], terms: Terms, place: Place) -> Passed
     requires { ⌜ (16384 ≤ length (now work)) × (place .columns ≤ 2048) × (place .row < place .columns) ⌝ }
-    requires { ⌜ (terms .gain ≤ 3000) × (terms .v ≤ 1000) × (terms .size ≤ 4294967295) ⌝ }
+    requires { ⌜ (terms .u ≤ 1000) × (terms .v ≤ 1000) × (terms .size ≤ 4294967295) ⌝ }
     ensures { λ r. ⌜ r ≡ columnUpdate terms (place .columns - 1) (place .row) (place .m) 1 (now (work .entry)) .answer ⌝ }
     ensures { λ _. ⌜ now (work .exit) ≡ withPart (now (work .entry)) (columnUpdate terms (place .columns - 1) (place .row) (place .m) 1 (now (work .entry)) .part) ⌝ }
 {

@@ -1,11 +1,9 @@
 // Walking along the columns from a place, until a final cell, the budget's end or the last cell.
-// A function assumes what its `requires` says.
 use crate::answer::Stepped;
 use crate::place::Place;
 use crate::place::save;
 use crate::place::settled;
 use crate::place::top_shared;
-use crate::score::unbiased;
 use crate::update::Terms;
 use crate::update::update;
 use crate::update::update_one;
@@ -48,13 +46,12 @@ fn found(work: &mut [u32], columns: usize, p: Passed, cells: usize) -> Stepped
     let row = p.row;
     let a = work[INDEX + row - 1];
     let b = work[INDEX + columns - 1];
-    let score = unbiased(p.score);
     let place = settled(work, columns, row, lowered(p.m, 1));
     save(work, place, cells);
     Stepped::Found {
         a,
         b,
-        score,
+        score: p.score,
         m: p.m,
         cells: cells as u32,
     }
@@ -63,7 +60,7 @@ fn found(work: &mut [u32], columns: usize, p: Passed, cells: usize) -> Stepped
 // The cells from this place on, at most `budget` of them.
 pub fn walk(work: &mut [u32], terms: Terms, start: Place, budget: usize) -> Stepped
     requires { ⌜ (16384 ≤ length (now work)) × (budget ≤ 4294967295) × (start .columns ≤ 2048) × (start .row ≤ start .columns) ⌝ }
-    requires { ⌜ (terms .gain ≤ 3000) × (terms .v ≤ 1000) × (terms .size ≤ 4294967295) ⌝ }
+    requires { ⌜ (terms .u ≤ 1000) × (terms .v ≤ 1000) × (terms .size ≤ 4294967295) ⌝ }
     ensures { λ r. ⌜ r ≡ walkOn terms budget (start .columns) (start .row) (start .m) budget (now (work .entry)) .answer ⌝ }
     ensures { λ r. ⌜ now (work .exit) ≡ walkOn terms budget (start .columns) (start .row) (start .m) budget (now (work .entry)) .words ⌝ }
 {
@@ -112,7 +109,7 @@ fn behind(p: Passed) -> u32
 // The walk of one cell in a column that has a further row. The place is saved before the answer is made, once for both answers.
 pub fn walk_one(work: &mut [u32], terms: Terms, start: Place) -> Stepped
     requires { ⌜ (16384 ≤ length (now work)) × (start .columns ≤ 2048) × (start .row + 1 < start .columns) ⌝ }
-    requires { ⌜ (terms .gain ≤ 3000) × (terms .v ≤ 1000) × (terms .size ≤ 4294967295) ⌝ }
+    requires { ⌜ (terms .u ≤ 1000) × (terms .v ≤ 1000) × (terms .size ≤ 4294967295) ⌝ }
     ensures { λ r. ⌜ r ≡ walkOn terms 1 (start .columns) (start .row) (start .m) 1 (now (work .entry)) .answer ⌝ }
     ensures { λ r. ⌜ now (work .exit) ≡ walkOn terms 1 (start .columns) (start .row) (start .m) 1 (now (work .entry)) .words ⌝ }
 {
@@ -124,11 +121,10 @@ pub fn walk_one(work: &mut [u32], terms: Terms, start: Place) -> Stepped
     if p.found {
         let a = work[INDEX + row - 1];
         let b = work[INDEX + columns - 1];
-        let score = unbiased(p.score);
         return Stepped::Found {
             a,
             b,
-            score,
+            score: p.score,
             m: p.m,
             cells: 1,
         };

@@ -41,11 +41,11 @@ sub-subℕ a zero = rw (le-ltb a 0 zero-le) (ap pos (omega arith))
 sub-subℕ a (suc b) = refl
 
 -- a − b is not negative, or negative
-data Difference (a b : ℕ) : Type 0 where
+pub data Difference (a b : ℕ) : Type 0 where
   up : (n : ℕ) → a ≡ b + n → pos a -ℤ pos b ≡ pos n → Difference a b
   down : (n : ℕ) → b ≡ suc (a + n) → pos a -ℤ pos b ≡ negsuc n → Difference a b
 
-difference : (a b : ℕ) → Difference a b
+pub difference : (a b : ℕ) → Difference a b
 difference a b = go (ltb a b) refl
   where
     go : (t : Bool) → ltb a b ≡ t → Difference a b

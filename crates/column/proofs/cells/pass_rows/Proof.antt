@@ -1,24 +1,39 @@
 -- `cells::pass_rows` meets its contract. The loop's invariant: what is left to pass gives the same answer and the same words as the
--- whole. Assumes nothing.
-use Prim.Native.Nat.{_-_, _≤_, _<_}
-use mathlib.Core.Path.{_≡_, sym, ap, _∙_}
-use mathlib.Core.Bool.{Bool, true, false}
-use lib.Dec.{ltb}
-use lib.ListN.{length}
-use Rattle.counts.specs.Lists.{bit}
-use Rattle.column.specs.Passing.{seenBefore, finalTest, Update, passRows}
-use Rattle.column.proofs.Quiet.{pace, pause-stop, pause-on}
+-- whole.
+use Prim.Native.Nat.{ℕ, _-_, _≤_, _<_}
 use native.Mathlib.Omega.{arith}
-use borrow.Author.Needs.{needs}
+use mathlib.Core.Path.{_≡_, sym, ap, ap₂, _∙_}
+use mathlib.Core.Bool.{Bool, true, false}
+use lib.ListN.{length}
+use mir.Facts.{toZ-ofZ}
+use borrow.Author.Needs.{needs, sfits-of}
+use Rattle.column.specs.Deciding.{judged}
+use Rattle.column.specs.Passing.{seenBefore, Update, passRows}
+use Rattle.column.proofs.Deciding.{final-says, other-says}
+use Rattle.column.proofs.Passing.{foundWith}
+use Rattle.column.proofs.Quiet.{raised, judgedAt, pace, pause-stop, pause-on}
 use Rattle.column.proofs.cells.pass_rows.Statement.{statement}
 use Rattle.column.proofs.cells.pass_rows.Tie as tie
 
 abbrev Inv-loop : tie.InvT-loop
 Inv-loop part₀ line from to m0 m₀ best₀ i₀ part m best i =
-    (i ≤ to) × (length part ≡ 6144) × (m < 4294967296) × (passRows line (to - i) i m best part ≡ passRows line (to - from) from m0 (seenBefore part₀ from) part₀)
+    (i ≤ to)
+    × (length part ≡ 6144)
+    × (m < 4294967296)
+    × (passRows line (to - i) i m best part ≡ passRows line (to - from) from m0 (seenBefore part₀ from) part₀)
 
 abbrev μ-loop : tie.MeasureT-loop
 μ-loop part₀ line from to m0 m₀ best₀ i₀ part m best i = to - i
+
+-- a turn that `quiet` has been called in: its head, and the entry of the function
+abbrev turn : tie.After-quiet Inv-loop μ-loop → tie.At-loop Inv-loop μ-loop
+turn d = d .before .before .before
+
+abbrev began : tie.At-loop Inv-loop μ-loop → tie.After-best-before Inv-loop μ-loop
+began t = t .before
+
+abbrev entry : tie.After-quiet Inv-loop μ-loop → tie.Start Inv-loop μ-loop
+entry d = began (turn d) .before .before .before
 
 best-before-requires : tie.Need-best-before-requires Inv-loop μ-loop
 best-before-requires c κs = search needs
@@ -29,55 +44,100 @@ loop-holds c = (search needs, search needs, c .before .before .before .fits .m0 
 quiet-requires : tie.Need-quiet-requires Inv-loop μ-loop
 quiet-requires c κs = search needs
 
--- where `quiet` paused: behind a cell, at most at the end, with m a word and the part as long as before
-paced : (d : tie.After-slice-known2 Inv-loop μ-loop) → (d .before .before .before .before .before .loop .i < d .before .before .quiet .result .row) × (d .before .before .quiet .result .row ≤ d .before .before .before .before .before .before .before .before .before .args .to) × (d .before .before .quiet .result .m < 4294967296) × (length (d .before .before .quiet .last .0) ≡ 6144)
-paced d =
-    let p = pace (d .before .before .before .before .before .before .before .before .before .args .line) (d .before .before .before .before .before .before .before .before .before .args .to) (d .before .before .before .before .before .loop .i) (d .before .before .before .before .before .loop .m) (d .before .before .before .before .before .loop .best) (d .before .before .before .before .before .loop .part) (d .before .before .quiet .result) (d .before .before .quiet .last .0) (d .before .before .before .before .before .loop .inv .0) (d .before .before .before .before .before .loop .inv .2) (d .before .before .quiet .ensures .0) (d .before .before .quiet .ensures .1) in
-    let some : 0 < d .before .before .before .before .before .before .before .before .before .args .to - d .before .before .before .before .before .loop .i = omega (arith, d .before .before .before .before .loop-test .taken) in
-    (p .moved some, omega (arith, p .to, d .before .before .before .before .before .loop .inv .0), p .word (d .before .before .before .before .before .loop .inv .2), p .size ∙ d .before .before .before .before .before .loop .inv .1)
+-- ---- where `quiet` paused
+
+module _ (d : tie.After-quiet Inv-loop μ-loop) where
+  -- behind a cell, at most at the end, with m a word and the part as long as before
+  paced : (turn d .loop .i < d .quiet .result .row)
+      × (d .quiet .result .row ≤ entry d .args .to)
+      × (d .quiet .result .m < 4294967296)
+      × (length (d .quiet .last .0) ≡ 6144)
+  paced =
+      let t = turn d .loop in
+      let p = pace (entry d .args .line) (entry d .args .to) (t .i) (t .m) (t .best) (t .part) (d .quiet .result) (d .quiet .last .0) (t .inv .0) (t .inv .2)
+      (d .quiet .ensures .0) (d .quiet .ensures .1) in
+      let some : 0 < entry d .args .to - t .i = omega (arith, d .before .before .loop-test .taken) in
+      (p .moved some, omega (arith, p .to, t .inv .0), p .word (t .inv .2), p .size ∙ t .inv .1)
+
+-- what `judge` said of the cell at the pause
+module _ (j : tie.After-judge Inv-loop μ-loop) where
+  abbrev compared : tie.After-below Inv-loop μ-loop
+  compared = j .before .before
+
+  abbrev paused : tie.After-quiet Inv-loop μ-loop
+  paused = compared .before .before .before
+
+  judges : j .judge .result ≡ judgedAt (entry paused .args .line) (paused .quiet .result)
+  judges =
+      let line = entry paused .args .line in
+      let q = paused .quiet .result in
+      j .judge .ensures ∙ ap₂ (λ (one m : ℕ). judged line (q .score) (q .best) one (q .row - 1) m (q .left)) (compared .below .ensures) (j .before .raised .ensures)
+
+  law : {u : Update} → passRows (entry paused .args .line) (entry paused .args .to - turn paused .loop .i) (turn paused .loop .i) (turn paused .loop .m) (turn paused .loop .best) (turn paused .loop .part) ≡ u
+      → u ≡ passRows (entry paused .args .line) (entry paused .args .to - entry paused .args .from) (entry paused .args .from) (entry paused .args .m0)
+      (seenBefore (entry paused .args .part .now) (entry paused .args .from)) (entry paused .args .part .now)
+  law e = sym e ∙ turn paused .loop .inv .3
 
 below-requires : tie.Need-below-requires Inv-loop μ-loop
 below-requires c κs = search needs
 
-sub-is-final : tie.Need-sub-is-final Inv-loop μ-loop
-sub-is-final c = omega (arith, paced (c .before) .0)
-
-is-final-requires : tie.Need-is-final-requires Inv-loop μ-loop
-is-final-requires c κs = search needs
-
 raised-requires : tie.Need-raised-requires Inv-loop μ-loop
 raised-requires c κs = search needs
 
-same-length : tie.Need-same-length Inv-loop μ-loop
-same-length c = let d = c .before .before .before .before in paced d .3 ∙ sym (d .before .before .before .before .before .before .before .before .before .pre .0)
+sub-judge : tie.Need-sub-judge Inv-loop μ-loop
+sub-judge c = let d = c .before .before .before in omega (arith, paced (d .before) .0)
 
--- what `is_final` answered, of the pause
-judged : (b : tie.After-below Inv-loop μ-loop) (f : Bool) → (let line = b .before .before .before .before .before .before .before .before .before .before .args .line in let q = b .before .before .before .quiet .result in finalTest (line .threshold) (q .score) (q .best) (b .below .result) (line .back) (q .row - 1) ≡ f → finalTest (line .threshold) (q .score) (q .best) (bit (ltb (line .column) (q .reach))) (line .back) (q .row - 1) ≡ f)
-judged b f t = rw (← b .below .ensures) t
+judge-requires : tie.Need-judge-requires Inv-loop μ-loop
+judge-requires c κs = search needs
+
+enum-known-score : tie.Need-enum-known-score Inv-loop μ-loop
+enum-known-score c = search needs
+
+same-length : tie.Need-same-length Inv-loop μ-loop
+same-length c =
+    let d = paused (c .before .before .before) in
+    paced d .3 ∙ sym (entry d .pre .0)
 
 returns : tie.Need-returns Inv-loop μ-loop
 returns c =
-    let d = c .before .before .before .before in
-    let e = sym (pause-stop (d .before .before .before .before .before .before .before .before .before .args .line) (d .before .before .before .before .before .before .before .before .before .args .to) (d .before .before .before .before .before .loop .i) (d .before .before .before .before .before .loop .m) (d .before .before .before .before .before .loop .best) (d .before .before .before .before .before .loop .part) (d .before .before .quiet .result) (d .before .before .quiet .last .0) (d .before .before .before .before .before .loop .inv .0) (d .before .before .before .before .before .loop .inv .2) (d .before .before .quiet .ensures .0) (d .before .before .quiet .ensures .1) (judged (c .before .before .before) true (sym (c .before .before .is-final .ensures) ∙ c .before .if1 .taken))) ∙ d .before .before .before .before .before .loop .inv .3 in
-    (rw (c .raised .ensures) (ap (λ (u : Update). u .answer) e), ap (λ (u : Update). u .part) e)
+    let j = c .before .before .before in
+    let d = paused j in
+    let t = turn d .loop in
+    let says = final-says _ _ _ _ _ _ _ (c .before .score .given .0 .0) (sym (judges j) ∙ c .before .score .given .1) in
+    let e = law j (pause-stop _ _ _ _ _ _ (d .quiet .result) (d .quiet .last .0) (t .inv .0) (t .inv .2) (d .quiet .ensures .0) (d .quiet .ensures .1) (says .0)) in
+    let z = toZ-ofZ (sfits-of (c .known-told .given .0 .1)) ∙ says .1 in
+    (rw (j .before .raised .ensures) (ap (foundWith (d .quiet .result .row) (raised (d .quiet .result .m))) z ∙ ap (λ (u : Update). u .answer) e), ap (λ (u : Update). u .part) e)
+
+enum-told : tie.Need-enum-told Inv-loop μ-loop
+enum-told c = search needs
 
 loop-less : tie.Need-loop-less Inv-loop μ-loop
-loop-less c = let p = paced (c .before .before .before) in omega (arith, p .0, p .1)
+loop-less c =
+    let d = paused (c .before .before) in
+    omega (arith, paced d .0, paced d .1)
 
 loop-again : tie.Need-loop-again Inv-loop μ-loop
 loop-again c =
-    let d = c .before .before .before in
+    let j = c .before .before in
+    let d = paused j in
+    let t = turn d .loop in
     let p = paced d in
-    (p .1, p .3, p .2, sym (pause-on (d .before .before .before .before .before .before .before .before .before .args .line) (d .before .before .before .before .before .before .before .before .before .args .to) (d .before .before .before .before .before .loop .i) (d .before .before .before .before .before .loop .m) (d .before .before .before .before .before .loop .best) (d .before .before .before .before .before .loop .part) (d .before .before .quiet .result) (d .before .before .quiet .last .0) (d .before .before .before .before .before .loop .inv .0) (d .before .before .before .before .before .loop .inv .2) (d .before .before .quiet .ensures .0) (d .before .before .quiet .ensures .1) (judged (c .before .before) false (sym (c .before .is-final .ensures) ∙ c .if1 .left))) ∙ d .before .before .before .before .before .loop .inv .3)
+    let says = other-says _ _ _ _ _ _ _ (sym (judges j) ∙ c .enum-told .given .1) in
+    let e = law j (pause-on _ _ _ _ _ _ (d .quiet .result) (d .quiet .last .0) (t .inv .0) (t .inv .2) (d .quiet .ensures .0) (d .quiet .ensures .1) says) in
+    (p .1, p .3, p .2, e)
+
+none-passed-requires : tie.Need-none-passed-requires Inv-loop μ-loop
+none-passed-requires c κs = search needs
 
 same-length-2 : tie.Need-same-length-2 Inv-loop μ-loop
 same-length-2 c = search needs
 
 returns-2 : tie.Need-returns-2 Inv-loop μ-loop
 returns-2 c =
-    let n : c .before .before .before .before .before .args .to - c .before .loop .i ≡ 0 = omega arith in
-    let e = rw n at (c .before .loop .inv .3) in
-    (ap (λ (u : Update). u .answer) e, ap (λ (u : Update). u .part) e)
+    let t = c .before .before in
+    let n : began t .before .before .before .args .to - t .loop .i ≡ 0 = omega arith in
+    let e = rw n at (t .loop .inv .3) in
+    (c .none-passed .ensures ∙ ap (λ (u : Update). u .answer) e, ap (λ (u : Update). u .part) e)
 
 pub pass-rows-spec : {M : Type 1} → statement M
 pass-rows-spec =
@@ -89,12 +149,15 @@ pass-rows-spec =
     loop-holds
     quiet-requires
     below-requires
-    sub-is-final
-    is-final-requires
     raised-requires
+    sub-judge
+    judge-requires
+    enum-known-score
     same-length
     returns
+    enum-told
     loop-less
     loop-again
+    none-passed-requires
     same-length-2
     returns-2)

@@ -1,8 +1,8 @@
 -- `cells::quiet` meets its contract. The loop's invariant: what is left to pass gives the same answer and the same words as the
--- whole. Assumes nothing.
+-- whole.
 use Prim.Native.Nat.{_-_, _≤_}
 use mathlib.Core.Path.{_≡_, refl, sym, ap, _∙_}
-use lib.ListN.{length, length-set}
+use lib.ListN.{length, getD, length-set}
 use Rattle.column.specs.Passing.{lineScore, inReach, Pause, quietRows}
 use Rattle.column.proofs.Passing.{AtCell}
 use Rattle.column.proofs.Quiet.{quiet-stop, quiet-on}
@@ -18,14 +18,30 @@ Inv-loop part₀ line from to m0 best0 m₀ best₀ i₀ part m best i =
 abbrev μ-loop : tie.MeasureT-loop
 μ-loop part₀ line from to m0 best0 m₀ best₀ i₀ part m best i = to - i
 
+-- the places of a turn, from its end back to its test, and the entry of the function
+abbrev greatest : tie.After-lowered Inv-loop μ-loop → tie.After-greater Inv-loop μ-loop
+greatest d = d .before .before .before
+
+abbrev scored : tie.After-lowered Inv-loop μ-loop → tie.After-score-word Inv-loop μ-loop
+scored d = greatest d .before .before .before
+
+abbrev tested : tie.After-lowered Inv-loop μ-loop → tie.In-loop Inv-loop μ-loop
+tested d = scored d .before .before
+
+abbrev turn : tie.After-lowered Inv-loop μ-loop → tie.At-loop Inv-loop μ-loop
+turn d = tested d .before
+
+abbrev entry : tie.After-lowered Inv-loop μ-loop → tie.Start Inv-loop μ-loop
+entry d = turn d .before .before
+
 loop-holds : tie.Need-loop-holds Inv-loop μ-loop
 loop-holds c = (search needs, search needs, refl)
 
-mul-score-word : tie.Need-mul-score-word Inv-loop μ-loop
-mul-score-word c = search needs
+mul-x : tie.Need-mul-x Inv-loop μ-loop
+mul-x c = search needs
 
-slice-read-score-word : tie.Need-slice-read-score-word Inv-loop μ-loop
-slice-read-score-word c = search needs
+slice-read-x : tie.Need-slice-read-x Inv-loop μ-loop
+slice-read-x c = search needs
 
 score-word-requires : tie.Need-score-word-requires Inv-loop μ-loop
 score-word-requires c κs = search needs
@@ -76,19 +92,23 @@ same-length : tie.Need-same-length Inv-loop μ-loop
 same-length c = simp length-set (search needs)
 
 -- what is known at a cell once it is passed
-at-cell : (d : tie.After-lowered Inv-loop μ-loop) → AtCell (d .before .before .before .before .before .before .before .before .before .before .before .args .line) (d .before .before .before .before .before .before .before .before .before .loop .i) (d .before .before .before .before .before .before .before .before .before .loop .m) (d .before .before .before .before .before .before .before .before .before .loop .best) (d .before .before .before .before .before .before .before .before .before .loop .part) (d .before .before .before .before .before .before .score-word .result) (d .before .below .result) (d .before .before .before .greater .result) (d .before .before .greater2 .result)
-unfolding lineScore inReach
+at-cell : (d : tie.After-lowered Inv-loop μ-loop) → AtCell (entry d .args .line) (turn d .loop .i) (turn d .loop .m) (turn d .loop .best) (turn d .loop .part)
+    (getD (turn d .loop .part) (turn d .loop .i) 0) (scored d .score-word .result) (d .before .below .result)
+    (greatest d .greater .result) (d .before .before .greater2 .result)
+unfolding inReach lineScore
 at-cell d = record {
-  score = d .before .before .before .before .before .before .score-word .ensures;
+  left = refl;
+  score = scored d .score-word .ensures;
   reach = d .before .below .ensures;
-  greatest-is = d .before .before .before .greater .ensures;
+  greatest-is = greatest d .greater .ensures;
   best-is = d .before .before .greater2 .ensures;
 }
 
 returns : tie.Need-returns Inv-loop μ-loop
 returns c =
     let d = c .before .before in
-    let e = sym (quiet-stop (d .before .before .before .before .before .before .before .before .before .before .before .args .line) (d .before .before .before .before .before .before .before .before .before .before .before .args .to) (d .before .before .before .before .before .before .before .before .before .loop .i) (d .before .before .before .before .before .before .before .before .before .loop .m) (d .before .before .before .before .before .before .before .before .before .loop .best) (d .before .before .before .before .before .before .before .before .before .loop .part) (d .before .before .before .before .before .before .score-word .result) (d .before .below .result) (d .before .before .before .greater .result) (d .before .before .greater2 .result) (d .before .before .before .before .before .before .before .before .loop-test .taken) (at-cell d) (d .lowered .result) (c .if1 .taken) (d .lowered .ensures)) ∙ d .before .before .before .before .before .before .before .before .before .loop .inv .2 in
+    let t = turn d .loop in
+    let e = sym (quiet-stop (entry d .args .line) (entry d .args .to) (t .i) (t .m) (t .best) (t .part) _ _ _ _ _ (tested d .loop-test .taken) (at-cell d) (d .lowered .result) (c .if1 .taken) (d .lowered .ensures)) ∙ t .inv .2 in
     (ap (λ (u : Pause). u .answer) e, ap (λ (u : Pause). u .part) e)
 
 loop-less : tie.Need-loop-less Inv-loop μ-loop
@@ -97,7 +117,11 @@ loop-less c = search needs
 loop-again : tie.Need-loop-again Inv-loop μ-loop
 loop-again c =
     let d = c .before .before in
-    (search needs, simp length-set (search needs), sym (quiet-on (d .before .before .before .before .before .before .before .before .before .before .before .args .line) (d .before .before .before .before .before .before .before .before .before .before .before .args .to) (d .before .before .before .before .before .before .before .before .before .loop .i) (d .before .before .before .before .before .before .before .before .before .loop .m) (d .before .before .before .before .before .before .before .before .before .loop .best) (d .before .before .before .before .before .before .before .before .before .loop .part) (d .before .before .before .before .before .before .score-word .result) (d .before .below .result) (d .before .before .before .greater .result) (d .before .before .greater2 .result) (d .before .before .before .before .before .before .before .before .loop-test .taken) (at-cell d) (d .lowered .result) (c .if1 .left) (d .lowered .ensures)) ∙ d .before .before .before .before .before .before .before .before .before .loop .inv .2)
+    let t = turn d .loop in (
+      search needs,
+      simp length-set (search needs),
+      sym (quiet-on (entry d .args .line) (entry d .args .to) (t .i) (t .m) (t .best) (t .part) _ _ _ _ _ (tested d .loop-test .taken) (at-cell d) (d .lowered .result) (c .if1 .left) (d .lowered .ensures)) ∙ t .inv .2,
+    )
 
 same-length-2 : tie.Need-same-length-2 Inv-loop μ-loop
 same-length-2 c = search needs
@@ -115,8 +139,8 @@ quiet-spec =
     Inv-loop
     μ-loop
     loop-holds
-    mul-score-word
-    slice-read-score-word
+    mul-x
+    slice-read-x
     score-word-requires
     add-reach
     mul-reach

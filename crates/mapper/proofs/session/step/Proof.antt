@@ -1,19 +1,45 @@
--- `session::step` meets its contract: each way out keeps the promise. Assumes nothing.
-use Prim.Native.Nat.{ℕ, _+_, _*_, _≤_, _<_}
+-- `session::step` meets its contract: each way out keeps the promise.
+use Prim.Native.Nat.{ℕ, _+_, _≤_, _<_}
+use native.Mathlib.Omega.{arith}
 use mathlib.Core.Path.{_≡_, sym, ap, _∙_, subst₂}
+use mathlib.Core.Bool.{false}
 use mathlib.Core.Logic.{inl, inr}
 use mathlib.Core.List.{List}
 use lib.ListN.{getD}
-use Rattle.mapper.specs.Walking.{Walk, walkOn}
+use borrow.Author.Needs.{needs}
 use Rattle.mapper.specs.declared.answer.Stepped.{Stepped}
-use Rattle.mapper.specs.declared.update.Terms.{Terms}
+use Rattle.mapper.specs.Step.{badWords}
+use Rattle.mapper.specs.Walking.{Walk, termsIn, walkOn}
 use Rattle.mapper.specs.Promise.{StepPromise}
 use Rattle.mapper.proofs.StepPromise.{few-promise, bad-promise, lost-promise, walk-promise}
-use Rattle.mapper.proofs.StepTests.{good-words, one-inside}
-use native.Mathlib.Omega.{arith}
-use borrow.Author.Needs.{needs}
+use Rattle.mapper.proofs.StepTests.{GoodWords, good-words, terms-within, one-inside}
 use Rattle.mapper.proofs.session.step.Statement.{statement}
 use Rattle.mapper.proofs.session.step.Tie as tie
+
+-- ---- the places on the way, each from the next, back to the entry of the function
+
+abbrev enough : tie.After-bad-words → tie.Else1
+enough c = c .before .before
+
+abbrev entry : tie.After-bad-words → tie.Start
+entry c = enough c .before .before
+
+-- the columns left are read, and then h
+abbrev columns : tie.After-wide2 → tie.After-wide
+columns c = c .before .before
+
+abbrev good : tie.After-wide2 → tie.Else2
+good c = columns c .before .before
+
+-- the row is read, m, and what the scores share
+abbrev shares : tie.After-one-inside → tie.After-slice-known5
+shares c = c .before .before .before
+
+abbrev row : tie.After-one-inside → tie.After-wide3
+row c = shares c .before
+
+abbrev place : tie.After-one-inside → tie.Else3
+place c = row c .before .before
 
 returns : tie.Need-returns
 returns c = few-promise (c .before .before .args .work .now) (c .before .before .args .budget) (c .if1 .taken)
@@ -25,7 +51,9 @@ same-length : tie.Need-same-length
 same-length c = search needs
 
 returns-2 : tie.Need-returns-2
-returns-2 c = bad-promise (c .before .before .before .before .before .args .work .now) (c .before .before .before .before .before .args .budget) (c .before .before .before .if1 .left) (sym (c .before .bad-words .ensures) ∙ c .if2 .taken)
+returns-2 c =
+    let d = c .before in
+    bad-promise (entry d .args .work .now) (entry d .args .budget) (enough d .if1 .left) (sym (d .bad-words .ensures) ∙ c .if2 .taken)
 
 slice-read-wide : tie.Need-slice-read-wide
 slice-read-wide c = search needs
@@ -39,103 +67,122 @@ slice-read-wide-2 c = search needs
 wide-requires-2 : tie.Need-wide-requires-2
 wide-requires-2 c κs = search needs
 
+same-length-2 : tie.Need-same-length-2
+same-length-2 c = search needs
+
+-- words 0 to 3 are a session's
+not-bad : (e : tie.Else2) → badWords (entry (e .before) .args .work .now) ≡ false
+not-bad e = sym (e .before .bad-words .ensures) ∙ e .if2 .left
+
+returns-3 : tie.Need-returns-3
+returns-3 c =
+    let d = c .before in
+    let e = good d in
+    let past : d .wide2 .result < columns d .wide .result = c .if3 .taken in
+    lost-promise (entry (e .before) .args .work .now) (entry (e .before) .args .budget) (enough (e .before) .if1 .left) (not-bad e)
+    (inl (omega (arith, d .wide2 .ensures .0, columns d .wide .ensures .0)))
+
 slice-read-wide-3 : tie.Need-slice-read-wide-3
 slice-read-wide-3 c = search needs
 
 wide-requires-3 : tie.Need-wide-requires-3
 wide-requires-3 c κs = search needs
 
-same-length-2 : tie.Need-same-length-2
-same-length-2 c = search needs
-
-returns-3 : tie.Need-returns-3
-returns-3 c =
-    lost-promise (c .before .before .before .before .before .before .before .before .before .before .before .before .args .work .now) (c .before .before .before .before .before .before .before .before .before .before .before .before .args .budget) (c .before .before .before .before .before .before .before .before .before .before .if1 .left) (sym (c .before .before .before .before .before .before .before .before .bad-words .ensures) ∙ c .before .before .before .before .before .before .before .if2 .left)
-    (inl (let t : c .before .wide3 .result < c .before .before .before .before .before .wide .result = c .if3 .taken in omega (arith, c .before .wide3 .ensures .0, c .before .before .before .before .before .wide .ensures .0)))
-
-one-inside-requires : tie.Need-one-inside-requires
-one-inside-requires c κs = search needs
-
--- what the walks ask: the place lies in a column, and the terms are small
-columns-within : (d : tie.After-one-inside) → d .before .before .before .before .before .before .wide .result ≤ 2048
-columns-within d =
-    let g = good-words (d .before .before .before .before .before .before .before .before .before .before .before .before .before .args .work .now) (sym (d .before .before .before .before .before .before .before .before .before .bad-words .ensures) ∙ d .before .before .before .before .before .before .before .before .if2 .left) in
-    omega (arith, d .before .if3 .left, d .before .before .wide3 .ensures .0, g .few-hits)
-
--- what `terms_of` answers of these words
-abbrev Terms-are : List ℕ → Terms → Type 0
-Terms-are work terms =
-    (terms .gain ≡ getD work 1 0 + 2 * getD work 2 0)
-    × (terms .v ≡ getD work 2 0)
-    × ((terms .size ≡ getD work 5 0) × (terms .size ≤ 4294967295))
-    × (terms .threshold ≡ getD work 6 0)
-
-terms-within : (d : tie.After-one-inside) (terms : Terms) → Terms-are (d .before .before .before .before .before .before .before .before .before .before .before .before .before .args .work .now) terms → (terms .gain ≤ 3000) × (terms .v ≤ 1000) × (terms .size ≤ 4294967295)
-terms-within d terms t =
-    let g = good-words (d .before .before .before .before .before .before .before .before .before .before .before .before .before .args .work .now) (sym (d .before .before .before .before .before .before .before .before .before .bad-words .ensures) ∙ d .before .before .before .before .before .before .before .before .if2 .left) in
-    (omega (arith, t .0, g .small-u, g .small-v), omega (arith, t .1, g .small-v), t .2 .1)
-
--- a walk from the place in the words, with the budget, keeps the promise
-walked : (d : tie.After-one-inside) (terms : Terms) → Terms-are (d .before .before .before .before .before .before .before .before .before .before .before .before .before .args .work .now) terms → (cells : ℕ) → cells ≡ d .before .before .before .before .before .before .before .before .before .before .before .before .before .args .budget → (answer : Stepped) (after : List ℕ) → answer ≡ walkOn terms cells (d .before .before .before .before .before .before .wide .result) (d .before .before .before .before .wide2 .result) (getD (d .before .before .before .before .before .before .before .before .before .before .before .before .before .args .work .now) 9 0) cells (d .before .before .before .before .before .before .before .before .before .before .before .before .before .args .work .now) .answer → after ≡ walkOn terms cells (d .before .before .before .before .before .before .wide .result) (d .before .before .before .before .wide2 .result) (getD (d .before .before .before .before .before .before .before .before .before .before .before .before .before .args .work .now) 9 0) cells (d .before .before .before .before .before .before .before .before .before .before .before .before .before .args .work .now) .words → StepPromise (d .before .before .before .before .before .before .before .before .before .before .before .before .before .args .work .now) (d .before .before .before .before .before .before .before .before .before .before .before .before .before .args .budget) answer after
-walked d terms t cells n answer after a b =
-    let work = d .before .before .before .before .before .before .before .before .before .before .before .before .before .args .work .now in
-    let budget = d .before .before .before .before .before .before .before .before .before .before .before .before .before .args .budget in
-    let same : walkOn terms cells (d .before .before .before .before .before .before .wide .result) (d .before .before .before .before .wide2 .result) (getD work 9 0) cells work ≡ walkOn terms budget (getD work 7 0) (getD work 8 0) (getD work 9 0) budget work = rw (n, d .before .before .before .before .before .before .wide .ensures .0, d .before .before .before .before .wide2 .ensures .0) in
-    subst₂ (StepPromise work budget) (sym (a ∙ ap (λ (w : Walk). w .answer) same)) (sym (b ∙ ap (λ (w : Walk). w .words) same))
-    (walk-promise work budget (d .before .before .before .before .before .before .before .before .before .before .before .if1 .left) (sym (d .before .before .before .before .before .before .before .before .before .bad-words .ensures) ∙ d .before .before .before .before .before .before .before .before .if2 .left) terms (t .0) (t .1) (t .2 .0) (t .3))
-
--- the budget is one cell, and its column has a further row
-inside : (e : tie.Then4) → (e .before .before .before .before .before .before .before .before .before .before .before .before .before .before .args .budget ≡ 1) × (e .before .before .before .before .before .wide2 .result + 1 < e .before .before .before .before .before .before .before .wide .result)
-inside e = one-inside (e .before .before .before .before .before .before .before .before .before .before .before .before .before .before .args .budget) (e .before .before .before .before .before .wide2 .result) (e .before .before .before .before .before .before .before .wide .result) (sym (e .before .one-inside .ensures) ∙ e .if4 .taken)
+slice-read-m : tie.Need-slice-read-m
+slice-read-m c = search needs
 
 terms-of-requires : tie.Need-terms-of-requires
 terms-of-requires c κs = search needs
 
-slice-read-m : tie.Need-slice-read-m
-slice-read-m c = search needs
+one-inside-requires : tie.Need-one-inside-requires
+one-inside-requires c κs = search needs
 
-terms-are : (e : tie.After-terms-of) → Terms-are (e .before .before .before .before .before .before .before .before .before .before .before .before .before .before .before .before .args .work .now) (e .terms-of .result)
-terms-are e = let t = e .terms-of .ensures in (t .0, t .1 .0, t .1 .1 .0, t .1 .1 .1)
+-- ---- what both walks ask and give
+
+module _ (d : tie.After-one-inside) where
+  abbrev hits : tie.After-wide2
+  hits = place d .before
+
+  abbrev start : tie.Start
+  start = entry (good hits .before)
+
+  abbrev work : List ℕ
+  work = start .args .work .now
+
+  within : GoodWords work
+  within = good-words work (not-bad (good hits))
+
+  -- the place lies in a column
+  columns-within : columns hits .wide .result ≤ 2048
+  columns-within = omega (arith, place d .if3 .left, hits .wide2 .ensures .0, within .few-hits)
+
+  terms-small : (d .before .terms-of .result .u ≤ 1000) × (d .before .terms-of .result .v ≤ 1000) × (d .before .terms-of .result .size ≤ 4294967295)
+  terms-small =
+      let t = d .before .terms-of in
+      let w = terms-within work within (t .result) (t .ensures .0) in
+      (w .0, w .1, t .ensures .1)
+
+  -- a walk from the place in the words, with the budget, keeps the promise
+  walked : (cells : ℕ) → cells ≡ start .args .budget → (answer : Stepped) (after : List ℕ)
+      → answer ≡ walkOn (d .before .terms-of .result) cells (columns hits .wide .result) (row d .wide3 .result) (getD work 9 0) cells work .answer
+      → after ≡ walkOn (d .before .terms-of .result) cells (columns hits .wide .result) (row d .wide3 .result) (getD work 9 0) cells work .words
+      → StepPromise work (start .args .budget) answer after
+  walked cells n answer after a b =
+      let same : walkOn (d .before .terms-of .result) cells (columns hits .wide .result) (row d .wide3 .result) (getD work 9 0) cells work
+      ≡ walkOn (termsIn work) (start .args .budget) (getD work 7 0) (getD work 8 0) (getD work 9 0) (start .args .budget) work =
+      λ i. walkOn (d .before .terms-of .ensures .0 i) (n i) (columns hits .wide .ensures .0 i) (row d .wide3 .ensures .0 i) (getD work 9 0) (n i) work
+      in
+      subst₂ (StepPromise work (start .args .budget)) (sym (a ∙ ap (λ (w : Walk). w .answer) same)) (sym (b ∙ ap (λ (w : Walk). w .words) same))
+      (walk-promise work (start .args .budget) (enough (good hits .before) .if1 .left) (not-bad (good hits)))
+
+-- the budget is one cell, and its column has a further row
+inside : (e : tie.Then4) → (start (e .before) .args .budget ≡ 1) × (row (e .before) .wide3 .result + 1 < columns (hits (e .before)) .wide .result)
+inside e =
+    let d = e .before in
+    one-inside (start d .args .budget) (row d .wide3 .result) (columns (hits d) .wide .result) (sym (d .one-inside .ensures) ∙ e .if4 .taken)
 
 walk-one-requires : tie.Need-walk-one-requires
 walk-one-requires c κs =
-    ((search needs, columns-within (c .before .before .before .before .before), inside (c .before .before .before .before) .1), terms-within (c .before .before .before .before .before) (c .before .before .terms-of .result) (terms-are (c .before .before)))
+    let d = c .before .before in
+    ((enough (good (hits d) .before) .if1 .left, columns-within d, inside (c .before) .1), terms-small d)
 
 same-length-3 : tie.Need-same-length-3
 same-length-3 c = search needs
 
 returns-4 : tie.Need-returns-4
-returns-4 c = walked (c .before .before .before .before .before .before .before .before) (c .before .before .before .before .before .terms-of .result) (terms-are (c .before .before .before .before .before)) 1 (sym (inside (c .before .before .before .before .before .before .before) .0)) _ _ (c .before .before .walk-one .ensures .0) (c .before .before .walk-one .ensures .1)
+returns-4 c =
+    let w = c .before .before in
+    let e = w .before .before in
+    walked (e .before) 1 (sym (inside e .0)) _ _ (w .walk-one .ensures .0) (w .walk-one .ensures .1)
 
 same-length-4 : tie.Need-same-length-4
 same-length-4 c = search needs
 
 returns-5 : tie.Need-returns-5
 returns-5 c =
-    lost-promise (c .before .before .before .before .before .before .before .before .before .before .before .before .before .before .before .args .work .now) (c .before .before .before .before .before .before .before .before .before .before .before .before .before .before .before .args .budget) (c .before .before .before .before .before .before .before .before .before .before .before .before .before .if1 .left) (sym (c .before .before .before .before .before .before .before .before .before .before .before .bad-words .ensures) ∙ c .before .before .before .before .before .before .before .before .before .before .if2 .left)
-    (inr (let t : c .before .before .before .before .before .before .before .before .wide .result < c .before .before .before .before .before .before .wide2 .result = c .if5 .taken in omega (arith, c .before .before .before .before .before .before .before .before .wide .ensures .0, c .before .before .before .before .before .before .wide2 .ensures .0)))
-
-terms-of-requires-2 : tie.Need-terms-of-requires-2
-terms-of-requires-2 c κs = search needs
-
-slice-read-m-2 : tie.Need-slice-read-m-2
-slice-read-m-2 c = search needs
+    let d = c .before .before in
+    let past : columns (hits d) .wide .result < row d .wide3 .result = c .if5 .taken in
+    lost-promise (work d) (start d .args .budget) (enough (good (hits d) .before) .if1 .left) (not-bad (good (hits d)))
+    (inr (omega (arith, columns (hits d) .wide .ensures .0, row d .wide3 .ensures .0)))
 
 wide-requires-4 : tie.Need-wide-requires-4
 wide-requires-4 c κs = search needs
 
-terms-are-2 : (e : tie.After-terms-of2) → Terms-are (e .before .before .before .before .before .before .before .before .before .before .before .before .before .before .before .before .before .args .work .now) (e .terms-of2 .result)
-terms-are-2 e = let t = e .terms-of2 .ensures in (t .0, t .1 .0, t .1 .1 .0, t .1 .1 .1)
-
 walk-requires : tie.Need-walk-requires
 walk-requires c κs =
-    ((search needs, c .wide4 .ensures .1, columns-within (c .before .before .before .before .before .before .before), c .before .before .before .before .before .if5 .left), terms-within (c .before .before .before .before .before .before .before) (c .before .before .before .terms-of2 .result) (terms-are-2 (c .before .before .before)))
+    let e = c .before .before in
+    let d = e .before .before in
+    ((enough (good (hits d) .before) .if1 .left, c .wide4 .ensures .1, columns-within d, e .if5 .left), terms-small d)
 
 same-length-5 : tie.Need-same-length-5
 same-length-5 c = search needs
 
 returns-6 : tie.Need-returns-6
-returns-6 c = walked (c .before .before .before .before .before .before .before .before .before .before) (c .before .before .before .before .before .before .terms-of2 .result) (terms-are-2 (c .before .before .before .before .before .before)) (c .before .before .before .wide4 .result) (c .before .before .before .wide4 .ensures .0) _ _ (c .before .before .walk .ensures .0) (c .before .before .walk .ensures .1)
+returns-6 c =
+    let w = c .before .before in
+    let cells = w .before in
+    let e = cells .before .before in
+    walked (e .before .before) (cells .wide4 .result) (cells .wide4 .ensures .0) _ _ (w .walk .ensures .0) (w .walk .ensures .1)
 
 pub step-spec : {M : Type 1} → statement M
 step-spec =
@@ -149,20 +196,18 @@ step-spec =
     wide-requires
     slice-read-wide-2
     wide-requires-2
-    slice-read-wide-3
-    wide-requires-3
     same-length-2
     returns-3
-    one-inside-requires
-    terms-of-requires
+    slice-read-wide-3
+    wide-requires-3
     slice-read-m
+    terms-of-requires
+    one-inside-requires
     walk-one-requires
     same-length-3
     returns-4
     same-length-4
     returns-5
-    terms-of-requires-2
-    slice-read-m-2
     wide-requires-4
     walk-requires
     same-length-5

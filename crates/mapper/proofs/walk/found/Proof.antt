@@ -1,13 +1,19 @@
--- `walk::found` meets its contract. Assumes nothing.
+-- `walk::found` meets its contract.
 use mathlib.Core.Path.{_∙_}
 use mir.Syntax.{w32}
-use mir.ValLaws.{toZ-ofZ}
+use mir.Facts.{toZ-ofZ}
 use Rattle.mapper.proofs.Walking.{settled-within}
 use Rattle.mapper.specs.Walking.{foundWalk, settled}
 use native.Mathlib.Omega.{arith}
-use borrow.Author.Needs.{needs}
+use borrow.Author.Needs.{needs, sfits-of}
 use Rattle.mapper.proofs.walk.found.Statement.{statement}
 use Rattle.mapper.proofs.walk.found.Tie as tie
+
+abbrev placed : tie.After-lowered → tie.After-slice-known2
+placed c = c .before .before .before
+
+abbrev entry : tie.After-lowered → tie.Start
+entry c = placed c .before .before
 
 add-a : tie.Need-add-a
 add-a c = search needs
@@ -33,9 +39,6 @@ mul-b c = search needs
 slice-read-b : tie.Need-slice-read-b
 slice-read-b c = search needs
 
-unbiased-requires : tie.Need-unbiased-requires
-unbiased-requires c κs = search needs
-
 lowered-requires : tie.Need-lowered-requires
 lowered-requires c κs = search needs
 
@@ -44,11 +47,13 @@ settled-requires c κs = search needs
 
 save-requires : tie.Need-save-requires
 save-requires c κs =
-    let w = settled-within (c .before .before .before .before .before .before .before .before .args .work .now) (c .before .before .before .before .before .before .before .before .args .columns) (c .before .before .before .before .before .before .before .before .args .p .row) (c .before .before .lowered .result) in
+    let d = c .before .before in
+    let args = entry d .args in
+    let w = settled-within (args .work .now) (args .columns) (args .p .row) (d .lowered .result) in
     (search needs, rw (c .before .settled .ensures) (omega (arith, w .0)), rw (c .before .settled .ensures) (omega (arith, w .1)), search needs)
 
-cast-t14 : tie.Need-cast-t14
-cast-t14 c = search needs
+cast-t13 : tie.Need-cast-t13
+cast-t13 c = search needs
 
 same-length : tie.Need-same-length
 same-length c = search needs
@@ -56,8 +61,10 @@ same-length c = search needs
 returns : tie.Need-returns
 unfolding foundWalk
 returns c =
-    let d = c .before .before in
-    (rw (toZ-ofZ w32 (d .before .before .before .before .before .unbiased .result) (record { sfits = d .before .before .before .before .before .unbiased .ok }), d .before .before .before .before .before .unbiased .ensures), d .save .ensures ∙ rw (d .before .before .settled .ensures, d .before .before .before .lowered .ensures))
+    let d = c .before .before .before in
+    let settles = d .before .before in
+    let score = toZ-ofZ {w = w32} {z = entry (settles .before) .args .p .score} (sfits-of (c .struct-told .given .1 .1 .1 .0 .1)) in
+    (rw score, d .save .ensures ∙ rw (settles .settled .ensures, settles .before .lowered .ensures))
 
 pub found-spec : {M : Type 1} → statement M
 found-spec =
@@ -71,10 +78,9 @@ found-spec =
     sub-b
     mul-b
     slice-read-b
-    unbiased-requires
     lowered-requires
     settled-requires
     save-requires
-    cast-t14
+    cast-t13
     same-length
     returns)

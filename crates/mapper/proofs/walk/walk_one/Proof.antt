@@ -1,10 +1,11 @@
--- `walk::walk_one` meets its contract: what it passes is the update of the column with a budget of one cell. Assumes nothing.
+-- `walk::walk_one` meets its contract: what it passes is the update of the column with a budget of one cell.
 use Prim.Native.Nat.{ℕ, _+_, _-_, _≤_, _<_}
 use native.Mathlib.Omega.{arith}
 use mathlib.Core.Path.{_≡_, sym, ap, _∙_}
+use mathlib.Core.Bool.{Bool, cond}
 use mir.Syntax.{w32}
-use mir.ValLaws.{toZ-ofZ}
-use borrow.Author.Needs.{needs}
+use mir.Facts.{toZ-ofZ}
+use borrow.Author.Needs.{needs, sfits-of}
 use lib.ListN.{length}
 use Rattle.column.specs.Passing.{lowered}
 use Rattle.mapper.specs.Walking.{Walk, saved, spentWalk}
@@ -12,38 +13,61 @@ use Rattle.mapper.proofs.Walking.{update-stops, one-found, one-spent}
 use Rattle.mapper.proofs.walk.walk_one.Statement.{statement}
 use Rattle.mapper.proofs.walk.walk_one.Tie as tie
 
+-- the calls on the way, and the entry of the function
+abbrev updated : tie.After-slice-known2 → tie.After-update-one
+updated c = c .before .before
+
+abbrev entry : tie.After-update-one → tie.Start
+entry c = c .before .before .before
+
+abbrev saves : tie.After-slice-known3 → tie.After-save
+saves c = c .before .before
+
+abbrev lowers : tie.After-save → tie.After-behind
+lowers c = c .before .before
+
+abbrev passes : tie.After-slice-known3 → tie.After-update-one
+passes c = updated (lowers (saves c) .before)
+
 update-one-requires : tie.Need-update-one-requires
 update-one-requires c κs = search needs
 
 -- the row behind lies in a table
-row-within : (d : tie.After-slice-known2) → d .before .before .update-one .result .row ≤ 2048
-row-within d = omega (arith, update-stops (d .before .before .before .before .before .args .terms) (d .before .before .before .before .before .args .start .columns) (d .before .before .before .before .before .args .start .row) (d .before .before .before .before .before .args .start .m) 1 (d .before .before .before .before .before .args .work .now) (d .before .before .update-one .result) (omega (arith, d .before .before .before .before .before .pre .0 .2)) (omega (arith, d .before .before .before .before .before .pre .0 .2)) (d .before .before .update-one .ensures .0) .within, d .before .before .before .before .before .pre .0 .1)
+row-within : (u : tie.After-update-one) → u .update-one .result .row ≤ 2048
+row-within u =
+    let args = entry u .args in
+    let inside : args .start .row + 1 < args .start .columns = entry u .pre .0 .2 in
+    let stops = update-stops (args .terms) (args .start .columns) (args .start .row) (args .start .m) 1 (args .work .now) (u .update-one .result) (omega arith) (omega arith)
+    (u .update-one .ensures .0) in
+    omega (arith, stops .within, entry u .pre .0 .1)
 
 behind-requires : tie.Need-behind-requires
 behind-requires c κs = search needs
 
 save-requires : tie.Need-save-requires
 save-requires c κs =
-    let d = c .before .before in
-    let n = d .before .before .update-one .kept .0 in
-    (omega (arith, d .before .before .before .before .before .pre .0 .0), search needs, omega (arith, row-within d), search needs)
+    let u = updated (c .before .before) in
+    let n = u .update-one .kept .0 in
+    (omega (arith, entry u .pre .0 .0), search needs, omega (arith, row-within u), search needs)
 
 add-a : tie.Need-add-a
-add-a c = let r = row-within (c .before .before .before .before .before .before) in omega arith
+add-a c = omega (arith, row-within (passes (c .before)))
 
 sub-a : tie.Need-sub-a
 sub-a c = search needs
 
 mul-a : tie.Need-mul-a
-mul-a c = let r = row-within (c .before .before .before .before .before .before) in omega arith
+mul-a c = omega (arith, row-within (passes (c .before)))
 
 in-table : (row words before : ℕ) → row ≤ 2048 → 16384 ≤ before → words ≡ before → 4096 + row - 1 < words
 in-table row words before r l e = omega arith
 
 slice-read-a : tie.Need-slice-read-a
 slice-read-a c =
-    let d = c .before .before .before .before .before .before .before in
-    in-table (d .before .before .update-one .result .row) (length (c .before .before .before .before .save .last .0)) (length (d .before .before .before .before .before .args .work .now)) (row-within d) (d .before .before .before .before .before .pre .0 .0) (c .before .before .before .before .save .kept .0 ∙ d .before .before .update-one .kept .0)
+    let d = c .before .before in
+    let u = passes d in
+    in-table (u .update-one .result .row) (length (saves d .save .last .0)) (length (entry u .args .work .now)) (row-within u) (entry u .pre .0 .0)
+    (saves d .save .kept .0 ∙ u .update-one .kept .0)
 
 add-b : tie.Need-add-b
 add-b c = search needs
@@ -57,35 +81,47 @@ mul-b c = search needs
 slice-read-b : tie.Need-slice-read-b
 slice-read-b c = search needs
 
-unbiased-requires : tie.Need-unbiased-requires
-unbiased-requires c κs = search needs
+-- the words after the place was saved, with m behind the cell
+module _ (d : tie.After-slice-known3) where
+  same-number : length (saves d .save .last .0) ≡ length (entry (passes d) .args .work .now)
+  same-number = saves d .save .kept .0 ∙ passes d .update-one .kept .0
+
+  saved-with : (m : ℕ) → lowers (saves d) .behind .result ≡ m
+      → saves d .save .last .0 ≡ saved (passes d .update-one .last .0) (record { columns = entry (passes d) .args .start .columns; row = passes d .update-one .result .row; m = m }) 1
+  saved-with m e =
+      saves d .save .ensures
+      ∙ ap (λ (n : ℕ). saved (passes d .update-one .last .0) (record { columns = entry (passes d) .args .start .columns; row = passes d .update-one .result .row; m = n }) 1) e
 
 same-length : tie.Need-same-length
-same-length c = c .before .before .before .before .before .before .save .kept .0 ∙ c .before .before .before .before .before .before .before .before .before .before .before .update-one .kept .0
+same-length c = same-number (c .before .before .before .before)
 
 returns : tie.Need-returns
 returns c =
-    let d = c .before .before .before .before .before .before .before .before .before in
-    let p = d .before .before .update-one .result in
-    let columns = d .before .before .before .before .before .args .start .columns in
-    let m : c .before .before .before .before .before .before .before .before .behind .result ≡ lowered (p .m) 1 = c .before .before .before .before .before .before .before .before .behind .ensures ∙ rw (c .before .before .before .if1 .taken) in
-    let after = c .before .before .before .before .before .before .save .ensures ∙ ap (λ (n : ℕ). saved (d .before .before .update-one .last .0) (record { columns = columns; row = p .row; m = n }) 1) m in
-    let e = sym (one-found (d .before .before .before .before .before .args .terms) columns (d .before .before .before .before .before .args .start .row) (d .before .before .before .before .before .args .start .m) (d .before .before .before .before .before .args .work .now) p (d .before .before .update-one .last .0) (d .before .before .before .before .before .pre .0 .2) (d .before .before .update-one .ensures .0) (d .before .before .update-one .ensures .1) (c .before .before .before .if1 .taken) (c .before .before .before .before .before .before .save .last .0) after) in
-    (rw (toZ-ofZ w32 (c .unbiased .result) (record { sfits = c .unbiased .ok }), c .unbiased .ensures) (ap (λ (w : Walk). w .answer) e), ap (λ (w : Walk). w .words) e)
+    let t = c .before .before .before in
+    let d = t .before in
+    let u = passes d in
+    let args = entry u .args in
+    let p = u .update-one .result in
+    let m : lowers (saves d) .behind .result ≡ lowered (p .m) 1 = lowers (saves d) .behind .ensures ∙ ap (λ (b : Bool). cond b (lowered (p .m) 1) (p .m)) (t .if1 .taken) in
+    let e = sym (one-found (args .terms) (args .start .columns) (args .start .row) (args .start .m) (args .work .now) p (u .update-one .last .0) (entry u .pre .0 .2)
+    (u .update-one .ensures .0) (u .update-one .ensures .1) (t .if1 .taken) (saves d .save .last .0) (saved-with d (lowered (p .m) 1) m)) in
+    let score = toZ-ofZ {w = w32} {z = p .score} (sfits-of (c .struct-told .given .1 .1 .1 .0 .1)) in
+    (rw score (ap (λ (w : Walk). w .answer) e), ap (λ (w : Walk). w .words) e)
 
 same-length-2 : tie.Need-same-length-2
-same-length-2 c = c .before .before .before .save .kept .0 ∙ c .before .before .before .before .before .before .before .before .update-one .kept .0
+same-length-2 c = same-number (c .before)
 
 returns-2 : tie.Need-returns-2
 unfolding spentWalk
 returns-2 c =
-    let d = c .before .before .before .before .before .before in
-    let p = d .before .before .update-one .result in
-    let columns = d .before .before .before .before .before .args .start .columns in
-    let m : c .before .before .before .before .before .behind .result ≡ p .m = c .before .before .before .before .before .behind .ensures ∙ rw (c .if1 .left) in
-    let after = c .before .before .before .save .ensures ∙ ap (λ (n : ℕ). saved (d .before .before .update-one .last .0) (record { columns = columns; row = p .row; m = n }) 1) m in
-    let e = sym (one-spent (d .before .before .before .before .before .args .terms) columns (d .before .before .before .before .before .args .start .row) (d .before .before .before .before .before .args .start .m) (d .before .before .before .before .before .args .work .now) p (d .before .before .update-one .last .0) (d .before .before .before .before .before .pre .0 .2) (d .before .before .update-one .ensures .0) (d .before .before .update-one .ensures .1) (c .if1 .left)) in
-    (ap (λ (w : Walk). w .answer) e, after ∙ ap (λ (w : Walk). w .words) e)
+    let d = c .before in
+    let u = passes d in
+    let args = entry u .args in
+    let p = u .update-one .result in
+    let m : lowers (saves d) .behind .result ≡ p .m = lowers (saves d) .behind .ensures ∙ ap (λ (b : Bool). cond b (lowered (p .m) 1) (p .m)) (c .if1 .left) in
+    let e = sym (one-spent (args .terms) (args .start .columns) (args .start .row) (args .start .m) (args .work .now) p (u .update-one .last .0) (entry u .pre .0 .2)
+    (u .update-one .ensures .0) (u .update-one .ensures .1) (c .if1 .left)) in
+    (ap (λ (w : Walk). w .answer) e, saved-with d (p .m) m ∙ ap (λ (w : Walk). w .words) e)
 
 pub walk-one-spec : {M : Type 1} → statement M
 walk-one-spec =
@@ -102,7 +138,6 @@ walk-one-spec =
     sub-b
     mul-b
     slice-read-b
-    unbiased-requires
     same-length
     returns
     same-length-2
