@@ -1,5 +1,4 @@
 -- Demand 3 holds of the rule's answers, for any task and any list of steps from a fresh session.
--- Assumes nothing.
 use Prim.Native.Nat.{ℕ, suc, _+_, _≤_, _<_, zero-le}
 use native.Mathlib.Nat.{zero-add, le-of-eq}
 use native.Mathlib.Omega.{arith}
@@ -19,7 +18,7 @@ use Rattle.mappings.proofs.Steps.{accepted-answer, refused-answer, step
 use Rattle.mappings.proofs.Finals.{finals-among, finals-list, finals-once, final-among}
 
 -- all cells
-take-all-cells : (task : Task) → take (total task) (cellsOf task) ≡ cellsOf task
+pub take-all-cells : (task : Task) → take (total task) (cellsOf task) ≡ cellsOf task
 unfolding cellsOf
 take-all-cells task = take-all (total task) (cells (hitCount task)) (le-of-eq (length-cells (hitCount task)))
 
@@ -51,24 +50,11 @@ module _ (task : Task) (steps : List Step) where
     exact = rw (answers-list task 0 steps zero-le) (finals-among task (take (passed given) (cellsOf task)));
     once = rw (answers-list task 0 steps zero-le) (finals-once task (passed given));
     refusals = λ n h. rw (fresh-answer n h) (step-refused task (passedBefore given n) (fresh-within n) (stepAt steps n));
-    unmoved = λ n h l. fresh-suc n h ∙ rw (refused-answer task (passedBefore given n) (stepAt steps n) l) (omega arith);
+    unmoved = λ n h l.
+        (let none : reported (stepAnswer task (passedBefore given n) (stepAt steps n)) ≡ 0 = ap reported (refused-answer task (passedBefore given n) (stepAt steps n) (omega arith)) in
+        omega (arith, fresh-suc n h));
     by-rule = λ n h l. fresh-answer n h ∙ accepted-answer task (passedBefore given n) (stepAt steps n) l;
     finishes = fresh-finished;
     complete = λ n h f a b final. rw (fresh-list (suc n), fresh-finished n h .0 f .2, take-all-cells task) (final-among task a b final);
     ends = λ l. answers-end task 0 steps zero-le (omega arith);
   }
-
--- ---- what follows
-
-module _ (task : Task) {steps : List Step} {given : List Answer} (demanded : Demanded task steps given) where
-  -- the mappings handed out, by the test
-  demanded-list : handedOut given ≡ finalsOf task (take (passed given) (cellsOf task))
-  demanded-list = finals-list task (demanded .exact)
-
-  -- at q = h(h + 1)/2 they are all of them
-  pub demanded-all : passed given ≡ total task → handedOut given ≡ finalsOf task (cellsOf task)
-  demanded-all e = demanded-list ∙ rw (e, take-all-cells task)
-
-  -- lists of steps that come to the same q have handed out the same
-  pub demanded-same : {others : List Step} {given′ : List Answer} → Demanded task others given′ → passed given ≡ passed given′ → handedOut given ≡ handedOut given′
-  demanded-same demanded′ e = demanded-list ∙ rw e (sym (finals-list task (demanded′ .exact)))

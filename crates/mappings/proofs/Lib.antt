@@ -11,6 +11,7 @@ pub mod Rule
 pub mod Steps
 pub mod Finals
 pub mod Demand
+pub mod Demanded
 pub mod HitCodes
 pub mod Compute
 pub mod Cases

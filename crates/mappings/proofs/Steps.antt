@@ -35,11 +35,11 @@ unfolding isAccepted
 refused-test step h = ap not (lt-ltb (step .lent) workWords h)
 
 -- a step is lent enough words, or too few
-data Lent (step : Step) : Type 0 where
+pub data Lent (step : Step) : Type 0 where
   enough : workWords ≤ step .lent → Lent step
   too-few : step .lent < workWords → Lent step
 
-lent : (step : Step) → Lent step
+pub lent : (step : Step) → Lent step
 lent step = go (decided (ltb (step .lent) workWords))
   where
     go : (ltb (step .lent) workWords ≡ true) ⊎ (ltb (step .lent) workWords ≡ false) → Lent step
