@@ -17,11 +17,11 @@ use answers::w_after;
 use mapper::session::step;
 ghost use mathlib.Core.Path.{_≡_};
 ghost use lib.ListN.{length};
+ghost use Rattle.mappings.specs.Score.{taskWith};
 ghost use Rattle.sketch.specs.Replies.{sketchReply, sketchCodes, sketchPositions};
 ghost use Rattle.strike.specs.Strike.{strikeReply, strikeCodes, strikePositions};
 ghost use Rattle.store.specs.Save.{saveReply, saveWords};
 ghost use Rattle.store.specs.Load.{loadReply, loadCodes, loadPositions};
-ghost use Rattle.start.specs.Answers.{taskOf};
 ghost use Rattle.start.specs.Start.{startReply, startWords};
 ghost use Rattle.answers.specs.Numbers.{numberOf, valueOf, kAfter, wAfter};
 ghost use Rattle.exports.specs.Steps.{lentMapping, Steps};
@@ -117,9 +117,9 @@ pub extern "C" fn huddlewool_start(
     work: &mut [u32],
     number: &mut u32,
 ) -> usize
-    ensures { λ r. ⌜ r ≡ valueOf (startReply (taskOf (now (text .entry)) (now (pattern .entry)) u v threshold) (length (now (work .entry)))) ⌝ }
-    ensures { λ _. ⌜ now (number .exit) ≡ numberOf (startReply (taskOf (now (text .entry)) (now (pattern .entry)) u v threshold) (length (now (work .entry)))) ⌝ }
-    ensures { λ _. ⌜ now (work .exit) ≡ startWords (taskOf (now (text .entry)) (now (pattern .entry)) u v threshold) (now (work .entry)) ⌝ }
+    ensures { λ r. ⌜ r ≡ valueOf (startReply (taskWith (now (text .entry)) (now (pattern .entry)) u v threshold) (length (now (work .entry)))) ⌝ }
+    ensures { λ _. ⌜ now (number .exit) ≡ numberOf (startReply (taskWith (now (text .entry)) (now (pattern .entry)) u v threshold) (length (now (work .entry)))) ⌝ }
+    ensures { λ _. ⌜ now (work .exit) ≡ startWords (taskWith (now (text .entry)) (now (pattern .entry)) u v threshold) (now (work .entry)) ⌝ }
 {
     let answer = of_start(start::start(text, pattern, u, v, threshold, work));
     *number = answer.0;

@@ -1,51 +1,41 @@
 -- Two consequences that users rely on. A session lives wholly in its first 16,384 words: wherever these are copied to, the copy answers
 -- as the original does from the moment of the copy, and no step changes the words behind them. And the mappings handed out depend on
 -- q alone, whatever the budgets.
--- Assumes nothing.
-use Prim.Native.Nat.{ℕ, _+_, _-_, _≤_}
+use Prim.Native.Nat.{ℕ, _+_, _≤_}
+use native.Mathlib.Nat.{le-refl, le-of-eq}
 use native.Mathlib.Omega.{arith}
 use mathlib.Core.Path.{_≡_, sym, ap, ap₂, _∙_}
 use mathlib.Core.List.{List, [], _∷_, _++_}
-use lib.ListN.{length, getD, take, drop, length-append, length-drop, take-append-drop}
-use lib.Seq.{ext-getD, length-take-le, getD-drop, take-at, drop-at}
+use lib.ListN.{length, getD, take, drop, length-append, take-append-drop}
+use lib.Seq.{length-take-le, take-all, take-at, drop-at}
 use Rattle.mappings.specs.Limits.{workWords}
 use Rattle.mappings.specs.Score.{Task}
 use Rattle.mappings.specs.Cells.{hitCount, cellCount}
 use Rattle.mappings.specs.Rule.{Answer, Step, passed, handedOut}
-use Rattle.mappings.proofs.Demand.{demanded-same}
+use Rattle.mappings.specs.Demand.{passedBefore}
+use Rattle.mappings.proofs.Demanded.{demanded-same}
 use Rattle.start.specs.Start.{startWords}
 use Rattle.start.specs.WorkWords.{sessionWords}
-use Rattle.start.proofs.WorkWords.{words-hold, beyond-free, take-session}
+use Rattle.start.proofs.WorkWords.{Holds, words-hold, take-session}
 use Rattle.mapper.specs.Promise.{Accepts}
-use Rattle.mapper.specs.Sessions.{Ran}
+use Rattle.mapper.specs.Sessions.{Ran, wordsAfter}
 use Rattle.mapper.proofs.Accepted.{Admitted, admitted}
-use Rattle.mapper.proofs.Demand3.{accepts-in, fresh, ran-on, demand3-codes}
+use Rattle.mapper.proofs.Demand3.{accepts-in, fresh, ran-on, beyond-session, demand3-codes}
 
--- the same list of steps, run on a session's words after q cells and on a copy of them: the answers and the words of both afterwards
-pub record Continues (q : ℕ) (words copy : List ℕ) (one other : List Answer) (last last′ : List ℕ) : Type 0 where
+-- the same list of steps, run on a session's words after q cells and on a copy of them: the answers and the words of both after each step
+pub record Continues (q : ℕ) (words copy : List ℕ) (steps : List Step) (one other : List Answer) (states states′ : List (List ℕ)) : Type 0 where
   pub same-answers : one ≡ other
   -- both stand at the same q, in word 3
-  pub original-q : getD last 3 0 ≡ q + passed one
-  pub copy-q : getD last′ 3 0 ≡ q + passed one
-  pub same-words : take workWords last ≡ take workWords last′
+  pub original-q : (n : ℕ) → n ≤ length steps → getD (wordsAfter words states n) 3 0 ≡ q + passedBefore one n
+  pub copy-q : (n : ℕ) → n ≤ length steps → getD (wordsAfter copy states′ n) 3 0 ≡ q + passedBefore one n
+  pub same-words : (n : ℕ) → n ≤ length steps → take workWords (wordsAfter words states n) ≡ take workWords (wordsAfter copy states′ n)
   -- words beyond the first 16,384 are never changed, each buffer keeps its own
-  pub original-beyond : drop workWords last ≡ drop workWords words
-  pub copy-beyond : drop workWords last′ ≡ drop workWords copy
+  pub original-beyond : (n : ℕ) → n ≤ length steps → drop workWords (wordsAfter words states n) ≡ drop workWords words
+  pub copy-beyond : (n : ℕ) → n ≤ length steps → drop workWords (wordsAfter copy states′ n) ≡ drop workWords copy
 
 module _ (task : Task) (before : List ℕ) (a : Accepts task before) where
   limits : Admitted task (length before) (hitCount task ∷ [])
   limits = admitted task (length before) (hitCount task ∷ []) (a .accepts)
-
-  -- beyond the first 16,384 a session's words are those before start
-  beyond-session : (words : List ℕ) → 16384 ≤ length words → (q : ℕ) → drop 16384 (sessionWords task words q) ≡ drop 16384 words
-  beyond-session words l q =
-      let holds = words-hold task words q (limits .few-hits) l .held in
-      ext-getD 0 (drop 16384 (sessionWords task words q)) (drop 16384 words)
-      (length-drop 16384 (sessionWords task words q) ∙ ap (λ (n : ℕ). n - 16384) (holds .number) ∙ sym (length-drop 16384 words))
-      (λ i k.
-      (getD-drop 16384 (sessionWords task words q) i 0
-      ∙ holds .free-word (16384 + i) (beyond-free task (limits .few-hits) words 16384 (omega arith) l (16384 + i) (omega arith))
-      ∙ sym (getD-drop 16384 words i 0)))
 
   -- a copy is the words of a session itself: of the task begun in the original's first 16,384 words, with the copy's own words behind them
   module _ (copy : List ℕ) (long : 16384 ≤ length copy) where
@@ -58,6 +48,9 @@ module _ (task : Task) (before : List ℕ) (a : Accepts task before) where
     begun-long : 16384 ≤ length begun
     begun-long = rw (length-append (take 16384 before) (drop 16384 copy), first-number) (omega arith)
 
+    begun-accepts : Accepts task begun
+    begun-accepts = accepts-in task before a begun begun-long
+
     first-same : (q : ℕ) → take 16384 (sessionWords task before q) ≡ take 16384 (sessionWords task begun q)
     first-same q =
         let enough : 16384 ≤ 16384 = omega arith in
@@ -66,7 +59,7 @@ module _ (task : Task) (before : List ℕ) (a : Accepts task before) where
         ∙ sym (take-session task (limits .few-hits) begun 16384 enough begun-long q)
 
     copy-beyond-same : (q : ℕ) → drop 16384 (sessionWords task begun q) ≡ drop 16384 copy
-    copy-beyond-same q = beyond-session begun begun-long q ∙ drop-at (take 16384 before) (drop 16384 copy) 16384 first-number
+    copy-beyond-same q = beyond-session task begun begun-accepts q ∙ drop-at (take 16384 before) (drop 16384 copy) 16384 first-number
 
     copy-session : (q : ℕ) → take 16384 copy ≡ take 16384 (sessionWords task before q) → copy ≡ sessionWords task begun q
     copy-session q e =
@@ -76,33 +69,45 @@ module _ (task : Task) (before : List ℕ) (a : Accepts task before) where
 
   -- a session after q cells, and any words of which the first 16,384 are a copy of its own, however many they are and whatever stands
   -- behind
-  pub copied : (q : ℕ) {words copy last last′ : List ℕ} {steps : List Step} {one other : List Answer} → q ≤ cellCount (hitCount task) → words ≡ sessionWords task before q → workWords ≤ length copy → take workWords copy ≡ take workWords words → Ran words steps one last → Ran copy steps other last′ → Continues q words copy one other last last′
-  copied q {words} {copy} {last} {last′} {steps} {one} {other} k e long same run run′ =
+  pub copied : (q : ℕ) {words copy : List ℕ} {states states′ : List (List ℕ)} {steps : List Step} {one other : List Answer} → q ≤ cellCount (hitCount task)
+      → words ≡ sessionWords task before q → workWords ≤ length copy → take workWords copy ≡ take workWords words
+      → Ran words steps one states → Ran copy steps other states′ → Continues q words copy steps one other states states′
+  copied q {words} {copy} {states} {states′} {steps} {one} {other} k e long same run run′ =
       let r = ran-on task before a q k e run in
-      let r′ = ran-on task (begun copy long) (accepts-in task before a (begun copy long) (begun-long copy long)) q k (copy-session copy long q (same ∙ ap (take 16384) e)) run′ in
+      let r′ = ran-on task (begun copy long) (begun-accepts copy long) q k (copy-session copy long q (same ∙ ap (take 16384) e)) run′ in
       let same-answers : one ≡ other = r .0 ∙ sym (r′ .0) in
-      let left : last′ ≡ sessionWords task (begun copy long) (q + passed one) = r′ .1 ∙ ap (λ (answers : List Answer). sessionWords task (begun copy long) (q + passed answers)) (sym same-answers) in
+      let at : (n : ℕ) → n ≤ length steps → wordsAfter copy states′ n ≡ sessionWords task (begun copy long) (q + passedBefore one n) =
+      λ n l. r′ .1 n l ∙ ap (λ (answers : List Answer). sessionWords task (begun copy long) (q + passedBefore answers n)) (sym same-answers)
+      in
+      let holds : (n : ℕ) → Holds task before (q + passedBefore one n) (sessionWords task before (q + passedBefore one n)) = λ n. words-hold task before (q + passedBefore one n) (limits .few-hits) (limits .many-words) in
+      let copy-holds : (n : ℕ) → Holds task (begun copy long) (q + passedBefore one n) (sessionWords task (begun copy long) (q + passedBefore one n)) = λ n. words-hold task (begun copy long) (q + passedBefore one n) (limits .few-hits) (begun-long copy long) in
       record {
         same-answers = same-answers;
-        original-q = ap (λ (w : List ℕ). getD w 3 0) (r .1) ∙ words-hold task before (q + passed one) (limits .few-hits) (limits .many-words) .passed-word;
-        copy-q = ap (λ (w : List ℕ). getD w 3 0) left ∙ words-hold task (begun copy long) (q + passed one) (limits .few-hits) (begun-long copy long) .passed-word;
-        same-words = ap (take 16384) (r .1) ∙ first-same copy long (q + passed one) ∙ sym (ap (take 16384) left);
-        original-beyond =
-            ap (drop 16384) (r .1)
-            ∙ beyond-session before (limits .many-words) (q + passed one)
-            ∙ sym (beyond-session before (limits .many-words) q)
-            ∙ sym (ap (drop 16384) e);
-        copy-beyond = ap (drop 16384) left ∙ copy-beyond-same copy long (q + passed one);
+        original-q = λ n l. ap (λ (w : List ℕ). getD w 3 0) (r .1 n l) ∙ holds n .passed-word;
+        copy-q = λ n l. ap (λ (w : List ℕ). getD w 3 0) (at n l) ∙ copy-holds n .passed-word;
+        same-words = λ n l. ap (take 16384) (r .1 n l) ∙ first-same copy long (q + passedBefore one n) ∙ sym (ap (take 16384) (at n l));
+        original-beyond = λ n l.
+            (ap (drop 16384) (r .1 n l)
+            ∙ beyond-session task before a (q + passedBefore one n)
+            ∙ sym (ap (drop 16384) e ∙ beyond-session task before a q));
+        copy-beyond = λ n l. ap (drop 16384) (at n l) ∙ copy-beyond-same copy long (q + passedBefore one n);
       }
 
   -- the same from start on: a copy of the words as any steps have left them
-  pub copied-midway : {words copy last last′ : List ℕ} {first steps : List Step} {heard one other : List Answer} → Ran (startWords task before) first heard words → workWords ≤ length copy → take workWords copy ≡ take workWords words → Ran words steps one last → Ran copy steps other last′ → Continues (passed heard) words copy one other last last′
-  copied-midway {heard = heard} start long same run run′ =
+  pub copied-midway : {copy : List ℕ} {before-copy states states′ : List (List ℕ)} {first steps : List Step} {heard one other : List Answer}
+      → Ran (startWords task before) first heard before-copy
+      → (let words = wordsAfter (startWords task before) before-copy (length first) in
+      workWords ≤ length copy → take workWords copy ≡ take workWords words → Ran words steps one states → Ran copy steps other states′
+      → Continues (passed heard) words copy steps one other states states′)
+  copied-midway {before-copy = before-copy} {first = first} {heard = heard} start long same run run′ =
       let s = ran-on task before a 0 (omega arith) (fresh task before a) start in
-      let z : 0 + passed heard ≡ passed heard = omega arith in
-      copied (passed heard) (demand3-codes task before a start .demanded .within) (s .1 ∙ ap (sessionWords task before) z) long same run run′
+      let demanded = demand3-codes task before a start .demanded in
+      let all : passedBefore heard (length first) ≡ passed heard = ap passed (take-all (length first) heard (le-of-eq (demanded .answered))) in
+      let q : 0 + passedBefore heard (length first) ≡ passed heard = rw all (omega arith) in
+      copied (passed heard) (demanded .within) (s .1 (length first) (le-refl (length first)) ∙ ap (sessionWords task before) q) long same run run′
 
   -- two lists of steps that reach the same q
-  pub same-mappings : {last last′ : List ℕ} {steps others : List Step} {heard heard′ : List Answer} → Ran (startWords task before) steps heard last → Ran (startWords task before) others heard′ last′ → passed heard ≡ passed heard′ → handedOut heard ≡ handedOut heard′
+  pub same-mappings : {states states′ : List (List ℕ)} {steps others : List Step} {heard heard′ : List Answer} → Ran (startWords task before) steps heard states
+      → Ran (startWords task before) others heard′ states′ → passed heard ≡ passed heard′ → handedOut heard ≡ handedOut heard′
   same-mappings run run′ e =
       demanded-same task (demand3-codes task before a run .demanded) (demand3-codes task before a run′ .demanded) e

@@ -1,38 +1,38 @@
 -- Demand 3, whole: for every list of steps from a fresh session, as step promises each; over any codes that start accepts, and over the
 -- letters of text and read.
--- Assumes nothing.
-use Prim.Native.Nat.{ℕ, _+_, _-_, _≤_, _<_}
+use Prim.Native.Nat.{ℕ, zero, suc, _+_, _-_, _≤_, _<_}
+use native.Mathlib.Nat.{not-suc-le-zero, le-of-suc-le-suc}
 use native.Mathlib.Omega.{arith}
 use mathlib.Core.Path.{_≡_, refl, sym, ap, ap₂, _∙_, subst}
 use mathlib.Core.Bool.{Bool, true, false, cond, not}
 use mathlib.Core.List.{List, [], _∷_, _++_, append-nil}
 use lib.Dec.{ltb}
-use lib.ListN.{length, getD, take, drop, length-take, take-append-drop, drop-of-length-le}
-use lib.Seq.{length-take-le, take-all, take-append-seam}
+use lib.ListN.{length, take, drop, length-take, length-drop, take-append-drop, drop-of-length-le}
+use lib.Seq.{ext-getD, getD-drop, length-take-le, take-all}
 use borrow.Author.Tests.{lt-ltb, le-ltb, ltb-true, ltb-false}
-use Rattle.counts.specs.Replies.{Reply, accepted, after}
-use Rattle.minimizers.specs.Kmers.{Entry, codes, positions, entries}
+use Rattle.counts.specs.Replies.{accepted}
+use Rattle.minimizers.specs.Kmers.{Entry, codes}
 use Rattle.minimizers.specs.Sketch.{sketch}
 use Rattle.sketch.specs.Replies.{sketchCodes, sketchPositions}
-use Rattle.sketch.proofs.Accepted.{sketch-held}
-use Rattle.minimizers.proofs.Laws.{codes-positions, entries-same}
-use Rattle.strike.specs.Strike.{struck, strikeCodes}
-use Rattle.strike.proofs.Accepted.{strike-held}
-use Rattle.strike.proofs.Laws.{length-codes}
+use Rattle.sketch.proofs.Accepted.{Wrote, sketch-wrote}
+use Rattle.strike.specs.Strike.{struck}
+use Rattle.strike.proofs.Accepted.{strike-wrote}
 use Rattle.mappings.specs.Limits.{workWords}
-use Rattle.mappings.specs.Score.{Task}
+use Rattle.mappings.specs.Score.{Task, taskWith}
 use Rattle.mappings.specs.Cells.{hitCount, cellCount}
-use Rattle.mappings.specs.Rule.{Answer, refused, Step, reported, passed, isAccepted, stepAnswer, ruleAnswer, answers}
+use Rattle.mappings.specs.Rule.{Answer, refused, Step, reported, isAccepted, stepAnswer, ruleAnswer, answers}
+use Rattle.mappings.specs.Demand.{passedBefore, Demanded}
 use Rattle.mappings.proofs.Demand.{demand}
 use Rattle.mappings.proofs.Rule.{outcome, outcome-within, passing}
+use Rattle.requests.specs.Requests.{Settings, textOf, patternOf, taskOf}
 use Rattle.start.specs.Start.{startReply, startWords}
 use Rattle.start.specs.WorkWords.{sessionWords}
-use Rattle.start.proofs.WorkWords.{words-hold, session-number, take-session, drop-session}
+use Rattle.start.proofs.WorkWords.{words-hold, beyond-free, session-number, take-session, drop-session}
 use Rattle.mapper.specs.declared.answer.Stepped.{Stepped}
 use Rattle.mapper.specs.Answers.{answerOf}
 use Rattle.mapper.specs.Step.{tooFewWords}
 use Rattle.mapper.specs.Promise.{Accepts, StepPromise}
-use Rattle.mapper.specs.Sessions.{Ran, none, then, Request, Lent, requested, textCodes, textPositions, readCodes, struckCodes, given, AllAccept, Demand3}
+use Rattle.mapper.specs.Sessions.{Ran, none, then, wordsAfter, Lent, textCodes, textPositions, readCodes, struckCodes, startTask, AllAccept, FirstWords, Demand3}
 use Rattle.mapper.proofs.Accepted.{Admitted, admitted}
 
 -- ---- one step of a list
@@ -101,17 +101,46 @@ module _ (task : Task) (before : List ℕ) (a : Accepts task before) where
       go true = outcome-within task (outcome task (passing task q (step .budget) k))
       go false = omega arith
 
-  -- a list of steps, from the words after q cells on
-  pub ran-on : (q : ℕ) {work last : List ℕ} {steps : List Step} {heard : List Answer} → q ≤ cellCount (hitCount task) → work ≡ sessionWords task before q → Ran work steps heard last → (heard ≡ answers task q steps) × (last ≡ sessionWords task before (q + passed heard))
+  -- a list of steps, from the words after q cells on: the rule's answers, and after each step the words of the session
+  pub ran-on : (q : ℕ) {work : List ℕ} {states : List (List ℕ)} {steps : List Step} {heard : List Answer} → q ≤ cellCount (hitCount task)
+      → work ≡ sessionWords task before q → Ran work steps heard states
+      → (heard ≡ answers task q steps) × ((n : ℕ) → n ≤ length steps → wordsAfter work states n ≡ sessionWords task before (q + passedBefore heard n))
   unfolding answers
-  ran-on q k e none = (refl, e ∙ (let z : q ≡ q + 0 = omega arith in ap (sessionWords task before) z))
-  ran-on q {work} k e (then {after = after} {step = step} {answer = answer} {given = heard} promise rest) =
-      let p : StepPromise (take (step .lent) (sessionWords task before q)) (step .budget) answer after = subst (λ (w : List ℕ). StepPromise (take (step .lent) w) (step .budget) answer after) e promise in
+  ran-on q {work} k e none = (refl, at)
+    where
+      at : (n : ℕ) → n ≤ 0 → wordsAfter work [] n ≡ sessionWords task before (q + passedBefore [] n)
+      at zero l = e ∙ (let z : q ≡ q + 0 = omega arith in ap (sessionWords task before) z)
+      at (suc n) l = absurd (not-suc-le-zero l)
+  ran-on q {work} k e (then {after = after} {step = step} {steps = steps} {answer = answer} {given = heard} {states = states} promise rest) =
+      let p : StepPromise (take (step .lent) (sessionWords task before q)) (step .budget) answer after =
+      subst (λ (w : List ℕ). StepPromise (take (step .lent) w) (step .budget) answer after) e promise
+      in
       let one = one-step q step answer after p k in
-      let here : after ++ drop (step .lent) work ≡ sessionWords task before (q + reported (stepAnswer task q step)) = ap (λ (w : List ℕ). after ++ drop (step .lent) w) e ∙ one .1 in
+      let here : after ++ drop (step .lent) work ≡ sessionWords task before (q + reported (stepAnswer task q step)) =
+      ap (λ (w : List ℕ). after ++ drop (step .lent) w) e ∙ one .1
+      in
       let others = ran-on (q + reported (stepAnswer task q step)) (within-step q step k) here rest in
-      let count : q + reported (stepAnswer task q step) + passed heard ≡ q + (reported (answerOf answer) + passed heard) = rw (one .0) (omega arith) in
-      (ap₂ (λ (x : Answer) (xs : List Answer). x ∷ xs) (one .0) (others .0), others .1 ∙ ap (sessionWords task before) count)
+      (ap₂ (λ (x : Answer) (xs : List Answer). x ∷ xs) (one .0) (others .0), at (one .0) (others .1))
+    where
+      at : answerOf answer ≡ stepAnswer task q step
+          → ((n : ℕ) → n ≤ length steps → wordsAfter (after ++ drop (step .lent) work) states n ≡ sessionWords task before (q + reported (stepAnswer task q step) + passedBefore heard n))
+          → (n : ℕ) → n ≤ suc (length steps)
+          → wordsAfter work ((after ++ drop (step .lent) work) ∷ states) n ≡ sessionWords task before (q + passedBefore (answerOf answer ∷ heard) n)
+      at f further zero l = e ∙ (let z : q ≡ q + 0 = omega arith in ap (sessionWords task before) z)
+      at f further (suc n) l =
+          let count : q + reported (stepAnswer task q step) + passedBefore heard n ≡ q + (reported (answerOf answer) + passedBefore heard n) = rw f (omega arith) in
+          further n (le-of-suc-le-suc l) ∙ ap (sessionWords task before) count
+
+  -- beyond the first 16,384 a session's words are those before start
+  pub beyond-session : (q : ℕ) → drop 16384 (sessionWords task before q) ≡ drop 16384 before
+  beyond-session q =
+      let holds = words-hold task before q (limits .few-hits) (limits .many-words) .held in
+      ext-getD 0 (drop 16384 (sessionWords task before q)) (drop 16384 before)
+      (length-drop 16384 (sessionWords task before q) ∙ ap (λ (n : ℕ). n - 16384) (holds .number) ∙ sym (length-drop 16384 before))
+      (λ i k.
+      (getD-drop 16384 (sessionWords task before q) i 0
+      ∙ holds .free-word (16384 + i) (beyond-free task (limits .few-hits) before 16384 (omega arith) (limits .many-words) (16384 + i) (omega arith))
+      ∙ sym (getD-drop 16384 before i 0)))
 
   -- ---- any codes that start accepts
 
@@ -119,60 +148,66 @@ module _ (task : Task) (before : List ℕ) (a : Accepts task before) where
   unfolding startWords
   fresh = rw (a .accepts)
 
-  pub demand3-codes : {last : List ℕ} {steps : List Step} {heard : List Answer} → Ran (startWords task before) steps heard last → Demand3 task steps heard last
-  demand3-codes {last} {steps} {heard} run =
+  first-words : (q : ℕ) → FirstWords task q (sessionWords task before q)
+  first-words q =
+      let holds = words-hold task before q (limits .few-hits) (limits .many-words) in
+      record { word0 = holds .held .h-word; word1 = holds .held .u-word; word2 = holds .held .v-word; word3 = holds .passed-word }
+
+  pub demand3-codes : {states : List (List ℕ)} {steps : List Step} {heard : List Answer} → Ran (startWords task before) steps heard states
+      → Demand3 task (startWords task before) steps heard states
+  demand3-codes {states} {steps} {heard} run =
       let r = ran-on 0 (omega arith) fresh run in
-      let words : last ≡ sessionWords task before (passed heard) = r .1 ∙ (let z : 0 + passed heard ≡ passed heard = omega arith in ap (sessionWords task before) z) in
+      let demanded : Demanded task steps heard = rw (r .0) (demand task steps) in
+      let at : (n : ℕ) → n ≤ length steps → wordsAfter (startWords task before) states n ≡ sessionWords task before (passedBefore heard n) =
+      λ n l. (let z : 0 + passedBefore heard n ≡ passedBefore heard n = omega arith in r .1 n l ∙ ap (sessionWords task before) z)
+      in
       record {
-        demanded = rw (r .0) (demand task steps);
-        word3 = ap (λ (w : List ℕ). getD w 3 0) words ∙ words-hold task before (passed heard) (limits .few-hits) (limits .many-words) .passed-word;
+        demanded = demanded;
+        words = λ n l. subst (FirstWords task (passedBefore heard n)) (sym (at n l)) (first-words (passedBefore heard n));
+        unchanged = λ n l few. at (suc n) l ∙ ap (sessionWords task before) (demanded .unmoved n l few) ∙ sym (at n (omega arith));
+        beyond = λ n l. ap (drop 16384) (at n l) ∙ beyond-session (passedBefore heard n) ∙ sym (ap (drop 16384) fresh ∙ beyond-session 0);
       }
 
--- ---- from letters: what sketch and strike write is what start is given
+-- ---- from letters: by the laws of sketch and strike, what they write is what start is given
 
--- the words that an accepted call wrote
-written : (reply : Reply) (n : ℕ) (values new old : List ℕ) → reply ≡ accepted values → length new ≡ n → take n (after reply new old) ≡ new
-written reply n values new old e l = rw (e, ← l) (take-append-seam new (drop (length new) old))
+module _ (settings : Settings) (text read : List ℕ) (lent : Lent) (n m s h : ℕ) (all : AllAccept settings text read lent n m s h) where
+  of-text : Wrote (sketch (settings .k) (settings .w) text) n (sketchCodes (settings .k) (settings .w) text (lent .text-codes) (lent .text-positions))
+      (sketchPositions (settings .k) (settings .w) text (lent .text-codes) (lent .text-positions))
+  of-text = sketch-wrote (settings .k) (settings .w) text (lent .text-codes) (lent .text-positions) n (all .sketch-text)
 
-module _ (r : Request) (lent : Lent) (n m s h : ℕ) (all : AllAccept r lent n m s h) where
-  text-sketch : List Entry
-  text-sketch = sketch (r .k) (r .w) (r .text)
+  of-read : Wrote (sketch (settings .k) (settings .w) read) m (sketchCodes (settings .k) (settings .w) read (lent .read-codes) (lent .read-positions))
+      (sketchPositions (settings .k) (settings .w) read (lent .read-codes) (lent .read-positions))
+  of-read = sketch-wrote (settings .k) (settings .w) read (lent .read-codes) (lent .read-positions) m (all .sketch-read)
 
-  read-sketch : List Entry
-  read-sketch = sketch (r .k) (r .w) (r .read)
-
-  text-codes-are : textCodes r lent n m s ≡ codes text-sketch
-  unfolding textCodes sketchCodes text-sketch
-  text-codes-are = written _ n (n ∷ []) (codes text-sketch) (lent .text-codes) (all .sketch-text) (length-codes text-sketch ∙ sym (sketch-held (r .k) (r .w) (r .text) _ _ n (all .sketch-text) .number))
-
-  text-positions-are : textPositions r lent n m s ≡ positions text-sketch
-  unfolding textPositions sketchPositions text-sketch
-  text-positions-are = written _ n (n ∷ []) (positions text-sketch) (lent .text-positions) (all .sketch-text) (sym (codes-positions text-sketch) ∙ length-codes text-sketch ∙ sym (sketch-held (r .k) (r .w) (r .text) _ _ n (all .sketch-text) .number))
-
-  read-codes-are : readCodes r lent n m s ≡ codes read-sketch
-  unfolding readCodes sketchCodes read-sketch
-  read-codes-are = written _ m (m ∷ []) (codes read-sketch) (lent .read-codes) (all .sketch-read) (length-codes read-sketch ∙ sym (sketch-held (r .k) (r .w) (r .read) _ _ m (all .sketch-read) .number))
-
-  -- the two buffers hold the text's entries
-  entries-are : entries (textCodes r lent n m s) (textPositions r lent n m s) ≡ text-sketch
-  entries-are = rw (text-codes-are, text-positions-are) (entries-same text-sketch)
-
-  struck-codes-are : struckCodes r lent n m s ≡ codes (struck (r .c) text-sketch)
-  unfolding struckCodes strikeCodes
+  struck-codes-are : struckCodes settings text read lent n m s ≡ codes (textOf settings text)
+  unfolding struckCodes textCodes textPositions textOf
   struck-codes-are =
-      written _ s (s ∷ []) (codes (struck (r .c) (entries (textCodes r lent n m s) (textPositions r lent n m s)))) (lent .struck-codes) (all .strike) (length-codes (struck (r .c) (entries (textCodes r lent n m s) (textPositions r lent n m s))) ∙ sym (strike-held (textCodes r lent n m s) (textPositions r lent n m s) (r .c) _ _ s (all .strike) .number))
-      ∙ ap (λ (es : List Entry). codes (struck (r .c) es)) entries-are
+      strike-wrote (textCodes settings text read lent n m s) (textPositions settings text read lent n m s) (settings .c) (lent .struck-codes) (lent .struck-positions) s (all .strike) .codes-are
+      ∙ ap (λ (es : List Entry). codes (struck (settings .c) es)) (of-text .paired)
 
-  given-is : given r lent n m s ≡ requested r
-  unfolding given requested text-sketch read-sketch
-  given-is = λ i. record { text = struck-codes-are i; pattern = read-codes-are i; u = r .u; v = r .v; threshold = r .threshold }
+  read-codes-are : readCodes settings text read lent n m s ≡ codes (patternOf settings read)
+  unfolding readCodes patternOf
+  read-codes-are = of-read .codes-are
 
-  accepts-request : Accepts (requested r) (lent .work)
-  unfolding requested
-  accepts-request =
-      let e : startReply (requested r) (length (lent .work)) ≡ accepted (h ∷ []) = subst (λ (task : Task). startReply task (length (lent .work)) ≡ accepted (h ∷ [])) given-is (all .start) in
-      record { accepts = e ∙ ap accepted (admitted (requested r) (length (lent .work)) (h ∷ []) e .answered); threshold-fits = all .threshold-fits }
+  start-task-is : startTask settings text read lent n m s ≡ taskOf settings text read
+  unfolding startTask taskOf
+  start-task-is = λ i. taskWith (struck-codes-are i) (read-codes-are i) (settings .u) (settings .v) (settings .threshold)
+
+  accepts-task : Accepts (taskOf settings text read) (lent .work)
+  unfolding taskOf
+  accepts-task =
+      let e : startReply (taskOf settings text read) (length (lent .work)) ≡ accepted (h ∷ []) =
+      subst (λ (task : Task). startReply task (length (lent .work)) ≡ accepted (h ∷ [])) start-task-is (all .start)
+      in
+      record {
+        accepts = e ∙ ap accepted (admitted (taskOf settings text read) (length (lent .work)) (h ∷ []) e .answered);
+        threshold-fits = all .threshold-fits;
+      }
 
   -- demand 3 of the letters: over the two sketches as 01 defines them, the text's struck
-  pub demand3 : {last : List ℕ} {steps : List Step} {heard : List Answer} → Ran (startWords (given r lent n m s) (lent .work)) steps heard last → Demand3 (requested r) steps heard last
-  demand3 {last} {steps} {heard} run = demand3-codes (requested r) (lent .work) accepts-request (subst (λ (task : Task). Ran (startWords task (lent .work)) steps heard last) given-is run)
+  pub demand3 : {states : List (List ℕ)} {steps : List Step} {heard : List Answer}
+      → Ran (startWords (startTask settings text read lent n m s) (lent .work)) steps heard states
+      → Demand3 (taskOf settings text read) (startWords (startTask settings text read lent n m s) (lent .work)) steps heard states
+  demand3 {states} {steps} {heard} =
+      subst (λ (task : Task). Ran (startWords task (lent .work)) steps heard states → Demand3 (taskOf settings text read) (startWords task (lent .work)) steps heard states)
+      (sym start-task-is) (demand3-codes (taskOf settings text read) (lent .work) accepts-task)

@@ -7,36 +7,34 @@ use mathlib.Core.Bool.{Bool, true, false}
 use mathlib.Core.List.{List, [], _∷_, _++_}
 use lib.Dec.{ltb}
 use lib.IntN.{pos}
-use lib.ListN.{length, getD, take, drop, replicate, length-replicate}
+use lib.ListN.{length, take, drop, replicate, length-replicate}
 use borrow.Author.Tests.{ltb-true, ltb-false}
 use Rattle.counts.specs.Replies.{accepted}
 use Rattle.mappings.specs.Limits.{workWords}
 use Rattle.mappings.specs.Rule.{Answer, Step}
 use Rattle.mappings.proofs.Compute.{mappings-compute}
+use Rattle.requests.specs.Requests.{Settings, taskOf}
 use Rattle.start.specs.Start.{badWeights, startReply, startWords}
 use Rattle.mapper.specs.declared.answer.Stepped.{Stepped}
 use Rattle.mapper.specs.declared.answer.Stepped.the-variants.{TooFewWords, BadWords}
 use Rattle.mapper.specs.Answers.{answerOf}
 use Rattle.mapper.specs.Step.{badWords}
 use Rattle.mapper.specs.Promise.{StepPromise}
-use Rattle.mapper.specs.Sessions.{Ran, none, then, Request, Lent, requested, textCodes, textPositions, readCodes, struckCodes, given, AllAccept, Demand3}
+use Rattle.mapper.specs.Sessions.{Ran, none, then, Lent, textCodes, textPositions, readCodes, struckCodes, startTask, AllAccept, Demand3}
 use Rattle.mapper.proofs.StepPromise.{few-promise, bad-promise, walk-promise}
 use Rattle.mapper.proofs.Demand3.{demand3}
 
 -- ---- sketch, strike and start accept
 
 -- ACAG and ACG, k = w = 1, c = 100, u = v = 1, threshold 1
-abbrev pub asked : Request
-asked = record {
-  text = 65 ∷ 67 ∷ 65 ∷ 71 ∷ [];
-  read = 65 ∷ 67 ∷ 71 ∷ [];
-  k = 1;
-  w = 1;
-  c = 100;
-  u = 1;
-  v = 1;
-  threshold = pos 1;
-}
+abbrev pub asked : Settings
+asked = record { k = 1; w = 1; c = 100; u = 1; v = 1; threshold = pos 1 }
+
+abbrev pub text : List ℕ
+text = 65 ∷ 67 ∷ 65 ∷ 71 ∷ []
+
+abbrev pub read : List ℕ
+read = 65 ∷ 67 ∷ 71 ∷ []
 
 abbrev four : List ℕ
 four = 0 ∷ 0 ∷ 0 ∷ 0 ∷ []
@@ -53,18 +51,18 @@ buffers = record {
 }
 
 -- start with the number of work words written out, so that no list of them is computed
-starts : startReply (given asked buffers 4 3 4) workWords ≡ accepted (4 ∷ [])
-unfolding mappings-compute badWeights startReply textCodes textPositions readCodes struckCodes given
+starts : startReply (startTask asked text read buffers 4 3 4) workWords ≡ accepted (4 ∷ [])
+unfolding mappings-compute badWeights startReply textCodes textPositions readCodes struckCodes startTask
 starts = refl
 
 -- four entries of the text, three of the read, four that strike keeps, and four hits
-pub all-accept : AllAccept asked buffers 4 3 4 4
+pub all-accept : AllAccept asked text read buffers 4 3 4 4
 unfolding mappings-compute textCodes textPositions
 all-accept = record {
   sketch-text = refl;
   sketch-read = refl;
   strike = refl;
-  start = ap (startReply (given asked buffers 4 3 4)) (length-replicate {A = ℕ} workWords 0) ∙ starts;
+  start = ap (startReply (startTask asked text read buffers 4 3 4)) (length-replicate {A = ℕ} workWords 0) ∙ starts;
   threshold-fits = omega arith;
 }
 
@@ -82,15 +80,20 @@ promise-kept work budget = number (ltb (length work) workWords) refl
     number true e = (TooFewWords, work, few-promise work budget (ltb-true (length work) workWords e))
     number false e = words (badWords work) refl (ltb-false (length work) workWords e)
 
-runs : (work : List ℕ) (steps : List Step) → (heard : List Answer) × (last : List ℕ) × Ran work steps heard last
-runs work [] = ([], work, none)
+runs : (work : List ℕ) (steps : List Step) → (heard : List Answer) × (states : List (List ℕ)) × Ran work steps heard states
+runs work [] = ([], [], none)
 runs work (step ∷ steps) =
     let one = promise-kept (take (step .lent) work) (step .budget) in
     let rest = runs (one .1 ++ drop (step .lent) work) steps in
-    (answerOf (one .0) ∷ rest .0, rest .1, then (one .2) (rest .2))
+    (answerOf (one .0) ∷ rest .0, (one .1 ++ drop (step .lent) work) ∷ rest .1, then (one .2) (rest .2))
+
+-- the words of the example's fresh session
+abbrev begun : List ℕ
+begun = startWords (startTask asked text read buffers 4 3 4) (buffers .work)
 
 -- any list of steps has a run on the example's session, and demand 3 speaks of it
-pub demand3-met : (steps : List Step) → (heard : List Answer) × (last : List ℕ) × Ran (startWords (given asked buffers 4 3 4) (buffers .work)) steps heard last × Demand3 (requested asked) steps heard last
+pub demand3-met : (steps : List Step) → (heard : List Answer) × (states : List (List ℕ)) × Ran begun steps heard states
+    × Demand3 (taskOf asked text read) begun steps heard states
 demand3-met steps =
-    let run = runs (startWords (given asked buffers 4 3 4) (buffers .work)) steps in
-    (run .0, run .1, run .2, demand3 asked buffers 4 3 4 4 all-accept (run .2))
+    let run = runs begun steps in
+    (run .0, run .1, run .2, demand3 asked text read buffers 4 3 4 4 all-accept (run .2))

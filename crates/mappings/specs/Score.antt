@@ -1,5 +1,4 @@
 -- Intervals of the struck text, and ESKEMAP's linear score with whole weights.
--- Assumes nothing.
 use Prim.Native.Nat.{ℕ, suc, _+_, _-_, _*_, min}
 use mathlib.Core.List.{List, map}
 use lib.ListN.{length}
@@ -15,6 +14,10 @@ pub record Task : Type 0 where
   pub u : ℕ
   pub v : ℕ
   pub threshold : ℤ
+
+-- the task of these codes, weights and threshold
+abbrev pub taskWith : List ℕ → List ℕ → ℕ → ℕ → ℤ → Task
+taskWith text pattern u v threshold = record { text = text; pattern = pattern; u = u; v = v; threshold = threshold }
 
 -- [a, b]: the entries a to b, both included
 unfoldable pub interval : List ℕ → ℕ → ℕ → List ℕ

@@ -24,6 +24,12 @@ use Rattle.minimizers.proofs.Runs.{by-runs, runEnd-within, run-letters}
 -- ---- codes and positions of any entries
 
 -- as many codes as positions
+pub length-codes : (es : List Entry) → length (codes es) ≡ length es
+length-codes es = length-map es (λ (e : Entry). e .code)
+
+pub length-positions : (es : List Entry) → length (positions es) ≡ length es
+length-positions es = length-map es (λ (e : Entry). e .position)
+
 pub codes-positions : (es : List Entry) → length (codes es) ≡ length (positions es)
 codes-positions es = length-map es (λ (e : Entry). e .code) ∙ sym (length-map es (λ (e : Entry). e .position))
 
@@ -174,6 +180,12 @@ module _ (k w : ℕ) (letters : List ℕ) (some : 1 ≤ k) where
   codes-there i h =
       let e = at-index (IsKmer k letters) (sketch k w letters) (λ x m. sketch-kmer k w letters some m) i h in
       rw (e .2, e .3) (e .1 .code-there)
+
+  -- and lies within the letters
+  pub positions-inside : (i : ℕ) → i < length (positions (sketch k w letters)) → getD (positions (sketch k w letters)) i 0 + k ≤ length letters
+  positions-inside i h =
+      let e = at-index (IsKmer k letters) (sketch k w letters) (λ x m. sketch-kmer k w letters some m) i (rw (length-positions (sketch k w letters)) at h) in
+      rw (e .3) (e .1 .within)
 
   pub codes-below : (i : ℕ) → i < length (sketch k w letters) → getD (codes (sketch k w letters)) i 0 < 4 ^ k
   codes-below i h =

@@ -11,15 +11,15 @@ use Rattle.minimizers.specs.Sketch.{sketch}
 use Rattle.sketch.specs.Replies.{sketchReply, sketchCodes, sketchPositions}
 use Rattle.sketch.specs.Answers.{replyOf, Sketches}
 use Rattle.sketch.specs.declared.Sketched.{Sketched}
-use Rattle.minimizers.proofs.Laws.{entries-same}
+use Rattle.minimizers.proofs.Laws.{entries-same, length-codes, length-positions}
 use Rattle.strike.specs.Strike.{strikeReply}
 use Rattle.sketch.proofs.Accepted.{Held, sketch-held}
-use Rattle.strike.proofs.Laws.{length-codes, length-positions}
 use Rattle.start.specs.Start.{startReply, startWords}
-use Rattle.reading.specs.Input.{Settings, given}
+use Rattle.requests.specs.Requests.{Settings, textOf, patternOf, taskOf}
+use Rattle.reading.specs.Input.{given}
 use Rattle.answers.specs.Numbers.{numberOf, valueOf}
 use Rattle.answers.proofs.Accepted.{sketch-tells}
-use Rattle.opening.specs.Calls.{textOf, patternOf, taskOf, andThen, sketchesReply, strikingReply, callsReply}
+use Rattle.opening.specs.Calls.{andThen, sketchesReply, strikingReply, callsReply}
 use Rattle.opening.specs.Opening.{openedOf, positionsAfter, workAfter, Opens, OpensSketches}
 use Rattle.opening.specs.declared.calls.Opened.{Opened}
 use Rattle.opening.specs.declared.calls.Opened.the-variants.{Refused}

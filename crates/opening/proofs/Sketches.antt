@@ -8,15 +8,15 @@ use lib.IntN.{ℤ}
 use lib.ListN.{length, take}
 use Rattle.counts.specs.Replies.{Reply, accepted, over, after}
 use Rattle.minimizers.specs.Kmers.{Entry, codes, positions, entries}
+use Rattle.minimizers.proofs.Laws.{length-codes}
 use Rattle.strike.specs.Strike.{struck, strikeReply, strikeCodes, strikePositions}
 use Rattle.strike.specs.Answers.{replyOf as struckReply}
 use Rattle.strike.specs.declared.Struck.{Struck}
 use Rattle.sketch.proofs.Accepted.{Held}
 use Rattle.strike.proofs.Accepted.{strike-held}
-use Rattle.strike.proofs.Laws.{length-codes}
-use Rattle.mappings.specs.Score.{Task}
+use Rattle.mappings.specs.Score.{Task, taskWith}
 use Rattle.start.specs.Start.{startReply, startWords}
-use Rattle.start.specs.Answers.{startedReply, taskOf}
+use Rattle.start.specs.Answers.{startedReply}
 use Rattle.start.specs.declared.Started.{Started}
 use Rattle.answers.specs.Numbers.{numberOf, valueOf}
 use Rattle.answers.proofs.Accepted.{strike-tells, start-tells}
@@ -33,7 +33,7 @@ module _ (cs ps pattern places room : List ℕ) (k c u v : ℕ) (threshold : ℤ
   reply = strikeReply cs ps c 4096 (length places)
 
   abbrev task : Task
-  task = taskOf (codes (struck c (entries cs ps))) pattern u v threshold
+  task = taskWith (codes (struck c (entries cs ps))) pattern u v threshold
 
   module _ (r : Struck) (answer : struckReply r ≡ strikeReply cs ps c (length room) (length places)) (written places′ : List ℕ) (codes-are : written ≡ strikeCodes cs ps c room places) (positions-are : places′ ≡ strikePositions cs ps c room places) (n m : ℕ) (number : n ≡ numberOf (struckReply r)) (count : m ≡ valueOf (struckReply r)) where
     replied : struckReply r ≡ reply
@@ -73,12 +73,12 @@ module _ (cs ps pattern places room : List ℕ) (k c u v : ℕ) (threshold : ℤ
       pub inside : m ≤ 4096
       inside = held .in-codes
 
-      module _ (s : Started) (work′ : List ℕ) (started : startedReply s ≡ startReply (taskOf (take m written) pattern u v threshold) (length work)) (words : work′ ≡ startWords (taskOf (take m written) pattern u v threshold) work) (n′ : ℕ) (number′ : n′ ≡ numberOf (startedReply s)) where
+      module _ (s : Started) (work′ : List ℕ) (started : startedReply s ≡ startReply (taskWith (take m written) pattern u v threshold) (length work)) (words : work′ ≡ startWords (taskWith (take m written) pattern u v threshold) work) (n′ : ℕ) (number′ : n′ ≡ numberOf (startedReply s)) where
         starts : startedReply s ≡ startReply task (length work)
-        starts = started ∙ ap (λ (l : List ℕ). startReply (taskOf l pattern u v threshold) (length work)) front
+        starts = started ∙ ap (λ (l : List ℕ). startReply (taskWith l pattern u v threshold) (length work)) front
 
         work-is : work′ ≡ whereAccepted reply (startWords task work) work
-        work-is = words ∙ ap (λ (l : List ℕ). startWords (taskOf l pattern u v threshold) work) front ∙ sym (ap (λ (a : Reply). whereAccepted a (startWords task work) work) accepts)
+        work-is = words ∙ ap (λ (l : List ℕ). startWords (taskWith l pattern u v threshold) work) front ∙ sym (ap (λ (a : Reply). whereAccepted a (startWords task work) work) accepts)
 
         opened : openedBy (startReply task (length work)) k (length pattern) ≡ openedBy (andThen reply (startReply task (length work))) k (length pattern)
         opened = sym (ap (λ (a : Reply). openedBy (andThen a (startReply task (length work))) k (length pattern)) accepts)

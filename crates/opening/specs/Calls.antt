@@ -1,32 +1,14 @@
--- The task that an input asks for, and the replies of the calls in their order.
--- Assumes nothing.
+-- The replies of the calls in their order.
 use Prim.Native.Nat.{ℕ}
 use mathlib.Core.List.{List}
 use Rattle.counts.specs.Replies.{Reply, accepted, refused}
-use Rattle.minimizers.specs.Kmers.{Entry, codes, positions}
+use Rattle.minimizers.specs.Kmers.{codes, positions}
 use Rattle.minimizers.specs.Sketch.{sketch}
 use Rattle.sketch.specs.Replies.{sketchReply}
-use Rattle.strike.specs.Strike.{struck, strikeReply}
-use Rattle.mappings.specs.Score.{Task}
+use Rattle.strike.specs.Strike.{strikeReply}
 use Rattle.start.specs.Start.{startReply}
 use Rattle.reading.specs.Limits.{lineLimit}
-use Rattle.reading.specs.Input.{Settings}
-
--- the struck text and the pattern, as entries
-unfoldable pub textOf : Settings → List ℕ → List Entry
-textOf s letters = struck (s .c) (sketch (s .k) (s .w) letters)
-
-unfoldable pub patternOf : Settings → List ℕ → List Entry
-patternOf s letters = sketch (s .k) (s .w) letters
-
-unfoldable pub taskOf : Settings → List ℕ → List ℕ → Task
-taskOf s text read = record {
-  text = codes (textOf s text);
-  pattern = codes (patternOf s read);
-  u = s .u;
-  v = s .v;
-  threshold = s .threshold;
-}
+use Rattle.requests.specs.Requests.{Settings, taskOf}
 
 -- the first call's refusal; where it accepts, what the next one answers
 abbrev pub andThen : Reply → Reply → Reply

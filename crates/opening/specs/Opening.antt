@@ -5,14 +5,15 @@ use mathlib.Core.Path.{_≡_}
 use mathlib.Core.List.{List}
 use lib.IntN.{ℤ}
 use lib.ListN.{length}
+use Rattle.mappings.specs.Score.{taskWith}
 use Rattle.counts.specs.Replies.{Reply, accepted, refused, after}
 use Rattle.minimizers.specs.Kmers.{codes, positions, entries}
 use Rattle.strike.specs.Strike.{struck, strikeReply}
 use Rattle.start.specs.Start.{startReply, startWords}
-use Rattle.start.specs.Answers.{taskOf as taskWith}
+use Rattle.requests.specs.Requests.{Settings, textOf, patternOf, taskOf}
 use Rattle.reading.specs.Limits.{lineLimit}
-use Rattle.reading.specs.Input.{Settings, Input, malformed, given}
-use Rattle.opening.specs.Calls.{textOf, patternOf, taskOf, andThen, strikingReply, callsReply}
+use Rattle.reading.specs.Input.{Input, malformed, given}
+use Rattle.opening.specs.Calls.{andThen, strikingReply, callsReply}
 use Rattle.opening.specs.declared.calls.Opened.{Opened}
 use Rattle.opening.specs.declared.calls.Opened.the-variants.{Malformed, Refused, Session}
 

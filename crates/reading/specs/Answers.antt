@@ -7,9 +7,10 @@ use mathlib.Core.List.{List, []}
 use lib.Dec.{leb, ltb, eqb}
 use lib.ListN.{length, getD, take, drop}
 use Rattle.counts.specs.Lists.{every, partsBetween}
+use Rattle.requests.specs.Requests.{Settings}
 use Rattle.reading.specs.Limits.{lineLimit}
 use Rattle.listing.specs.Line.{space}
-use Rattle.reading.specs.Input.{isDigit, isDecimal, decimalValue, isUnsigned, isSigned, signedValue, isFirstLine, Settings, settingsOf, Input, malformed, given, inputOf}
+use Rattle.reading.specs.Input.{isDigit, isDecimal, decimalValue, isUnsigned, isSigned, signedValue, isFirstLine, settingsOf, Input, malformed, given, inputOf}
 use Rattle.reading.specs.declared.Number.{Number}
 use Rattle.reading.specs.declared.Number.the-variants.{Malformed as noNumber, Value as number}
 use Rattle.reading.specs.declared.Threshold.{Threshold}

@@ -1,5 +1,4 @@
 -- The three lines that `maplist` reads, and what is malformed.
--- Assumes nothing.
 use Prim.Native.Nat.{ℕ, _+_, _*_, _-_}
 use mathlib.Core.Bool.{Bool, false, cond, not, _&&_}
 use mathlib.Core.List.{List, [], _∷_}
@@ -9,6 +8,7 @@ use lib.IntN.{ℤ, pos, negℤ}
 use Rattle.counts.specs.Lists.{every, partsBetween}
 use Rattle.reading.specs.Limits.{lineLimit, wordLimit, signedLimit}
 use Rattle.listing.specs.Line.{space, lineFeed, minus, digit}
+use Rattle.requests.specs.Requests.{Settings}
 
 abbrev pub isDigit : ℕ → Bool
 isDigit b = leb (digit 0) b && leb b (digit 9)
@@ -68,14 +68,6 @@ isWellFormed ls =
     && leb (length (getD ls 2 [])) lineLimit
 
 -- the numbers of the first line
-pub record Settings : Type 0 where
-  pub k : ℕ
-  pub w : ℕ
-  pub c : ℕ
-  pub u : ℕ
-  pub v : ℕ
-  pub threshold : ℤ
-
 unfoldable pub settingsOf : List (List ℕ) → Settings
 settingsOf fs = record {
   k = decimalValue 0 (getD fs 0 []);

@@ -14,9 +14,9 @@ use Rattle.minimizers.specs.Kmers.{codes, positions}
 use Rattle.minimizers.specs.Sketch.{sketch}
 use Rattle.sketch.specs.Replies.{sketchReply}
 use Rattle.sketch.proofs.Accepted.{sketch-limits}
-use Rattle.minimizers.proofs.Laws.{positions-below}
+use Rattle.minimizers.proofs.Laws.{positions-below, length-codes, length-positions}
 use Rattle.strike.specs.Strike.{strikeReply}
-use Rattle.strike.proofs.Laws.{struck-positions-sublist, length-codes, length-positions}
+use Rattle.strike.proofs.Laws.{struck-positions-sublist}
 use Rattle.mappings.specs.Score.{Task}
 use Rattle.mappings.specs.Definition1.{Final}
 use Rattle.mappings.specs.Cells.{Cell, cellsOf, hitCount, isFinalCell, mappingOf, leftEnd, rightEnd}
@@ -24,9 +24,10 @@ use Rattle.mappings.proofs.Definition1.{test-final}
 use Rattle.start.specs.Start.{startReply, startWords, afterStart}
 use Rattle.start.specs.WorkWords.{sessionWords}
 use Rattle.mapper.proofs.Accepted.{admitted}
+use Rattle.requests.specs.Requests.{Settings, textOf, patternOf, taskOf}
 use Rattle.reading.specs.Limits.{lineLimit}
-use Rattle.reading.specs.Input.{Settings, given}
-use Rattle.opening.specs.Calls.{textOf, patternOf, taskOf, andThen, sketchesReply, strikingReply, callsReply}
+use Rattle.reading.specs.Input.{given}
+use Rattle.opening.specs.Calls.{andThen, sketchesReply, strikingReply, callsReply}
 use Rattle.opening.specs.Opening.{positionsAfter, workAfter, whereAccepted}
 use Rattle.report.specs.Output.{mappingLine, mappingLines, finalCells, lastLine, listOf, headerLine}
 use Rattle.report.specs.Pieces.{restOf, Belongs}

@@ -11,9 +11,10 @@ use lib.IntN.{pos, negℤ}
 use lib.Signed.{mag}
 use borrow.Author.Tests.{ltb-true, leb-true}
 use Rattle.counts.proofs.Lists.{and-left, and-right}
+use Rattle.requests.specs.Requests.{Settings}
 use Rattle.reading.specs.Limits.{lineLimit, signedLimit}
 use Rattle.listing.specs.Line.{minus}
-use Rattle.reading.specs.Input.{isDecimal, decimalValue, isUnsigned, isSigned, signedValue, fields, lines, isFirstLine, isWellFormed, Settings, settingsOf, malformed, given, inputOf}
+use Rattle.reading.specs.Input.{isDecimal, decimalValue, isUnsigned, isSigned, signedValue, fields, lines, isFirstLine, isWellFormed, settingsOf, malformed, given, inputOf}
 
 negative-fits : (n : ℕ) → 0 < n → n ≤ signedLimit → mag (negℤ (pos n)) < signedLimit
 negative-fits zero h l = absurd (omega arith)

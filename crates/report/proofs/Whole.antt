@@ -13,12 +13,13 @@ use Rattle.mappings.specs.Score.{Task}
 use Rattle.mappings.specs.Cells.{hitCount, cellCount}
 use Rattle.mapper.specs.Promise.{Accepts}
 use Rattle.start.specs.WorkWords.{sessionWords}
+use Rattle.requests.specs.Requests.{Settings, textOf, patternOf, taskOf}
 use Rattle.reading.specs.Limits.{lineLimit, inputLimit}
 use Rattle.listing.specs.Line.{decimal}
-use Rattle.reading.specs.Input.{Settings, Input, malformed, given, inputOf}
+use Rattle.reading.specs.Input.{Input, malformed, given, inputOf}
 use Rattle.listing.proofs.Decimal.{length-decimal}
 use Rattle.reading.proofs.Enough.{enough-bytes}
-use Rattle.opening.specs.Calls.{textOf, patternOf, taskOf, callsReply}
+use Rattle.opening.specs.Calls.{callsReply}
 use Rattle.opening.specs.Opening.{openedBy, openedOf, positionsAfter, workAfter}
 use Rattle.opening.specs.declared.calls.Opened.{Opened}
 use Rattle.opening.specs.declared.calls.Opened.the-variants.{Malformed, Refused, Session}

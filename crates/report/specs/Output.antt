@@ -9,11 +9,12 @@ use Rattle.minimizers.specs.Kmers.{positions}
 use Rattle.mappings.specs.Limits.{workWords}
 use Rattle.mappings.specs.Score.{Task, lengthOf}
 use Rattle.mappings.specs.Cells.{Cell, Mapping, cellsOf, isFinalCell, mappingOf}
+use Rattle.requests.specs.Requests.{Settings, textOf, patternOf, taskOf}
 use Rattle.reading.specs.Limits.{lineLimit}
 use Rattle.listing.specs.PerMille.{perMille}
 use Rattle.listing.specs.Line.{decimal, line, space, lineFeed}
-use Rattle.reading.specs.Input.{Settings, Input, malformed, given, inputOf}
-use Rattle.opening.specs.Calls.{textOf, patternOf, taskOf, callsReply}
+use Rattle.reading.specs.Input.{Input, malformed, given, inputOf}
+use Rattle.opening.specs.Calls.{callsReply}
 
 -- `refused`, `input`, `found`, `cells` and the header `first last score shared permille`, as bytes
 abbrev pub refusedWord : List ℕ

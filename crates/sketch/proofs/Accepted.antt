@@ -1,18 +1,21 @@
--- What an accepted sketch says: k and the letters are within their limits, and both buffers hold the entries answered.
--- Assumes nothing.
-use Prim.Native.Nat.{ℕ, _≤_}
-use mathlib.Core.Path.{_≡_}
+-- What an accepted sketch says: k and the letters are within their limits, both buffers hold the entries answered, and what was written
+-- into them. A session rests on these laws, and not on how a sketch is made.
+use Prim.Native.Nat.{ℕ, _+_, _≤_, _<_}
+use mathlib.Core.Path.{_≡_, sym, _∙_}
 use mathlib.Core.Bool.{_||_}
 use mathlib.Core.List.{List, [], _∷_}
 use lib.Dec.{ltb}
-use lib.ListN.{length}
+use lib.ListN.{length, getD, take, drop}
+use lib.Seq.{take-append-seam}
 use borrow.Author.Tests.{ltb-false}
-use Rattle.counts.specs.Replies.{accepted}
+use Rattle.counts.specs.Replies.{Reply, accepted, after}
 use Rattle.counts.proofs.Lists.{or-neither}
 use Rattle.counts.proofs.Replies.{not-refused}
 use Rattle.minimizers.specs.Limits.{kLimit, wLimit, letterLimit, outside}
+use Rattle.minimizers.specs.Kmers.{Entry, codes, positions, entries}
 use Rattle.minimizers.specs.Sketch.{sketch}
-use Rattle.sketch.specs.Replies.{checkedLetters, roomFor, sketchReply}
+use Rattle.minimizers.proofs.Laws.{length-codes, length-positions, entries-same, positions-strictly, positions-inside}
+use Rattle.sketch.specs.Replies.{checkedLetters, roomFor, sketchReply, sketchCodes, sketchPositions}
 
 -- the entries answered are those needed, and both buffers hold them
 pub record Held (n codeRoom positionRoom m : ℕ) : Type 0 where
@@ -49,3 +52,40 @@ sketch-limits k w letters a b values e =
     let r = not-refused (ltb letterLimit (length letters)) 3 [] _ values (q .1) in
     let ks = or-neither (ltb k 1) (ltb kLimit k) (p .0) in
     (ltb-false k 1 (ks .0), ltb-false kLimit k (ks .1), ltb-false letterLimit (length letters) (r .0))
+
+-- ---- what an accepted call wrote
+
+-- in front of two buffers stand these entries: a word of each buffer for an entry, so that codes and positions pair
+pub record Wrote (es : List Entry) (n : ℕ) (codes′ positions′ : List ℕ) : Type 0 where
+  pub number : n ≡ length es
+  pub codes-are : take n codes′ ≡ codes es
+  pub positions-are : take n positions′ ≡ positions es
+  pub paired : entries (take n codes′) (take n positions′) ≡ es
+
+front : (reply : Reply) (values new old : List ℕ) (n : ℕ) → reply ≡ accepted values → n ≡ length new → take n (after reply new old) ≡ new
+front reply values new old n e l = rw (e, l) (take-append-seam new (drop (length new) old))
+
+pub reply-wrote : (reply : Reply) (values : List ℕ) (es : List Entry) (codes₀ positions₀ : List ℕ) (n : ℕ) → reply ≡ accepted values → n ≡ length es
+    → Wrote es n (after reply (codes es) codes₀) (after reply (positions es) positions₀)
+reply-wrote reply values es codes₀ positions₀ n e l =
+    let cs : take n (after reply (codes es) codes₀) ≡ codes es = front reply values (codes es) codes₀ n e (l ∙ sym (length-codes es)) in
+    let ps : take n (after reply (positions es) positions₀) ≡ positions es = front reply values (positions es) positions₀ n e (l ∙ sym (length-positions es)) in
+    record { number = l; codes-are = cs; positions-are = ps; paired = rw (cs, ps) (entries-same es) }
+
+pub sketch-wrote : (k w : ℕ) (letters codes₀ positions₀ : List ℕ) (n : ℕ) → sketchReply k w letters (length codes₀) (length positions₀) ≡ accepted (n ∷ [])
+    → Wrote (sketch k w letters) n (sketchCodes k w letters codes₀ positions₀) (sketchPositions k w letters codes₀ positions₀)
+unfolding sketchCodes sketchPositions
+sketch-wrote k w letters codes₀ positions₀ n e =
+    reply-wrote (sketchReply k w letters (length codes₀) (length positions₀)) (n ∷ []) (sketch k w letters) codes₀ positions₀ n e
+    (sketch-held k w letters (length codes₀) (length positions₀) n e .number)
+
+-- positions rise strictly, and each k-mer lies within the letters
+pub record Placed (k : ℕ) (letters ps : List ℕ) : Type 0 where
+  pub rising : (i j : ℕ) → i < j → j < length ps → getD ps i 0 < getD ps j 0
+  pub inside : (i : ℕ) → i < length ps → getD ps i 0 + k ≤ length letters
+
+pub sketch-placed : (k w : ℕ) (letters : List ℕ) (a b : ℕ) (values : List ℕ) → sketchReply k w letters a b ≡ accepted values
+    → Placed k letters (positions (sketch k w letters))
+sketch-placed k w letters a b values e =
+    let some = sketch-limits k w letters a b values e .0 in
+    record { rising = positions-strictly k w letters some; inside = positions-inside k w letters some }

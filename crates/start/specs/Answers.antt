@@ -1,10 +1,7 @@
--- What the cases of start's answer say in document 01's numbers, and the task that its arguments make.
--- Assumes nothing.
-use Prim.Native.Nat.{ℕ}
+-- What the cases of start's answer say in document 01's numbers.
 use mathlib.Core.Bool.{cond}
-use mathlib.Core.List.{List, [], _∷_}
+use mathlib.Core.List.{[], _∷_}
 use lib.Dec.{ltb}
-use lib.IntN.{ℤ}
 use Rattle.counts.specs.Replies.{Reply, accepted, refused}
 use Rattle.mappings.specs.Limits.{hitLimit}
 use Rattle.mappings.specs.Score.{Task}
@@ -21,10 +18,6 @@ startedReply TooManyEntries = refused 8 []
 startedReply BadPattern = refused 9 []
 startedReply TooFewWords = refused 10 []
 startedReply (TooManyHits h) = refused 11 (h ∷ [])
-
--- what start's arguments ask to be mapped
-abbrev pub taskOf : List ℕ → List ℕ → ℕ → ℕ → ℤ → Task
-taskOf text pattern u v threshold = record { text = text; pattern = pattern; u = u; v = v; threshold = threshold }
 
 -- what start answers where only the number of hits is left to judge
 unfoldable pub hitReply : Task → Reply

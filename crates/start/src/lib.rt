@@ -31,11 +31,11 @@ ghost use Prim.Native.Nat.{ℕ, _≤_, _<_};
 ghost use lib.ListN.{length, getD};
 ghost use Rattle.counts.specs.Sorting.{Sorted, SortedCopyOf};
 ghost use Rattle.minimizers.specs.Limits.{outside};
-ghost use Rattle.mappings.specs.Score.{Task};
+ghost use Rattle.mappings.specs.Score.{Task, taskWith};
 ghost use Rattle.mappings.specs.Limits.{weightLimit};
 ghost use Rattle.start.specs.WorkWords.{sessionWords};
 ghost use Rattle.start.specs.Start.{startReply, startWords, afterStart};
-ghost use Rattle.start.specs.Answers.{startedReply, taskOf, hitReply};
+ghost use Rattle.start.specs.Answers.{startedReply, hitReply};
 ghost use Rattle.start.specs.Noting.{wordsAt, Begin, backs as backsOf, Prepared};
 
 // h, or why the call is refused: 7, 8, 9, 10, or 11 with h.
@@ -115,8 +115,8 @@ fn begin_sorted(
     work: &mut [u32],
 ) -> Started
     requires { ⌜ (length (now text) ≤ 65535) × (length (now sorted) ≤ 4096) × (16384 ≤ length (now work)) × Sorted (now sorted) ⌝ }
-    ensures { λ r. ⌜ ((pattern : List ℕ) → SortedCopyOf pattern (now (sorted .entry)) → startedReply r ≡ hitReply (taskOf (now (text .entry)) pattern u v threshold)) ⌝ }
-    ensures { λ r. ⌜ ((pattern : List ℕ) → SortedCopyOf pattern (now (sorted .entry)) → now (work .exit) ≡ afterStart (startedReply r) (taskOf (now (text .entry)) pattern u v threshold) (now (work .entry))) ⌝ }
+    ensures { λ r. ⌜ ((pattern : List ℕ) → SortedCopyOf pattern (now (sorted .entry)) → startedReply r ≡ hitReply (taskWith (now (text .entry)) pattern u v threshold)) ⌝ }
+    ensures { λ r. ⌜ ((pattern : List ℕ) → SortedCopyOf pattern (now (sorted .entry)) → now (work .exit) ≡ afterStart (startedReply r) (taskWith (now (text .entry)) pattern u v threshold) (now (work .entry))) ⌝ }
 {
     let mut index = zeros_2048();
     let mut slots = zeros_2048();
@@ -139,8 +139,8 @@ fn begin_sorted(
 // What is left of start once all but the number of hits is judged.
 fn begin(text: &[u32], pattern: &[u32], u: u32, v: u32, threshold: i32, work: &mut [u32]) -> Started
     requires { ⌜ (length (now text) ≤ 65535) × (length (now pattern) ≤ 4096) × (16384 ≤ length (now work)) ⌝ }
-    ensures { λ r. ⌜ startedReply r ≡ hitReply (taskOf (now (text .entry)) (now (pattern .entry)) u v threshold) ⌝ }
-    ensures { λ r. ⌜ now (work .exit) ≡ afterStart (startedReply r) (taskOf (now (text .entry)) (now (pattern .entry)) u v threshold) (now (work .entry)) ⌝ }
+    ensures { λ r. ⌜ startedReply r ≡ hitReply (taskWith (now (text .entry)) (now (pattern .entry)) u v threshold) ⌝ }
+    ensures { λ r. ⌜ now (work .exit) ≡ afterStart (startedReply r) (taskWith (now (text .entry)) (now (pattern .entry)) u v threshold) (now (work .entry)) ⌝ }
 {
     let n = pattern.len();
     let mut sorted = zeros_4096();
@@ -157,8 +157,8 @@ pub fn start(
     threshold: i32,
     work: &mut [u32],
 ) -> Started
-    ensures { λ r. ⌜ startedReply r ≡ startReply (taskOf (now (text .entry)) (now (pattern .entry)) u v threshold) (length (now (work .entry))) ⌝ }
-    ensures { λ _. ⌜ now (work .exit) ≡ startWords (taskOf (now (text .entry)) (now (pattern .entry)) u v threshold) (now (work .entry)) ⌝ }
+    ensures { λ r. ⌜ startedReply r ≡ startReply (taskWith (now (text .entry)) (now (pattern .entry)) u v threshold) (length (now (work .entry))) ⌝ }
+    ensures { λ _. ⌜ now (work .exit) ≡ startWords (taskWith (now (text .entry)) (now (pattern .entry)) u v threshold) (now (work .entry)) ⌝ }
 {
     if bad_weight(u) {
         return Started::BadWeights;

@@ -1,5 +1,4 @@
--- What an accepted strike says: both buffers hold the entries answered, which are those kept.
--- Assumes nothing.
+-- What an accepted strike says: both buffers hold the entries answered, which are those kept, and what was written into them.
 use Prim.Native.Nat.{ℕ}
 use mathlib.Core.Path.{_≡_}
 use mathlib.Core.Bool.{not}
@@ -11,8 +10,8 @@ use Rattle.counts.proofs.Replies.{not-refused}
 use Rattle.minimizers.specs.Limits.{outside}
 use Rattle.sketch.specs.Limits.{textLimit}
 use Rattle.minimizers.specs.Kmers.{entries}
-use Rattle.sketch.proofs.Accepted.{Held, room-held}
-use Rattle.strike.specs.Strike.{strikeLimit, struck, strikeReply}
+use Rattle.sketch.proofs.Accepted.{Held, room-held, Wrote, reply-wrote}
+use Rattle.strike.specs.Strike.{strikeLimit, struck, strikeReply, strikeCodes, strikePositions}
 
 pub strike-held : (cs ps : List ℕ) (c a b m : ℕ) → strikeReply cs ps c a b ≡ accepted (m ∷ []) → Held (length (struck c (entries cs ps))) a b m
 unfolding strikeReply
@@ -21,3 +20,11 @@ strike-held cs ps c a b m e =
     let q = not-refused (ltb textLimit (length cs)) 8 [] _ (m ∷ []) (p .1) in
     let r = not-refused (outside 1 strikeLimit c) 6 [] _ (m ∷ []) (q .1) in
     room-held (length (struck c (entries cs ps))) a b m (r .1)
+
+-- the entries kept stand in front of the two buffers
+pub strike-wrote : (cs ps : List ℕ) (c : ℕ) (codes₀ positions₀ : List ℕ) (m : ℕ) → strikeReply cs ps c (length codes₀) (length positions₀) ≡ accepted (m ∷ [])
+    → Wrote (struck c (entries cs ps)) m (strikeCodes cs ps c codes₀ positions₀) (strikePositions cs ps c codes₀ positions₀)
+unfolding strikeCodes strikePositions
+strike-wrote cs ps c codes₀ positions₀ m e =
+    reply-wrote (strikeReply cs ps c (length codes₀) (length positions₀)) (m ∷ []) (struck c (entries cs ps)) codes₀ positions₀ m e
+    (strike-held cs ps c (length codes₀) (length positions₀) m e .number)

@@ -6,7 +6,7 @@ use mathlib.Core.Path.{_≡_, refl, ap, _∙_}
 use mathlib.Core.Bool.{Bool, true, false}
 use mathlib.Core.List.{List, [], _∷_, map, List·Memᴰ, Sublistᴰ, Sublistᴰ·slnil, Sublistᴰ·cons, Sublistᴰ·cons-cons}
 use lib.Dec.{eqb, leb}
-use lib.ListN.{length, getD, length-map}
+use lib.ListN.{length, getD}
 use borrow.Author.Tests.{leb-true, le-leb}
 use Rattle.counts.specs.Lists.{bit, addIf, keep}
 use Rattle.counts.specs.Counts.{occ}
@@ -14,6 +14,7 @@ use Rattle.counts.proofs.Lists.{clash, keep-mem, mem-keep, length-keep}
 use Rattle.counts.proofs.Counts.{bit-other}
 use Rattle.sketch.specs.Limits.{textLimit}
 use Rattle.minimizers.specs.Kmers.{Entry, codes, positions}
+use Rattle.minimizers.proofs.Laws.{length-codes}
 use Rattle.strike.specs.Strike.{strike, struck}
 
 -- ---- order
@@ -37,7 +38,7 @@ struck-sublist : (c : ℕ) (es : List Entry) → Sublistᴰ (struck c es) es
 unfolding struck strike
 struck-sublist c es = keep-sublist (λ (e : Entry). leb (occ (e .code) (codes es)) c) es
 
-pub struck-positions-sublist : (c : ℕ) (es : List Entry) → Sublistᴰ (positions (struck c es)) (positions es)
+struck-positions-sublist : (c : ℕ) (es : List Entry) → Sublistᴰ (positions (struck c es)) (positions es)
 struck-positions-sublist c es = map-sublist (λ (e : Entry). e .position) (struck-sublist c es)
 
 -- what stands in a sublist stands in the list
@@ -63,6 +64,11 @@ rising-sublist (Sublistᴰ·cons-cons {l₂ = r} e s) rise zero (suc j) h m =
     rw (e, t .2) (rise 0 (suc (t .0)) (omega arith) (let n : t .0 < length r = t .1 in omega arith))
 rising-sublist (Sublistᴰ·cons-cons e s) rise (suc i) zero h m = absurd (omega arith)
 rising-sublist (Sublistᴰ·cons-cons {b = b} {l₂ = r} e s) rise (suc i) (suc j) h m = rising-sublist s (rising-tail b r rise) i j (omega arith) (omega arith)
+
+-- what is below a bound at each position still is
+pub struck-below : (n c : ℕ) (es : List Entry) → ((j : ℕ) → j < length (positions es) → getD (positions es) j 0 < n)
+    → (i : ℕ) → i < length (positions (struck c es)) → getD (positions (struck c es)) i 0 < n
+struck-below n c es below i h = let at = sublist-at (struck-positions-sublist c es) i h in rw (at .2) (below (at .0) (at .1))
 
 -- positions that rise strictly still do
 pub struck-rising : (c : ℕ) (es : List Entry) → StrictlyRising (positions es) → StrictlyRising (positions (struck c es))
@@ -113,12 +119,6 @@ struck-occ c es x h = ap (occ x) (struck-keeps c es) ∙ occ-keep (λ (y : ℕ).
 struck-length : (c : ℕ) (es : List Entry) → length (struck c es) ≤ length es
 unfolding struck strike
 struck-length c es = length-keep (λ (e : Entry). leb (occ (e .code) (codes es)) c) es
-
-pub length-codes : (es : List Entry) → length (codes es) ≡ length es
-length-codes es = length-map es (λ (e : Entry). e .code)
-
-pub length-positions : (es : List Entry) → length (positions es) ≡ length es
-length-positions es = length-map es (λ (e : Entry). e .position)
 
 -- a text within the limit is within it when struck
 pub struck-within : (c : ℕ) (es : List Entry) → length es ≤ textLimit → length (codes (struck c es)) ≤ textLimit

@@ -4,8 +4,7 @@ use lib.IntN.{ℤ}
 use lib.ListN.{length}
 use mir.Syntax.{w32}
 use mir.ValLaws.{toZ-ofZ}
-use Rattle.mappings.specs.Score.{Task}
-use Rattle.start.specs.Answers.{taskOf}
+use Rattle.mappings.specs.Score.{Task, taskWith}
 use Rattle.start.specs.Start.{startReply, startWords}
 use Rattle.answers.specs.Numbers.{numberOf, valueOf}
 use borrow.Author.Needs.{needs}
@@ -25,7 +24,7 @@ returns : tie.Need-returns
 returns c =
     let args = c .before .before .before .before .before .before .before .before .args in
     let s = c .before .before .before .start .ensures in
-    let task : ℤ → Task = λ z. taskOf (args .text .now) (args .pattern .now) (args .u) (args .v) z in
+    let task : ℤ → Task = λ z. taskWith (args .text .now) (args .pattern .now) (args .u) (args .v) z in
     let same = toZ-ofZ w32 (args .threshold) (c .before .before .before .before .before .before .before .before .fits .threshold) in
     let reply = s .0 ∙ ap (λ (z : ℤ). startReply (task z) (length (args .work .now))) same in
     (c .of-start .ensures .1 ∙ ap valueOf reply, (c .of-start .ensures .0 ∙ ap numberOf reply, s .1 ∙ ap (λ (z : ℤ). startWords (task z) (args .work .now)) same))

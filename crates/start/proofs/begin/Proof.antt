@@ -1,6 +1,7 @@
 -- `begin` meets its contract. Assumes nothing.
 use borrow.Author.Needs.{needs}
-use Rattle.start.specs.Answers.{startedReply, taskOf, hitReply}
+use Rattle.mappings.specs.Score.{taskWith}
+use Rattle.start.specs.Answers.{startedReply, hitReply}
 use Rattle.start.specs.Start.{afterStart}
 use mir.ValLaws.{toZ-ofZ}
 use mir.Syntax.{w32}
@@ -89,8 +90,8 @@ returns c =
     let copy : SortedCopyOf pattern (take (length pattern) (new ++ rest)) = sorted-front pattern (take (length pattern) (zeros .result)) new rest (sort .ensures .1) few part in
     let args = c .before .before .before .before .before .before .before .before .before .before .before .before .args in
     let same = toZ-ofZ w32 (args .threshold) (c .before .before .before .before .before .before .before .before .before .before .before .before .fits .threshold) in (
-      subst (λ (z : ℤ). startedReply (c .before .before .begin-sorted .result) ≡ hitReply (taskOf (args .text .now) pattern (args .u) (args .v) z)) same (c .before .before .begin-sorted .ensures .0 pattern copy),
-      subst (λ (z : ℤ). c .before .before .begin-sorted .last .1 .1 .1 .1 .1 .0 ≡ afterStart (startedReply (c .before .before .begin-sorted .result)) (taskOf (args .text .now) pattern (args .u) (args .v) z) (args .work .now)) same (c .before .before .begin-sorted .ensures .1 pattern copy),
+      subst (λ (z : ℤ). startedReply (c .before .before .begin-sorted .result) ≡ hitReply (taskWith (args .text .now) pattern (args .u) (args .v) z)) same (c .before .before .begin-sorted .ensures .0 pattern copy),
+      subst (λ (z : ℤ). c .before .before .begin-sorted .last .1 .1 .1 .1 .1 .0 ≡ afterStart (startedReply (c .before .before .begin-sorted .result)) (taskWith (args .text .now) pattern (args .u) (args .v) z) (args .work .now)) same (c .before .before .begin-sorted .ensures .1 pattern copy),
     )
 
 pub begin-spec : {M : Type 1} → statement M

@@ -1,7 +1,7 @@
 -- `begin_sorted` meets its contract. Assumes nothing.
 use borrow.Author.Needs.{needs}
+use Rattle.mappings.specs.Score.{taskWith}
 use Rattle.start.proofs.Starting.{number-is, index-are, slots-begin, backs-are, reply-hits, reply-many, own-copy}
-use Rattle.start.specs.Answers.{taskOf}
 use Rattle.mappings.specs.Bias.{biasedZ}
 use mir.ValLaws.{toZ-ofZ}
 use mir.Syntax.{w32}
@@ -46,7 +46,7 @@ returns c =
     let start = c .before .before .before .before .before .before .before .before .before .before .before in
     let collect = c .before .before .before .collect in (
       λ pattern copy.
-          let task = taskOf (start .args .text .now) pattern (start .args .u) (start .args .v) (start .args .threshold) in
+          let task = taskWith (start .args .text .now) pattern (start .args .u) (start .args .v) (start .args .threshold) in
           reply-many task (collect .result) (number-is task (start .args .sorted .now) (collect .last .1 .1 .0) (collect .last .1 .1 .1 .0) (collect .result) copy (collect .ensures)) (c .if1 .taken),
       λ pattern copy. refl,
     )
@@ -73,7 +73,7 @@ put-session-requires c κs =
     let collect = few .before .before .before .collect in
     let index-long = length-take-le (collect .result) (collect .last .1 .1 .0) (index-room few) in
     let slots-long = length-take-le (collect .result) (collect .last .1 .1 .1 .0) (slots-room few) in
-    let task = taskOf (start .args .text .now) (start .args .sorted .now) (start .args .u) (start .args .v) (start .args .threshold) in (
+    let task = taskWith (start .args .text .now) (start .args .sorted .now) (start .args .u) (start .args .v) (start .args .threshold) in (
       slots-begin task (start .args .sorted .now) (collect .last .1 .1 .0) (collect .last .1 .1 .1 .0) (collect .result) (own-copy (start .args .sorted .now) (start .pre .3)) (collect .ensures) (index-room few) (slots-room few),
       (start .pre .1, omega (arith, index-long, few .if1 .left), slots-long ∙ sym index-long, start .pre .2),
     )
@@ -90,10 +90,10 @@ returns-2 c =
     let index = collect .last .1 .1 .0 in
     let slots = collect .last .1 .1 .1 .0 in (
       λ pattern copy.
-          let task = taskOf (start .args .text .now) pattern (start .args .u) (start .args .v) (start .args .threshold) in
+          let task = taskWith (start .args .text .now) pattern (start .args .u) (start .args .v) (start .args .threshold) in
           reply-hits task (collect .result) (number-is task sorted index slots (collect .result) copy (collect .ensures)) (few .if1 .left),
       λ pattern copy.
-          let task = taskOf (start .args .text .now) pattern (start .args .u) (start .args .v) (start .args .threshold) in
+          let task = taskWith (start .args .text .now) pattern (start .args .u) (start .args .v) (start .args .threshold) in
           c .before .before .put-session .ensures task
           (record {
             u-is = refl;

@@ -1,7 +1,8 @@
 -- `start` meets its contract: each way out has the tests that it took. Assumes nothing.
 use borrow.Author.Needs.{needs}
+use Rattle.mappings.specs.Score.{taskWith}
 use Rattle.start.proofs.Replies.{words-of, bad-u, bad-v, long-text, no-pattern, long-pattern, few-words, hits-left}
-use Rattle.start.specs.Answers.{startedReply, taskOf, hitReply}
+use Rattle.start.specs.Answers.{startedReply, hitReply}
 use Rattle.start.specs.Start.{afterStart}
 use Rattle.counts.specs.Replies.{refused}
 use mir.ValLaws.{toZ-ofZ}
@@ -23,7 +24,7 @@ bad-weight-requires c κs = search needs
 returns : tie.Need-returns
 returns c =
     let args = c .before .before .before .before .before .args in
-    let task = taskOf (args .text .now) (args .pattern .now) (args .u) (args .v) (args .threshold) in
+    let task = taskWith (args .text .now) (args .pattern .now) (args .u) (args .v) (args .threshold) in
     let work = args .work .now in
     let e = bad-u task (length work) (sym (c .before .bad-weight .ensures) ∙ c .if1 .taken) in
     (e, words-of task work (refused 7 []) e)
@@ -34,7 +35,7 @@ bad-weight-requires-2 c κs = search needs
 returns-2 : tie.Need-returns-2
 returns-2 c =
     let args = c .before .before .before .before .before .before .before .args in
-    let task = taskOf (args .text .now) (args .pattern .now) (args .u) (args .v) (args .threshold) in
+    let task = taskWith (args .text .now) (args .pattern .now) (args .u) (args .v) (args .threshold) in
     let work = args .work .now in
     let good-u = sym (c .before .before .before .bad-weight .ensures) ∙ c .before .before .if1 .left in
     let e = bad-v task (length work) good-u (sym (c .before .bad-weight2 .ensures) ∙ c .if2 .taken) in
@@ -43,7 +44,7 @@ returns-2 c =
 returns-3 : tie.Need-returns-3
 returns-3 c =
     let args = c .before .before .before .before .before .before .before .before .args in
-    let task = taskOf (args .text .now) (args .pattern .now) (args .u) (args .v) (args .threshold) in
+    let task = taskWith (args .text .now) (args .pattern .now) (args .u) (args .v) (args .threshold) in
     let work = args .work .now in
     let good-u = sym (c .before .before .before .before .bad-weight .ensures) ∙ c .before .before .before .if1 .left in
     let good-v = sym (c .before .before .bad-weight2 .ensures) ∙ c .before .if2 .left in
@@ -53,7 +54,7 @@ returns-3 c =
 returns-4 : tie.Need-returns-4
 returns-4 c =
     let args = c .before .before .before .before .before .before .before .before .before .args in
-    let task = taskOf (args .text .now) (args .pattern .now) (args .u) (args .v) (args .threshold) in
+    let task = taskWith (args .text .now) (args .pattern .now) (args .u) (args .v) (args .threshold) in
     let work = args .work .now in
     let good-u = sym (c .before .before .before .before .before .bad-weight .ensures) ∙ c .before .before .before .before .if1 .left in
     let good-v = sym (c .before .before .before .bad-weight2 .ensures) ∙ c .before .before .if2 .left in
@@ -63,7 +64,7 @@ returns-4 c =
 returns-5 : tie.Need-returns-5
 returns-5 c =
     let args = c .before .before .before .before .before .before .before .before .before .before .args in
-    let task = taskOf (args .text .now) (args .pattern .now) (args .u) (args .v) (args .threshold) in
+    let task = taskWith (args .text .now) (args .pattern .now) (args .u) (args .v) (args .threshold) in
     let work = args .work .now in
     let good-u = sym (c .before .before .before .before .before .before .bad-weight .ensures) ∙ c .before .before .before .before .before .if1 .left in
     let good-v = sym (c .before .before .before .before .bad-weight2 .ensures) ∙ c .before .before .before .if2 .left in
@@ -73,7 +74,7 @@ returns-5 c =
 returns-6 : tie.Need-returns-6
 returns-6 c =
     let args = c .before .before .before .before .before .before .before .before .before .before .before .args in
-    let task = taskOf (args .text .now) (args .pattern .now) (args .u) (args .v) (args .threshold) in
+    let task = taskWith (args .text .now) (args .pattern .now) (args .u) (args .v) (args .threshold) in
     let work = args .work .now in
     let good-u = sym (c .before .before .before .before .before .before .before .bad-weight .ensures) ∙ c .before .before .before .before .before .before .if1 .left in
     let good-v = sym (c .before .before .before .before .before .bad-weight2 .ensures) ∙ c .before .before .before .before .if2 .left in
@@ -89,14 +90,14 @@ same-length c = search needs
 returns-7 : tie.Need-returns-7
 returns-7 c =
     let args = c .before .before .before .before .before .before .before .before .before .before .before .before .before .before .before .args in
-    let task = taskOf (args .text .now) (args .pattern .now) (args .u) (args .v) (args .threshold) in
+    let task = taskWith (args .text .now) (args .pattern .now) (args .u) (args .v) (args .threshold) in
     let work = args .work .now in
     let good-u = sym (c .before .before .before .before .before .before .before .before .before .before .before .bad-weight .ensures) ∙ c .before .before .before .before .before .before .before .before .before .before .if1 .left in
     let good-v = sym (c .before .before .before .before .before .before .before .before .before .bad-weight2 .ensures) ∙ c .before .before .before .before .before .before .before .before .if2 .left in
     let begin = c .before .before .begin in
     let same = toZ-ofZ w32 (args .threshold) (c .before .before .before .before .before .before .before .before .before .before .before .before .before .before .before .fits .threshold) in
-    let e = subst (λ (z : ℤ). startedReply (begin .result) ≡ hitReply (taskOf (args .text .now) (args .pattern .now) (args .u) (args .v) z)) same (begin .ensures .0) ∙ hits-left task (length work) good-u good-v (c .before .before .before .before .before .before .before .if3 .left) (c .before .before .before .before .before .before .if4 .left) (c .before .before .before .before .before .if5 .left) (c .before .before .before .before .if6 .left) in
-    (e, subst (λ (z : ℤ). begin .last .1 .1 .1 .1 .1 .0 ≡ afterStart (startedReply (begin .result)) (taskOf (args .text .now) (args .pattern .now) (args .u) (args .v) z) work) same (begin .ensures .1) ∙ words-of task work (startedReply (begin .result)) e)
+    let e = subst (λ (z : ℤ). startedReply (begin .result) ≡ hitReply (taskWith (args .text .now) (args .pattern .now) (args .u) (args .v) z)) same (begin .ensures .0) ∙ hits-left task (length work) good-u good-v (c .before .before .before .before .before .before .before .if3 .left) (c .before .before .before .before .before .before .if4 .left) (c .before .before .before .before .before .if5 .left) (c .before .before .before .before .if6 .left) in
+    (e, subst (λ (z : ℤ). begin .last .1 .1 .1 .1 .1 .0 ≡ afterStart (startedReply (begin .result)) (taskWith (args .text .now) (args .pattern .now) (args .u) (args .v) z) work) same (begin .ensures .1) ∙ words-of task work (startedReply (begin .result)) e)
 
 pub start-spec : {M : Type 1} → statement M
 start-spec =

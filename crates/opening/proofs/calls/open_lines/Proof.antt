@@ -10,7 +10,7 @@ use lib.Seq.{length-take-le}
 use mir.Syntax.{w32}
 use mir.Val.{toZ, ofZ}
 use mir.ValLaws.{toZ-ofZ}
-use Rattle.reading.specs.Input.{Settings}
+use Rattle.requests.specs.Requests.{Settings}
 use Rattle.opening.specs.Opening.{settings, OpensSketches}
 use Rattle.opening.proofs.Letters.{sketch-number, sketch-accepts, sketch-inside, codes-front, positions-front, text-refused, read-refused, opens-fronts}
 use borrow.Author.Needs.{needs}

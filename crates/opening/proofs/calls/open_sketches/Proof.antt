@@ -11,9 +11,9 @@ use lib.Seq.{length-take-le}
 use mir.Syntax.{w32}
 use mir.Val.{toZ, ofZ}
 use mir.ValLaws.{toZ-ofZ}
-use Rattle.mappings.specs.Score.{Task}
+use Rattle.mappings.specs.Score.{Task, taskWith}
 use Rattle.start.specs.Start.{startReply, startWords}
-use Rattle.start.specs.Answers.{startedReply, taskOf}
+use Rattle.start.specs.Answers.{startedReply}
 use Rattle.opening.specs.Opening.{OpensSketches}
 use Rattle.opening.specs.declared.calls.Opened.{Opened}
 use Rattle.opening.specs.declared.calls.Opened.the-variants.{Refused, Session}
@@ -85,7 +85,7 @@ module _ (c : tie.After-of-start) where
       let args = at-start call .args in
       let same : toZ w32 (ofZ w32 (args .threshold)) ≡ args .threshold = toZ-ofZ w32 (args .threshold) (at-start call .fits .threshold) in
       let zero : n call ≡ 0 = at-begin .before .before .before .if1 .left in
-      let task : ℤ → Task = λ z. taskOf (take (m call) (written call)) (args .pattern .now) (args .u) (args .v) z in
+      let task : ℤ → Task = λ z. taskWith (take (m call) (written call)) (args .pattern .now) (args .u) (args .v) z in
       let reply : startedReply (at-begin .start .result) ≡ startReply (task (args .threshold)) (length (args .work .now)) = subst (λ (z : ℤ). startedReply (at-begin .start .result) ≡ startReply (task z) (length (args .work .now))) same (at-begin .start .ensures .0) in
       let words : at-begin .start .last .1 .1 .1 .1 .1 .0 ≡ startWords (task (args .threshold)) (args .work .now) = subst (λ (z : ℤ). at-begin .start .last .1 .1 .1 .1 .1 .0 ≡ startWords (task z) (args .work .now)) same (at-begin .start .ensures .1) in (
         start-refused (args .codes .now) (args .places .now) (args .pattern .now) (args .positions .now) (room call) (args .k) (args .c) (args .u) (args .v) (args .threshold) (args .work .now) (long call) (at-strike call .strike .result) (at-strike call .strike .ensures .0) (written call) (places′ call) (at-strike call .strike .ensures .1 .0) (at-strike call .strike .ensures .1 .1) (n call) (m call) (call .of-strike .ensures .0) (call .of-strike .ensures .1) zero (at-begin .start .result) (at-begin .start .last .1 .1 .1 .1 .1 .0) reply words (c .of-start .result .0) (c .of-start .ensures .0),

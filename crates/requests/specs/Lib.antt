@@ -1,0 +1,2 @@
+-- What is asked of a run, and the task of it.
+pub mod Requests
