@@ -11,7 +11,7 @@ use lib.Seq.{length-take-le, take-all, drop-cons, getD-set-same, drop-set-lt, ta
 use borrow.Author.Tests.{le-leb, lt-leb}
 use Rattle.listing.specs.Writing.{fitting, overFrom, Written, LineWritten}
 
-fitting-all : (room : ℕ) (bytes : List ℕ) → length bytes ≤ room → fitting room bytes ≡ bytes
+pub fitting-all : (room : ℕ) (bytes : List ℕ) → length bytes ≤ room → fitting room bytes ≡ bytes
 unfolding fitting
 fitting-all room bytes h = rw (le-leb (length bytes) room h)
 

@@ -1,5 +1,4 @@
 -- Laws of numbers in decimal: digit by digit, and how long they are.
--- Assumes nothing.
 use Prim.Native.Nat.{ℕ, zero, suc, _+_, _/_, _%_, _^_, _≤_, _<_}
 use native.Mathlib.Nat.{pow-suc, div-lt-iff-lt-mul}
 use native.Mathlib.Omega.{arith}
@@ -10,6 +9,8 @@ use lib.Dec.{ltb}
 use lib.ListN.{length, length-append}
 use lib.IntN.{ℤ, pos, negsuc}
 use borrow.Author.Tests.{lt-ltb, le-ltb, ltb-true, ltb-false}
+use Rattle.listing.specs.Writing.{fitting}
+use Rattle.listing.proofs.Buffers.{fitting-all}
 use Rattle.listing.specs.Line.{digit, digitsBefore, decimal, signed, line}
 
 -- ---- one digit more
@@ -68,3 +69,9 @@ length-line first last score m perMille =
     let d : length (decimal m) ≤ 10 = length-decimal m in
     let e : length (decimal perMille) ≤ 10 = length-decimal perMille in
     simp length-append (omega arith)
+
+-- so 64 bytes hold any line
+pub line-fits : (first last : ℕ) (score : ℤ) (m perMille : ℕ) → fitting 64 (line first last score m perMille) ≡ line first last score m perMille
+line-fits first last score m perMille =
+    let short : length (line first last score m perMille) ≤ 56 = length-line first last score m perMille in
+    fitting-all 64 (line first last score m perMille) (omega arith)

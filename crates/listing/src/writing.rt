@@ -1,5 +1,4 @@
 // Writers of bytes, of numbers and of the printed line into a lent buffer. Each writes all or nothing.
-// A function assumes what its `requires` says.
 use crate::LINE_FEED;
 use crate::MINUS;
 use crate::SPACE;
@@ -90,8 +89,9 @@ pub fn put_signed(out: &mut [u8], at: usize, z: i32) -> usize
     put_bytes(out, at, &digits[from..])
 }
 
-// A line of the list at the buffer's start; answers its length, or 0 where it is longer than the buffer: then nothing is written.
-pub fn put_line(out: &mut [u8], first: u32, last: u32, score: i32, m: u32, per_mille: u32) -> usize
+// A line of the list at the buffer's start; answers its length, or 0 where it is longer than the buffer: then nothing is written. It has
+// no other caller than `line`, whose contract can't speak of the bytes behind the part that it returns.
+fn write_line(out: &mut [u8], first: u32, last: u32, score: i32, m: u32, per_mille: u32) -> usize
     ensures { λ r. ⌜ LineWritten (line first last score m «per_mille») (now (out .entry)) (now (out .exit)) r ⌝ }
 {
     let mut text = [0u8; 64];
@@ -108,7 +108,8 @@ pub fn put_line(out: &mut [u8], first: u32, last: u32, score: i32, m: u32, per_m
     put_bytes(out, 0, &text[..at])
 }
 
-// The same, as the part of the buffer that was written: the empty part where the line is longer than the buffer.
+// A line of the list, as the part of the buffer that was written, from its start: the empty part where the line is longer than the
+// buffer.
 pub fn line<'a>(
     out: &'a mut [u8],
     first: u32,
@@ -119,6 +120,6 @@ pub fn line<'a>(
 ) -> &'a mut [u8]
     ensures { λ r. ⌜ now r ≡ fitting (length (now (out .entry))) (line first last score m «per_mille») ⌝ }
 {
-    let n = put_line(out, first, last, score, m, per_mille);
+    let n = write_line(out, first, last, score, m, per_mille);
     &mut out[..n]
 }

@@ -10,3 +10,4 @@ pub mod OpenedSession
 pub mod Whole
 pub mod Compute
 pub mod Table
+pub mod Printed

@@ -1,11 +1,10 @@
 -- The session that accepted calls open: what belongs to it, and what is left to print.
--- Assumes nothing.
 use Prim.Native.Nat.{ℕ, zero, suc, _+_, _-_, _≤_, _<_}
 use native.Mathlib.Nat.{zero-add}
 use native.Mathlib.Omega.{arith}
 use mathlib.Core.Path.{_≡_, refl, sym, ap, ap₂, _∙_}
 use mathlib.Core.Bool.{Bool, true, false}
-use mathlib.Core.List.{List, [], _∷_, _++_, map, Sublistᴰ, Sublistᴰ·slnil, Sublistᴰ·cons, Sublistᴰ·cons-cons}
+use mathlib.Core.List.{List, [], _∷_, _++_, map}
 use lib.ListN.{length, getD, drop, length-append, length-map, List·getD-append}
 use Rattle.counts.specs.Lists.{keep}
 use Rattle.counts.specs.Replies.{Reply, accepted, refused, over, after}
@@ -16,7 +15,7 @@ use Rattle.sketch.specs.Replies.{sketchReply}
 use Rattle.sketch.proofs.Accepted.{sketch-limits}
 use Rattle.minimizers.proofs.Laws.{positions-below, length-codes, length-positions}
 use Rattle.strike.specs.Strike.{strikeReply}
-use Rattle.strike.proofs.Laws.{struck-positions-sublist}
+use Rattle.strike.proofs.Laws.{struck-below}
 use Rattle.mappings.specs.Score.{Task}
 use Rattle.mappings.specs.Definition1.{Final}
 use Rattle.mappings.specs.Cells.{Cell, cellsOf, hitCount, isFinalCell, mappingOf, leftEnd, rightEnd}
@@ -35,13 +34,6 @@ use Rattle.report.specs.Pieces.{restOf, Belongs}
 and-accepted : (first next : Reply) (values : List ℕ) → andThen first next ≡ accepted values → ((ns : List ℕ) × (first ≡ accepted ns)) × (next ≡ accepted values)
 and-accepted (accepted ns) next values e = ((ns, refl), e)
 and-accepted (refused number ns) next values e = absurd (let z : _≡_ {A = ℕ} 0 1 = cc in omega arith)
-
--- what is below a bound in a list is so in a sublist
-sublist-below : (n : ℕ) {l r : List ℕ} → Sublistᴰ l r → ((j : ℕ) → j < length r → getD r j 0 < n) → (i : ℕ) → i < length l → getD l i 0 < n
-sublist-below n Sublistᴰ·slnil below i h = absurd (omega arith)
-sublist-below n (Sublistᴰ·cons s) below i h = sublist-below n s (λ j l. below (suc j) (omega arith)) i h
-sublist-below n (Sublistᴰ·cons-cons e s) below zero h = rw e (below 0 (omega arith))
-sublist-below n (Sublistᴰ·cons-cons e s) below (suc i) h = sublist-below n s (λ j l. below (suc j) (omega arith)) i (omega arith)
 
 module _ (s : Settings) (text read places work : List ℕ) (values : List ℕ) (accepts : callsReply s text read (length places) (length work) ≡ accepted values) where
   abbrev task : Task
@@ -79,7 +71,7 @@ module _ (s : Settings) (text read places work : List ℕ) (values : List ℕ) (
 
   below : (i : ℕ) → i < length of-text → getD of-text i 0 < length text
   unfolding textOf
-  below = sublist-below (length text) (struck-positions-sublist (s .c) (sketch (s .k) (s .w) text)) (positions-below (s .k) (s .w) text (limits .0))
+  below = struck-below (length text) (s .c) (sketch (s .k) (s .w) text) (positions-below (s .k) (s .w) text (limits .0))
 
   place : (i : ℕ) → i < length (task .text) → getD (over of-text places) i 0 ≡ getD of-text i 0
   place i h = List·getD-append of-text (drop (length of-text) places) 0 i (rw text-length at h)

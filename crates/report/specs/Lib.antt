@@ -4,3 +4,5 @@ pub mod Output
 pub mod Pieces
 pub mod Beginning
 pub mod Whole
+-- the same by Definition 1
+pub mod Printed

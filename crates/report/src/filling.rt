@@ -1,5 +1,4 @@
 // The lines of a session's mappings and the last line, as many at a time as a lent buffer holds.
-// Assumes nothing.
 use crate::lines::put_last;
 use layout::HIT_LIMIT;
 use layout::HITS;
@@ -9,7 +8,8 @@ use layout::WORK_WORDS;
 use layout::wide;
 use layout::wider;
 use listing::huddlewool_per_mille;
-use listing::writing::put_line;
+use listing::writing::line;
+use listing::writing::put_bytes;
 use mapper::answer::Stepped;
 use mapper::session::step;
 use sketch::TEXT_LIMIT;
@@ -86,6 +86,14 @@ fn end_of(positions: &[u32], k: u32, size: usize, from: usize, to: usize) -> u64
     end
 }
 
+// A mapping as a step hands it out.
+struct Mapping {
+    score: i32,
+    a: u32,
+    b: u32,
+    m: u32,
+}
+
 // The line of a mapping. What no session hands out has none.
 fn put_mapping(
     out: &mut [u8],
@@ -93,20 +101,15 @@ fn put_mapping(
     positions: &[u32],
     k: u32,
     size: usize,
-    a: u32,
-    b: u32,
-    score: i32,
-    m: u32,
+    mapping: Mapping,
 ) -> usize
-    ensures { λ r. ⌜ MappingWritten (now (positions .entry)) k size a b score m at (now (out .entry)) (now (out .exit)) r ⌝ }
+    ensures { λ r. ⌜ MappingWritten (now (positions .entry)) k size (mapping .a) (mapping .b) (mapping .score) (mapping .m) at (now (out .entry)) (now (out .exit)) r ⌝ }
 {
-    let from = wide(a);
-    let to = wide(b);
+    let from = wide(mapping.a);
+    let to = wide(mapping.b);
+    let m = mapping.m;
     let end = end_of(positions, k, size, from, to);
     if end < 1 {
-        return at;
-    }
-    if out.len() < at {
         return at;
     }
     let per_mille = huddlewool_per_mille(m, (to - from + 1) as u32, size as u32);
@@ -114,15 +117,16 @@ fn put_mapping(
         return at;
     }
     let first = positions[from];
-    let n = put_line(
-        &mut out[at..],
+    let mut text = [0u8; LINE_ROOM];
+    let part = line(
+        &mut text,
         first,
         (end - 1) as u32,
-        score,
+        mapping.score,
         m,
         per_mille as u32,
     );
-    at + n
+    put_bytes(out, at, part)
 }
 
 // Nothing is left to print.
@@ -155,7 +159,8 @@ pub fn fill(
                 if CELL_LIMIT <= count {
                     return stopped(at, count);
                 }
-                let next = put_mapping(out, at, positions, k, size, a, b, score, m);
+                let mapping = Mapping { score, a, b, m };
+                let next = put_mapping(out, at, positions, k, size, mapping);
                 if next <= at {
                     return stopped(at, count);
                 }

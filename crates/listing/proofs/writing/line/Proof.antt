@@ -1,4 +1,4 @@
--- `listing::writing::line` meets its contract: the part is as long as `put_line` answers. Assumes nothing.
+-- `listing::writing::line` meets its contract: the part is as long as `write_line` answers.
 use mathlib.Core.Path.{ap, _∙_}
 use lib.ListN.{length}
 use lib.IntN.{ℤ}
@@ -11,20 +11,21 @@ use borrow.Author.Needs.{needs}
 use Rattle.listing.proofs.writing.line.Statement.{statement}
 use Rattle.listing.proofs.writing.line.Tie as tie
 
-put-line-requires : tie.Need-put-line-requires
-put-line-requires c κs = search needs
+write-line-requires : tie.Need-write-line-requires
+write-line-requires c κs = search needs
 
 slice-aggregate-result : tie.Need-slice-aggregate-result
-slice-aggregate-result c = line-count (c .before .before .before .put-line .ensures)
+slice-aggregate-result c = line-count (c .before .before .before .write-line .ensures)
 
 returns : tie.Need-returns
 returns c =
-    let at-start = c .before .before .before .before .before .before in
-    line-part (c .before .before .before .put-line .ensures)
+    let wrote = c .before .before .before in
+    let at-start = wrote .before .before .before in
+    line-part (wrote .write-line .ensures)
     ∙ ap
     (λ (z : ℤ).
     fitting (length (now (at-start .args .out))) (printedLine (at-start .args .first) (at-start .args .last) z (at-start .args .m) (at-start .args .per-mille)))
     (toZ-ofZ (at-start .fits .score))
 
 pub line-spec : {M : Type 1} → statement M
-line-spec = tie.close (tie.spec put-line-requires slice-aggregate-result returns)
+line-spec = tie.close (tie.spec write-line-requires slice-aggregate-result returns)

@@ -1,159 +1,209 @@
--- `report::filling::put_mapping` meets its contract: its answers are the line's numbers where they hold the mapping, and the line is written
--- into the part of the buffer from the index on. Assumes nothing.
+-- `report::filling::put_mapping` meets its contract: its answers are the line's numbers where they hold the mapping, and the part that
+-- `line` returned is written from the index on.
 use Prim.Native.Nat.{ℕ, _+_, _-_, _≤_, _<_}
 use native.Mathlib.Nat.{le-refl}
 use native.Mathlib.Omega.{arith}
 use mathlib.Core.Path.{_≡_, refl, sym, ap, _∙_}
-use mathlib.Core.Bool.{false≢true}
+use mathlib.Core.Bool.{false, false≢true}
 use lib.IntN.{pos}
 use lib.ListN.{length, getD}
-use Rattle.listing.specs.Limits.{lenLimit, sizeLimit}
-use Rattle.reading.specs.Limits.{wordLimit}
-use Rattle.report.specs.Pieces.{Holds}
+use denote.Ref.{now}
 use mir.Facts.{toZ-ofZ}
-use Rattle.mappings.specs.Score.{lengthOf}
-use Rattle.listing.specs.PerMille.{perMille}
-use Rattle.report.proofs.Mapping.{held-true, not-held, holds-of, last-is, per-mille-back, per-mille-is, not-below, cast-fits, abs-is, line-is}
-use Rattle.listing.proofs.Buffers.{same-bytes}
-use Rattle.report.proofs.Writers.{part-written, written-inside, written-onward, written-past}
 use borrow.Author.Needs.{needs, sfits-of}
+use Rattle.mappings.specs.Score.{lengthOf}
+use Rattle.listing.specs.Limits.{lenLimit, sizeLimit}
+use Rattle.listing.specs.PerMille.{perMille}
+use Rattle.listing.proofs.Buffers.{same-bytes}
+use Rattle.listing.proofs.Decimal.{line-fits}
+use Rattle.reading.specs.Limits.{wordLimit}
+use Rattle.report.specs.Output.{mappingLine}
+use Rattle.report.specs.Pieces.{Holds, isHeld}
+use Rattle.report.proofs.Mapping.{held-true, not-held, holds-of, last-is, per-mille-back, per-mille-is, not-below, cast-fits, abs-is, line-is}
+use Rattle.report.proofs.Writers.{written-inside, written-onward, written-past}
 use Rattle.report.proofs.filling.put_mapping.Statement.{statement}
 use Rattle.report.proofs.filling.put_mapping.Tie as tie
-use Rattle.report.proofs.filling.put_mapping.Reads as reads
-use Rattle.report.proofs.filling.put_mapping.Lts as lts
-use Rattle.listing.proofs.huddlewool_per_mille.Reads as huddlewool-per-mille-reads
-use Rattle.listing.proofs.writing.put_line.Reads as put-line-reads
-use Rattle.report.proofs.filling.end_of.Reads as end-of-reads
-use Rattle.layout.proofs.wide.Reads as wide-reads
 
--- the answer of end_of
+-- ---- the ends of the interval
+
 module _ (c : tie.After-end-of) where
+  abbrev ends : tie.After-wide
+  ends = c .before .before
+
   abbrev start : tie.Start
-  start = c .before .before .before .before .before
+  start = ends .before .before .before
 
   abbrev from : ℕ
-  from = c .before .before .wide .result
+  from = ends .wide .result
 
   abbrev to : ℕ
   to = c .before .wide2 .result
 
-  bounds : 1 ≤ c .end-of .result → (from ≤ to) × (to < length (start .args .positions .now)) × (to - from < lenLimit) × (start .args .size ≤ sizeLimit) × (c .end-of .result ≤ wordLimit) × (c .end-of .result ≡ getD (start .args .positions .now) to 0 + start .args .k)
+  bounds : 1 ≤ c .end-of .result
+      → (from ≤ to)
+      × (to < length (start .args .positions .now))
+      × (to - from < lenLimit)
+      × (start .args .size ≤ sizeLimit)
+      × (c .end-of .result ≤ wordLimit)
+      × (c .end-of .result ≡ getD (start .args .positions .now) to 0 + start .args .k)
   bounds l = c .end-of .ensures .inside (omega arith)
 
--- the answer of per mille
+  -- what the line's numbers hold, and what they do not
+  abbrev Held : Type 0
+  Held = Holds (start .args .positions .now) (start .args .k) (start .args .size) (start .args .mapping .a) (start .args .mapping .b)
+
+  never-held : c .end-of .result < 1 → Held → ⊥
+  never-held =
+      not-held (start .args .positions .now) (start .args .k) (start .args .size) (start .args .mapping .a) (start .args .mapping .b) from to (c .end-of .result)
+      (ends .wide .ensures .0) (c .before .wide2 .ensures .0) (c .end-of .ensures)
+
+  held-here : 1 ≤ c .end-of .result → Held
+  held-here =
+      holds-of (start .args .positions .now) (start .args .k) (start .args .size) (start .args .mapping .a) (start .args .mapping .b) from to (c .end-of .result)
+      (ends .wide .ensures .0) (c .before .wide2 .ensures .0) (c .end-of .ensures)
+
+  last-letter : Held → c .end-of .result - 1 ≡ getD (start .args .positions .now) (start .args .mapping .b) 0 + start .args .k - 1
+  last-letter =
+      last-is (start .args .positions .now) (start .args .k) (start .args .size) (start .args .mapping .a) (start .args .mapping .b) from to (c .end-of .result)
+      (ends .wide .ensures .0) (c .before .wide2 .ensures .0) (c .end-of .ensures)
+
+-- ---- the answer of per mille
+
 module _ (c : tie.After-huddlewool-per-mille) where
   abbrev ended : tie.After-end-of
-  ended = c .before .before .before
+  ended = c .before .before
 
-  per-mille-known : Holds (start ended .args .positions .now) (start ended .args .k) (start ended .args .size) (start ended .args .a) (start ended .args .b) → start ended .args .m ≤ lengthOf (start ended .args .a) (start ended .args .b) → start ended .args .m ≤ start ended .args .size → c .huddlewool-per-mille .result ≡ pos (perMille (start ended .args .m) (lengthOf (start ended .args .a) (start ended .args .b)) (start ended .args .size))
+  abbrev mapped : tie.Start
+  mapped = start ended
+
+  per-mille-known : Held ended → mapped .args .mapping .m ≤ lengthOf (mapped .args .mapping .a) (mapped .args .mapping .b) → mapped .args .mapping .m ≤ mapped .args .size
+      → c .huddlewool-per-mille .result ≡ pos (perMille (mapped .args .mapping .m) (lengthOf (mapped .args .mapping .a) (mapped .args .mapping .b)) (mapped .args .size))
   per-mille-known h l s =
       c .huddlewool-per-mille .ensures
-      ∙ per-mille-is (start ended .args .m) (start ended .args .a) (start ended .args .b) (from ended) (to ended) (start ended .args .size) (ended .before .before .wide .ensures .0) (ended .before .wide2 .ensures .0) (h .ordered) (h .short) (h .pattern-small) l s
+      ∙ per-mille-is (mapped .args .mapping .m) (mapped .args .mapping .a) (mapped .args .mapping .b) (from ended) (to ended) (mapped .args .size)
+      (ends ended .wide .ensures .0) (ended .before .wide2 .ensures .0) (h .ordered) (h .short) (h .pattern-small) l s
 
--- src/filling.rt:105:9
 wide-requires : tie.Need-wide-requires
 wide-requires c κs = search needs
 
--- src/filling.rt:106:9
 wide-requires-2 : tie.Need-wide-requires-2
 wide-requires-2 c κs = search needs
 
--- src/filling.rt:107:9
 end-of-requires : tie.Need-end-of-requires
 end-of-requires c κs = search needs
 
--- src/filling.rt:109:9
 returns : tie.Need-returns
-returns c = let e = c .before in record { inside = λ h. h; onward = le-refl _; past = λ h. refl; none = λ e. (refl, refl); held = λ h l s i. absurd (not-held (start e .args .positions .now) (start e .args .k) (start e .args .size) (start e .args .a) (start e .args .b) (from e) (to e) (e .end-of .result) (e .before .before .wide .ensures .0) (e .before .wide2 .ensures .0) (e .end-of .ensures) (c .if1 .taken) h) }
+returns c = record {
+  inside = λ h. h;
+  onward = le-refl _;
+  past = λ h. refl;
+  held = λ h l s i. absurd (never-held (c .before) (c .if1 .taken) h);
+  none = λ e. (refl, refl);
+}
 
--- src/filling.rt:112:9
-returns-2 : tie.Need-returns-2
-returns-2 c = record { inside = λ h. h; onward = le-refl _; past = λ h. refl; none = λ e. (refl, refl); held = λ h l s i. absurd (omega (arith, c .if2 .taken)) }
-
--- src/filling.rt:114:46
 sub-huddlewool-per-mille : tie.Need-sub-huddlewool-per-mille
-sub-huddlewool-per-mille c = let b = bounds (c .before .before) (c .before .if1 .left) in omega (arith, b .0)
+sub-huddlewool-per-mille c = omega (arith, bounds (c .before) (c .if1 .left) .0)
 
--- src/filling.rt:114:46
 add-huddlewool-per-mille : tie.Need-add-huddlewool-per-mille
 add-huddlewool-per-mille c = search needs
 
--- src/filling.rt:114:45
 cast-huddlewool-per-mille : tie.Need-cast-huddlewool-per-mille
-cast-huddlewool-per-mille c = let b = bounds (c .before .before) (c .before .if1 .left) in omega (arith, b .2)
+cast-huddlewool-per-mille c = omega (arith, bounds (c .before) (c .if1 .left) .2)
 
--- src/filling.rt:114:69
 cast-huddlewool-per-mille-2 : tie.Need-cast-huddlewool-per-mille-2
-cast-huddlewool-per-mille-2 c = let b = bounds (c .before .before) (c .before .if1 .left) in omega (arith, b .3)
+cast-huddlewool-per-mille-2 c = omega (arith, bounds (c .before) (c .if1 .left) .3)
 
--- src/filling.rt:114:9
 huddlewool-per-mille-requires : tie.Need-huddlewool-per-mille-requires
 huddlewool-per-mille-requires c κs = search needs
 
--- src/filling.rt:116:9
-returns-3 : tie.Need-returns-3
-returns-3 c = let at = c .before in record { inside = λ h. h; onward = le-refl _; past = λ h. refl; none = λ e. (refl, refl); held = λ h l s i. absurd (not-below (at .huddlewool-per-mille .result) (sfits-of (at .huddlewool-per-mille .ok)) _ (per-mille-known at h l s) (c .if3 .taken)) }
+returns-2 : tie.Need-returns-2
+returns-2 c =
+    let p = c .before in
+    record {
+      inside = λ h. h;
+      onward = le-refl _;
+      past = λ h. refl;
+      held = λ h l s i. absurd (not-below (p .huddlewool-per-mille .result) (sfits-of (p .huddlewool-per-mille .ok)) _ (per-mille-known p h l s) (c .if2 .taken));
+      none = λ e. (refl, refl);
+    }
 
--- src/filling.rt:118:17
 mul-first : tie.Need-mul-first
 mul-first c = search needs
 
--- src/filling.rt:118:17
+-- the tests that led to a line
+abbrev counted : tie.After-shared-slice-known2 → tie.After-huddlewool-per-mille
+counted c = c .before .before
+
+abbrev some : tie.After-shared-slice-known2 → tie.Else1
+some c = counted c .before
+
 shared-slice-read-first : tie.Need-shared-slice-read-first
-shared-slice-read-first c = let b = bounds (c .before .before .before .before .before) (c .before .before .before .before .if1 .left) in omega (arith, b .0, b .1)
+shared-slice-read-first c = let b = bounds (some c .before) (some c .if1 .left) in omega (arith, b .0, b .1)
 
--- src/filling.rt:120:9
-sub-put-line : tie.Need-sub-put-line
-sub-put-line c = search needs
+slice-aggregate-line : tie.Need-slice-aggregate-line
+slice-aggregate-line c = search needs
 
--- src/filling.rt:120:9
-part-put-line-start : tie.Need-part-put-line-start
-part-put-line-start c = search needs
+cast-line : tie.Need-cast-line
+cast-line c = let d = some (c .before) in omega (arith, bounds (d .before) (d .if1 .left) .4)
 
--- src/filling.rt:120:9
-part-put-line-end : tie.Need-part-put-line-end
-part-put-line-end c = search needs
+cast-line-2 : tie.Need-cast-line-2
+cast-line-2 c =
+    let d = c .before in
+    let p = counted d .huddlewool-per-mille in
+    cast-fits (p .result) (sfits-of (p .ok)) (d .before .if2 .left)
 
--- src/filling.rt:122:9
-cast-put-line : tie.Need-cast-put-line
-cast-put-line c = let b = bounds (c .before .before .before .before .before .before) (c .before .before .before .before .before .if1 .left) in omega (arith, b .4)
+line-requires : tie.Need-line-requires
+line-requires c κs = search needs
 
--- src/filling.rt:125:9
-cast-put-line-2 : tie.Need-cast-put-line-2
-cast-put-line-2 c = cast-fits (c .before .before .before .huddlewool-per-mille .result) (sfits-of (c .before .before .before .huddlewool-per-mille .ok)) (c .before .before .if3 .left)
+put-bytes-requires : tie.Need-put-bytes-requires
+put-bytes-requires c κs = search needs
 
--- src/filling.rt:119:9
-put-line-requires : tie.Need-put-line-requires
-put-line-requires c κs = search needs
-
--- src/filling.rt:127:5
-add-result : tie.Need-add-result
-add-result c = let at-line = c .before .before in let at-else = at-line .before .before .before in let wrote = part-written _ (start (ended (at-else .before)) .args .at) (start (ended (at-else .before)) .args .out .now) (at-line .put-line .last .0) (at-line .put-line .result) (at-else .before .before .if2 .left) (at-line .put-line .ensures) in omega (arith, written-inside wrote (at-else .before .before .if2 .left), start (ended (at-else .before)))
-
--- src/filling.rt:92:1
 same-length : tie.Need-same-length
 same-length c = search needs
 
--- src/filling.rt:92:1
-returns-4 : tie.Need-returns-4
-returns-4 c = let at-line = c .before .before in let at-else = at-line .before .before .before in let wrote = part-written _ (start (ended (at-else .before)) .args .at) (start (ended (at-else .before)) .args .out .now) (at-line .put-line .last .0) (at-line .put-line .result) (at-else .before .before .if2 .left) (at-line .put-line .ensures) in
-    let e = ended (at-else .before) in
+-- the part that `line` returned holds the mapping's line
+module _ (c : tie.After-line) where
+  abbrev read : tie.After-shared-slice-known2
+  read = c .before .before .before
+
+  abbrev per : tie.After-huddlewool-per-mille
+  per = counted read
+
+  abbrev asked : tie.Start
+  asked = mapped per
+
+  line-here : Held (ended per) → asked .args .mapping .m ≤ lengthOf (asked .args .mapping .a) (asked .args .mapping .b) → asked .args .mapping .m ≤ asked .args .size
+      → now (c .line .result)
+      ≡ mappingLine (asked .args .positions .now) (asked .args .k) (asked .args .size)
+      (record { a = asked .args .mapping .a; b = asked .args .mapping .b; score = asked .args .mapping .score; m = asked .args .mapping .m })
+  line-here h l s =
+      c .line .ensures
+      ∙ line-fits _ _ _ _ _
+      ∙ line-is (asked .args .positions .now) (asked .args .k) (asked .args .size) (asked .args .mapping .a) (asked .args .mapping .b) (asked .args .mapping .score) _ (asked .args .mapping .m) _ _ _
+      (ap (λ (j : ℕ). getD (asked .args .positions .now) j 0) (ends (ended per) .wide .ensures .0))
+      (last-letter (ended per) h)
+      (toZ-ofZ (sfits-of (c .before .struct-told .given .0 .1)))
+      (abs-is (per .huddlewool-per-mille .result) (sfits-of (per .huddlewool-per-mille .ok)) _ (per-mille-known per h l s))
+
+  -- where the line is written, its numbers hold the mapping
+  never-unheld : isHeld (asked .args .positions .now) (asked .args .k) (asked .args .size) (asked .args .mapping .a) (asked .args .mapping .b) (asked .args .mapping .m) ≡ false → ⊥
+  never-unheld t =
+      let h = held-here (ended per) (some read .if1 .left) in
+      let s = per-mille-back (per .huddlewool-per-mille .result) (sfits-of (per .huddlewool-per-mille .ok)) (asked .args .mapping .m) (asked .args .mapping .a)
+      (asked .args .mapping .b) (from (ended per)) (to (ended per)) (asked .args .size) (ends (ended per) .wide .ensures .0) (ended per .before .wide2 .ensures .0)
+      (h .ordered) (per .huddlewool-per-mille .ensures) (read .before .if2 .left) in
+      false≢true (sym t ∙ held-true (asked .args .positions .now) (asked .args .k) (asked .args .size) (asked .args .mapping .a) (asked .args .mapping .b) (asked .args .mapping .m) h (s .0) (s .1))
+
+returns-3 : tie.Need-returns-3
+returns-3 c =
+    let wrote = c .before .before .before in
+    let made = wrote .before .before .before in
+    let w = wrote .put-bytes .ensures in
     record {
-      inside = λ h. written-inside wrote h;
-      onward = written-onward wrote;
-      past = λ h. written-past wrote h;
-      none = λ t.
-          let h = holds-of (start e .args .positions .now) (start e .args .k) (start e .args .size) (start e .args .a) (start e .args .b) (from e) (to e) (e .end-of .result) (e .before .before .wide .ensures .0) (e .before .wide2 .ensures .0) (e .end-of .ensures) (at-else .before .before .before .if1 .left) in
-          let s = per-mille-back (at-else .before .huddlewool-per-mille .result) (sfits-of (at-else .before .huddlewool-per-mille .ok)) (start e .args .m) (start e .args .a) (start e .args .b) (from e) (to e) (start e .args .size) (e .before .before .wide .ensures .0) (e .before .wide2 .ensures .0) (h .ordered) (at-else .before .huddlewool-per-mille .ensures) (at-else .if3 .left) in
-          absurd (false≢true (sym t ∙ held-true (start e .args .positions .now) (start e .args .k) (start e .args .size) (start e .args .a) (start e .args .b) (start e .args .m) h (s .0) (s .1)));
-      held = λ h l s i.
-          same-bytes
-          (line-is (start e .args .positions .now) (start e .args .k) (start e .args .size) (start e .args .a) (start e .args .b) (start e .args .score) _ (start e .args .m) _ _ _
-          (ap (λ (j : ℕ). getD (start e .args .positions .now) j 0) (e .before .before .wide .ensures .0))
-          (last-is (start e .args .positions .now) (start e .args .k) (start e .args .size) (start e .args .a) (start e .args .b) (from e) (to e) (e .end-of .result) (e .before .before .wide .ensures .0) (e .before .wide2 .ensures .0) (e .end-of .ensures) h)
-          (toZ-ofZ (start e .fits .score))
-          (abs-is (at-else .before .huddlewool-per-mille .result) (sfits-of (at-else .before .huddlewool-per-mille .ok)) _ (per-mille-known (at-else .before) h l s)))
-          wrote;
+      inside = λ h. written-inside w h;
+      onward = written-onward w;
+      past = λ h. written-past w h;
+      held = λ h l s i. same-bytes (line-here made h l s) w;
+      none = λ t. absurd (never-unheld made t);
     }
 
 pub put-mapping-spec : {M : Type 1} → statement M
@@ -164,21 +214,18 @@ put-mapping-spec =
     wide-requires-2
     end-of-requires
     returns
-    returns-2
     sub-huddlewool-per-mille
     add-huddlewool-per-mille
     cast-huddlewool-per-mille
     cast-huddlewool-per-mille-2
     huddlewool-per-mille-requires
-    returns-3
+    returns-2
     mul-first
     shared-slice-read-first
-    sub-put-line
-    part-put-line-start
-    part-put-line-end
-    cast-put-line
-    cast-put-line-2
-    put-line-requires
-    add-result
+    slice-aggregate-line
+    cast-line
+    cast-line-2
+    line-requires
+    put-bytes-requires
     same-length
-    returns-4)
+    returns-3)

@@ -1,5 +1,4 @@
--- `listing::writing::put_line` meets its contract: the ten pieces written one after the other are the line, which fits 64 bytes.
--- Assumes nothing.
+-- `listing::writing::write_line` meets its contract: the ten pieces written one after the other are the line, which fits 64 bytes.
 use Prim.Native.Nat.{ℕ, _≤_}
 use native.Mathlib.Omega.{arith}
 use mathlib.Core.Path.{_≡_, refl, sym, ap}
@@ -13,8 +12,8 @@ use Rattle.listing.specs.Writing.{Written}
 use Rattle.listing.proofs.Buffers.{joined, joined-by, same-bytes, start-index, start-part, start-length, from-start}
 use Rattle.listing.proofs.Decimal.{length-decimal, length-signed, length-line}
 use borrow.Author.Needs.{needs}
-use Rattle.listing.proofs.writing.put_line.Statement.{statement}
-use Rattle.listing.proofs.writing.put_line.Tie as tie
+use Rattle.listing.proofs.writing.write_line.Statement.{statement}
+use Rattle.listing.proofs.writing.write_line.Tie as tie
 
 module _ (first last : ℕ) (score : ℤ) (m perMille : ℕ) {t0 t1 t2 t3 t4 t5 t6 t7 t8 t9 t10 : List ℕ} {n1 n2 n3 n4 n5 n6 n7 n8 n9 n10 : ℕ} (room : length t0 ≡ 64) where
   pieces : Written (decimal first) 0 t0 t1 n1 → Written (space ∷ []) n1 t1 t2 n2
@@ -41,25 +40,40 @@ module _ (c : tie.After-put-byte5) where
   abbrev c9 : tie.After-put-decimal4
   c9 = c .before .before .before
 
+  abbrev c8 : tie.After-put-byte4
+  c8 = c9 .before .before .before
+
   abbrev c7 : tie.After-put-decimal3
-  c7 = c9 .before .before .before .before .before .before
+  c7 = c8 .before .before .before
+
+  abbrev c6 : tie.After-put-byte3
+  c6 = c7 .before .before .before
 
   abbrev c5 : tie.After-put-signed
-  c5 = c7 .before .before .before .before .before .before
+  c5 = c6 .before .before .before
+
+  abbrev c4 : tie.After-put-byte2
+  c4 = c5 .before .before .before
 
   abbrev c3 : tie.After-put-decimal2
-  c3 = c5 .before .before .before .before .before .before
+  c3 = c4 .before .before .before
+
+  abbrev c2 : tie.After-put-byte
+  c2 = c3 .before .before .before
 
   abbrev c1 : tie.After-put-decimal
-  c1 = c3 .before .before .before .before .before .before
+  c1 = c2 .before .before .before
+
+  abbrev entry : tie.Start
+  entry = c1 .before .before .before
 
   abbrev printed : List ℕ
-  printed = let args = c1 .before .before .before .args in line (args .first) (args .last) (args .score) (args .m) (args .per-mille)
+  printed = let args = entry .args in line (args .first) (args .last) (args .score) (args .m) (args .per-mille)
 
   -- the line in the local bytes
   text-is : Written printed 0 (replicate 64 0) (c .put-byte5 .last .0) (c .put-byte5 .result)
   text-is =
-      let args = c1 .before .before .before .args in
+      let args = entry .args in
       pieces
       (args .first)
       (args .last)
@@ -68,18 +82,18 @@ module _ (c : tie.After-put-byte5) where
       (args .per-mille)
       refl
       (c1 .put-decimal .ensures)
-      (c3 .before .before .before .put-byte .ensures)
+      (c2 .put-byte .ensures)
       (c3 .put-decimal2 .ensures)
-      (c5 .before .before .before .put-byte2 .ensures)
-      (same-bytes (ap signed (toZ-ofZ (c1 .before .before .before .fits .score))) (c5 .put-signed .ensures))
-      (c7 .before .before .before .put-byte3 .ensures)
+      (c4 .put-byte2 .ensures)
+      (same-bytes (ap signed (toZ-ofZ (entry .fits .score))) (c5 .put-signed .ensures))
+      (c6 .put-byte3 .ensures)
       (c7 .put-decimal3 .ensures)
-      (c9 .before .before .before .put-byte4 .ensures)
+      (c8 .put-byte4 .ensures)
       (c9 .put-decimal4 .ensures)
       (c .put-byte5 .ensures)
 
   short : length printed ≤ 64
-  short = let args = c1 .before .before .before .args in let h : length printed ≤ 56 = length-line (args .first) (args .last) (args .score) (args .m) (args .per-mille) in omega arith
+  short = let args = entry .args in let h : length printed ≤ 56 = length-line (args .first) (args .last) (args .score) (args .m) (args .per-mille) in omega arith
 
   inside : c .put-byte5 .result ≤ length (c .put-byte5 .last .0)
   inside =
@@ -162,11 +176,12 @@ same-length c = search needs
 
 returns : tie.Need-returns
 returns c =
-    let at-line = c .before .before .before .before .before .before in
-    from-start (same-bytes (start-part (text-is at-line) (short at-line)) (c .before .before .put-bytes .ensures))
+    let wrote = c .before .before in
+    let at-line = wrote .before .before .before .before in
+    from-start (same-bytes (start-part (text-is at-line) (short at-line)) (wrote .put-bytes .ensures))
 
-pub put-line-spec : {M : Type 1} → statement M
-put-line-spec =
+pub write-line-spec : {M : Type 1} → statement M
+write-line-spec =
     tie.close
     (tie.spec
     slice-aggregate-put-decimal
