@@ -1,4 +1,4 @@
--- The column's update, unrolled by one cell: where the cell is final it stops there, otherwise it goes on.
+-- The column's update, unrolled by one cell: where the cell is a candidate it stops there, otherwise it goes on.
 use Prim.Native.Nat.{ℕ, zero, suc, _+_, _-_, _≤_, _<_, max}
 use native.Mathlib.Nat.{le-refl, le-suc}
 use native.Mathlib.Omega.{arith}
@@ -6,65 +6,57 @@ use native.Mathlib.Numerals.{add-one}
 use mathlib.Core.Path.{_≡_, refl, sym, ap, _∙_}
 use mathlib.Core.Bool.{Bool, true, false, cond, true≢false, false≢true}
 use mathlib.Core.List.{List}
+use borrow.Author.Tests.{lt-leb}
 use lib.Dec.{leb}
 use lib.ListN.{length, getD, set, length-set}
-use lib.IntN.{ℤ}
 use Rattle.column.specs.declared.cells.Line.{Line}
-use Rattle.column.specs.declared.cells.Passed.{Passed}
-use Rattle.column.specs.Deciding.{cellScore, decides}
-use Rattle.column.specs.Passing.{lowered, lineScore, bestWith, inReach, finalTest, nonePassed, Update, passRows}
+use Rattle.column.specs.Passing.{lowered, lineScore, bestWith, inReach, candidateTest, nonePassed, Update, passRows}
 
 pub left-suc : (to i : ℕ) → i < to → to - i ≡ suc (to - (i + 1))
 left-suc to i h = omega arith
 
 -- what the code has computed at a cell of row i: its score word, whether its left end is reasonable, the best so far
-pub record AtCell (line : Line) (i m before : ℕ) (part : List ℕ) (x s one greatest best : ℕ) : Type 0 where
-  pub left : x ≡ getD part i 0
-  pub score : s ≡ lineScore line m x
+pub record AtCell (line : Line) (i m before : ℕ) (part : List ℕ) (s one greatest best : ℕ) : Type 0 where
+  pub score : s ≡ lineScore line m (getD part i 0)
   pub reach : one ≡ inReach line part i
   pub greatest-is : greatest ≡ max (getD part (4096 + i) 0) s
   pub best-is : best ≡ max before greatest
 
--- a final cell was passed: the row behind it, its m and its score
-abbrev pub foundWith : ℕ → ℕ → ℤ → Passed
-foundWith row m score = record { found = true; row = row; m = m; score = score }
+-- a candidate was passed: the row behind it, and its m
+abbrev pub foundAt : ℕ → ℕ → List ℕ → Update
+foundAt row m part = record { answer = record { found = true; row = row; m = m }; part = part }
 
-abbrev pub foundAt : Line → ℕ → ℕ → ℕ → List ℕ → Update
-foundAt line row m x part = record { answer = foundWith row m (cellScore line m x); part = part }
+-- the tests at the cell
+abbrev pub tested : Line → ℕ → ℕ → ℕ → ℕ → Bool
+tested line s best one i = candidateTest (line .threshold) s best one (line .back) i
 
-module _ (line : Line) (to i m before : ℕ) (part : List ℕ) (x s one greatest best : ℕ)
-    (h : i < to) (at : AtCell line i m before part x s one greatest best) where
-  pub score-with : lineScore line m (getD part i 0) ≡ s
-  score-with = ap (lineScore line m) (sym (at .left)) ∙ sym (at .score)
-
-  pub best-with : bestWith part i before s ≡ best
+module _ (line : Line) (to i m before : ℕ) (part : List ℕ) (s one greatest best : ℕ) (h : i < to) (at : AtCell line i m before part s one greatest best) where
+  pub best-with : bestWith part i before (lineScore line m (getD part i 0)) ≡ best
   unfolding bestWith
-  best-with = sym (at .best-is ∙ ap (max before) (at .greatest-is))
+  best-with = sym (at .best-is ∙ ap (max before) (at .greatest-is ∙ ap (max (getD part (4096 + i) 0)) (at .score)))
 
   unrolled : passRows line (to - i) i m before part
-      ≡ cond (finalTest line s best one i m x) (foundAt line (suc i) m x (set part (4096 + i) best))
+      ≡ cond (tested line s best one i) (foundAt (suc i) m (set part (4096 + i) best))
       (passRows line (to - (i + 1)) (suc i) (lowered m one) best (set part (4096 + i) best))
-  unrolled = rw (left-suc to i h, score-with, best-with, ← at .reach, ← at .left)
+  unrolled = rw (left-suc to i h, at .score, at .reach, ← best-with)
 
-  pass-stop : finalTest line s best one i m x ≡ true → passRows line (to - i) i m before part ≡ foundAt line (i + 1) m x (set part (4096 + i) best)
+  pass-stop : tested line s best one i ≡ true → passRows line (to - i) i m before part ≡ foundAt (i + 1) m (set part (4096 + i) best)
   pass-stop t = unrolled ∙ rw (t, add-one)
 
-  pass-on : (m′ : ℕ) → finalTest line s best one i m x ≡ false → m′ ≡ lowered m one
+  pass-on : (m′ : ℕ) → tested line s best one i ≡ false → m′ ≡ lowered m one
       → passRows line (to - i) i m before part ≡ passRows line (to - (i + 1)) (i + 1) m′ best (set part (4096 + i) best)
   pass-on m′ t e = unrolled ∙ rw (t, e, add-one)
 
--- a score word below the floor: not final, whatever the deciding test would say
-pub low-score : (line : Line) (s best one i m x : ℕ) → leb (line .floor) s ≡ false → finalTest line s best one i m x ≡ false
-unfolding finalTest
-low-score line s best one i m x t = rw t
+-- a score word below the threshold's: no candidate, whatever the other tests say
+pub low-score : (threshold s best one back i : ℕ) → leb threshold s ≡ false → candidateTest threshold s best one back i ≡ false
+unfolding candidateTest
+low-score threshold s best one back i t = rw t
 
--- a score word at the floor: the deciding test decides
-pub high-score : (line : Line) (s best one i m x : ℕ) → leb (line .floor) s ≡ true → finalTest line s best one i m x ≡ decides line s best one i m x
-unfolding finalTest
-high-score line s best one i m x t = rw t
+pub below-threshold : (line : Line) (s best one i : ℕ) → s < line .threshold → tested line s best one i ≡ false
+below-threshold line s best one i h = low-score (line .threshold) s best one (line .back) i (lt-leb (line .threshold) s h)
 
 -- one cell: the update ends behind it
-module _ (line : Line) (i m before : ℕ) (part : List ℕ) (x s one greatest best : ℕ) (at : AtCell line i m before part x s one greatest best) where
+module _ (line : Line) (i m before : ℕ) (part : List ℕ) (s one greatest best : ℕ) (at : AtCell line i m before part s one greatest best) where
   one-cell : i + 1 - i ≡ 1
   one-cell = omega arith
 
@@ -74,12 +66,12 @@ module _ (line : Line) (i m before : ℕ) (part : List ℕ) (x s one greatest be
   inside : i < i + 1
   inside = omega arith
 
-  pub one-stop : finalTest line s best one i m x ≡ true → passRows line 1 i m before part ≡ foundAt line (i + 1) m x (set part (4096 + i) best)
-  one-stop t = rw one-cell at (pass-stop line (i + 1) i m before part x s one greatest best inside at t)
+  pub one-stop : tested line s best one i ≡ true → passRows line 1 i m before part ≡ foundAt (i + 1) m (set part (4096 + i) best)
+  one-stop t = rw one-cell at (pass-stop line (i + 1) i m before part s one greatest best inside at t)
 
-  pub one-on : (m′ : ℕ) → finalTest line s best one i m x ≡ false → m′ ≡ lowered m one
+  pub one-on : (m′ : ℕ) → tested line s best one i ≡ false → m′ ≡ lowered m one
       → passRows line 1 i m before part ≡ record { answer = nonePassed (i + 1) m′; part = set part (4096 + i) best }
-  one-on m′ t e = rw (one-cell, no-cell) at (pass-on line (i + 1) i m before part x s one greatest best inside at m′ t e)
+  one-on m′ t e = rw (one-cell, no-cell) at (pass-on line (i + 1) i m before part s one greatest best inside at m′ t e)
 
 -- ---- where the update stops
 
@@ -100,14 +92,13 @@ bounded line zero i m before part = record {
   size = refl;
 }
 bounded line (suc n) i m before part =
-    let x = getD part i 0 in
-    let s = lineScore line m x in
+    let s = lineScore line m (getD part i 0) in
     let best = bestWith part i before s in
     let one = inReach line part i in
-    go (finalTest line s best one i m x) best (bounded line n (suc i) (lowered m one) best (set part (4096 + i) best))
+    go (tested line s best one i) best (bounded line n (suc i) (lowered m one) best (set part (4096 + i) best))
   where
     go : (b : Bool) (best : ℕ) {later : Update} → Bounded (suc i) n (set part (4096 + i) best) later
-        → Bounded i (suc n) part (cond b (foundAt line (suc i) m (getD part i 0) (set part (4096 + i) best)) later)
+        → Bounded i (suc n) part (cond b (foundAt (suc i) m (set part (4096 + i) best)) later)
     go true best r = record {
       from = le-suc i;
       to = omega arith;

@@ -1,3 +1,2 @@
 -- What passing the cells of a column answers and leaves.
-pub mod Deciding
 pub mod Passing

@@ -4,12 +4,10 @@ use mathlib.Core.Bool.{Bool, true, false, cond, _&&_}
 use mathlib.Core.List.{List}
 use lib.Dec.{leb, ltb, eqb}
 use lib.ListN.{length, getD, set}
-use lib.IntN.{pos}
 use Rattle.counts.specs.Lists.{bit}
 use Rattle.column.specs.declared.cells.Line.{Line}
 use Rattle.column.specs.declared.cells.Passed.{Passed}
 use Rattle.column.specs.declared.cells.Paused.{Paused}
-use Rattle.column.specs.Deciding.{cellScore, decides}
 
 -- m less one or none, as a word
 abbrev pub lowered : ℕ → ℕ → ℕ
@@ -32,27 +30,26 @@ bestWith part i before s = max before (max (getD part (4096 + i) 0) s)
 unfoldable pub inReach : Line → List ℕ → ℕ → ℕ
 inReach line part i = bit (ltb (line .column) (getD part (2048 + i) 0))
 
--- the quick test of the score word, and then the deciding one
-unfoldable pub finalTest : Line → ℕ → ℕ → ℕ → ℕ → ℕ → ℕ → Bool
-finalTest line s best one i m x = leb (line .floor) s && decides line s best one i m x
+-- the four tests of Definition 1 at a cell of row i, by words
+unfoldable pub candidateTest : ℕ → ℕ → ℕ → ℕ → ℕ → ℕ → Bool
+candidateTest threshold s best one from i = leb threshold s && eqb s best && eqb one 1 && leb from i
 
--- where the cells were passed up to one that the quick test lets through: what is answered, and the part of the work words afterwards
+-- where the cells were passed up to one at the threshold: what is answered, and the part of the work words afterwards
 pub record Pause : Type 0 where
   pub answer : Paused
   pub part : List ℕ
 
--- the next n cells of the line from row i on, up to the first whose score word reaches the threshold's
+-- the next n cells of the line from row i on, up to the first whose score word reaches the threshold
 abbrev pub quietRows : Line → ℕ → ℕ → ℕ → ℕ → List ℕ → Pause
-quietRows line zero i m before part = record { answer = record { row = i; m = m; best = before; score = 0; reach = 0; left = 0 }; part = part }
+quietRows line zero i m before part = record { answer = record { row = i; m = m; best = before; score = 0; reach = 0 }; part = part }
 quietRows line (suc n) i m before part =
-    let x = getD part i 0 in
-    let s = lineScore line m x in
+    let s = lineScore line m (getD part i 0) in
     let best = bestWith part i before s in
     let one = inReach line part i in
     let updated = set part (4096 + i) best in
     let later = quietRows line n (suc i) (lowered m one) best updated in
-    cond (leb (line .floor) s)
-    (record { answer = record { row = suc i; m = lowered m one; best = best; score = s; reach = getD part (2048 + i) 0; left = x }; part = updated })
+    cond (leb (line .threshold) s)
+    (record { answer = record { row = suc i; m = lowered m one; best = best; score = s; reach = getD part (2048 + i) 0 }; part = updated })
     later
 
 -- a column's update: what it answers, and the part of the work words afterwards
@@ -60,28 +57,27 @@ pub record Update : Type 0 where
   pub answer : Passed
   pub part : List ℕ
 
--- what is answered where no cell passed was final: the row and m of the next one
+-- what is answered where the last cell passed is no candidate: the row and m of the next one
 abbrev pub nonePassed : ℕ → ℕ → Passed
-nonePassed i m = record { found = false; row = i; m = m; score = pos 0 }
+nonePassed i m = record { found = false; row = i; m = m }
 
--- the next n cells of the line from row i on, up to the first final one; `before` is what the rows before i have seen
+-- the next n cells of the line from row i on, up to the first candidate; `before` is what the rows before i have seen
 abbrev pub passRows : Line → ℕ → ℕ → ℕ → ℕ → List ℕ → Update
 passRows line zero i m before part = record { answer = nonePassed i m; part = part }
 passRows line (suc n) i m before part =
-    let x = getD part i 0 in
-    let s = lineScore line m x in
+    let s = lineScore line m (getD part i 0) in
     let best = bestWith part i before s in
     let one = inReach line part i in
     let updated = set part (4096 + i) best in
     let later = passRows line n (suc i) (lowered m one) best updated in
-    cond (finalTest line s best one i m x)
-    (record { answer = record { found = true; row = suc i; m = m; score = cellScore line m x }; part = updated })
+    cond (candidateTest (line .threshold) s best one (line .back) i)
+    (record { answer = record { found = true; row = suc i; m = m }; part = updated })
     later
 
 -- a part of three blocks of 2,048 words, in which the rows from `from` up to `to` lie
 unfoldable pub fits : List ℕ → ℕ → ℕ → Bool
 fits part from to = eqb (length part) 6144 && leb to 2048 && leb from to
 
--- the cells of the rows from `from` up to `to`, up to the first final one; where the rows do not fit, none
+-- the cells of the rows from `from` up to `to`, up to the first candidate; where the rows do not fit, none
 unfoldable pub columnPass : Line → ℕ → ℕ → ℕ → List ℕ → Update
 columnPass line from to m part = passRows line (cond (fits part from to) (to - from) 0) from m (seenBefore part from) part

@@ -1,3 +1,3 @@
-// The cells of one column, passed in the part of the work words that holds what each row knows. Assumes nothing.
+// The cells of one column, passed in the part of the work words that holds what each row knows.
 pub mod cells;
 pub mod score;

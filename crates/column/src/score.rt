@@ -1,10 +1,9 @@
-// Score words, a score plus 2^31, so that unsigned words order as scores do: the quick test of a cell. The score itself, signed, from
-// weights and counts: the deciding one. And m along a column. Remainders by 2^32 keep words that no start made within their range.
+// Score words, a score plus 2^31, so that unsigned words order as scores do; and m along a column. Remainders by 2^32 keep words
+// that no start made within their range.
 ghost use mathlib.Core.Path.{_≡_};
-ghost use Prim.Native.Nat.{_+_, _*_, _≤_, _%_, max};
+ghost use Prim.Native.Nat.{_+_, _*_, _%_, max};
 ghost use lib.Dec.{ltb};
 ghost use Rattle.counts.specs.Lists.{bit};
-ghost use Rattle.mappings.specs.Score.{linear};
 ghost use Rattle.column.specs.Passing as Passing;
 
 // The greater of two words.
@@ -42,13 +41,4 @@ pub(crate) fn score_word(gain: u32, m: u32, v: u32, x: u32, base: u32) -> u32
     let shared = gain as u64 * m as u64 % 4294967296;
     let before = v as u64 * x as u64 % 4294967296;
     ((shared + before + base as u64) % 4294967296) as u32
-}
-
-// The score of an interval: u·m − v·d with d = len + |p| − 2m, signed.
-pub(crate) fn score(u: u32, v: u32, size: u32, m: u32, len: u32) -> i32
-    requires { ⌜ (u ≤ 1000) × (v ≤ 1000) × (size ≤ 4096) × (len ≤ 65535) × (m ≤ size) × (m ≤ len) ⌝ }
-    ensures { λ r. ⌜ r ≡ linear u v size m len ⌝ }
-{
-    let d = len + size - 2 * m;
-    (u * m) as i32 - (v * d) as i32
 }

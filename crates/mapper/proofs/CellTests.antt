@@ -1,5 +1,5 @@
--- At a cell of a session, the code's numbers are those of the definitions: the score word, m along the column, and the four tests of
--- Definition 1.
+-- At a cell of a session, the code's numbers are those of the definitions: the score word, m along the column, the four tests of
+-- Definition 1, and the deciding test.
 use Prim.Native.Nat.{ℕ, suc, _+_, _-_, _*_, _%_, _^_, _≤_, _<_, max}
 use native.Mathlib.Nat.{le-trans, mul-add, mul-le-mul, add-mod-mod}
 use native.Mathlib.Omega.{arith}
@@ -13,29 +13,31 @@ use borrow.Author.Tests.{eq-eqb, eqb-true, le-leb, leb-true}
 use Rattle.counts.specs.Lists.{bit}
 use Rattle.mappings.specs.Score.{Task, interval, shared, sharedOf, lengthOf, scoreOf}
 use Rattle.mappings.specs.Definition1.{AtMost, isReasonable}
-use Rattle.mappings.specs.Bias.{bias, biased, biasedOf, biasedZ}
+use Rattle.mappings.specs.Bias.{bias, biased, biasedOf, biasedZ, unbiased}
 use Rattle.mappings.specs.Cells.{hits, hitCodes, hitCount, isFinalCell, leftEnd, rightEnd}
 use Rattle.mappings.proofs.Cells.{cellAt}
-use Rattle.mappings.proofs.Definition1.{MaximalCell, cell-final}
+use Rattle.mappings.proofs.Definition1.{MaximalCell, test-final, cell-final}
 use Rattle.mappings.proofs.HitCodes.{length-hitCodes, cell-shared, cell-reasonable}
 use Rattle.mappings.proofs.Hits.{hit-within, hit-at-most}
 use Rattle.mappings.proofs.Range.{Limited, shared-le-len, shared-le-size, biased-within, scores-order, threshold-order}
+use Rattle.mappings.proofs.Integers.{unbiased-biasedZ}
 use Rattle.mappings.proofs.Shared.{shared-left-end}
 use Rattle.start.specs.Tables.{reach, back}
 use Rattle.start.proofs.Tables.{reach-test, back-test, hit-codes-in}
-use Rattle.column.specs.declared.cells.Line.{Line}
-use Rattle.column.specs.Deciding.{isScorable, cellScore, decides}
-use Rattle.column.specs.Passing.{lowered, finalTest}
-use Rattle.column.proofs.Deciding.{says-scorable}
+use Rattle.column.specs.Passing.{lowered, candidateTest}
+use Rattle.mapper.specs.declared.update.Terms.{Terms}
+use Rattle.mapper.specs.declared.answer.Stepped.the-variants.{Found}
 use Rattle.mapper.specs.Walking.{lift}
+use Rattle.mapper.specs.Deciding.{isScorable, candidateScore, decides, decided}
+use Rattle.mapper.proofs.Deciding.{says-scorable, decided-found}
 use Rattle.mapper.proofs.Best.{scoreAt, Top, TopBefore, top-cell}
 
 one-is : (b : Bool) → eqb (bit b) 1 ≡ b
 one-is true = refl
 one-is false = refl
 
--- the tests in the code's order, where the quick one and the deciding one agree, and in the definition's
-reordered : (a b c d : Bool) → (a && (b && c && d && true && a)) ≡ (a && c && d && b)
+-- the tests in the code's order and in the definition's
+reordered : (a b c d : Bool) → (a && b && c && d) ≡ (a && c && d && b)
 reordered true true true true = refl
 reordered true true true false = refl
 reordered true true false d = refl
@@ -63,6 +65,10 @@ word-is u v size m x y a b d =
 -- m of the hits i to j
 abbrev pub sharedAt : Task → ℕ → ℕ → ℕ
 sharedAt task i j = shared (task .pattern) (interval (hitCodes task) i j)
+
+-- what the scores of a task share
+abbrev pub termsOf : Task → Terms
+termsOf task = record { u = task .u; v = task .v; size = length (task .pattern); threshold = biasedZ (task .threshold) }
 
 module _ (task : Task) (limited : Limited task) (threshold-fits : mag (task .threshold) < bias) where
   pub score-word : (i j : ℕ) → i ≤ j → j < hitCount task → ((task .u + 2 * task .v) * sharedAt task i j + task .v * getD (hits task) i 0 + (lift - task .v * (getD (hits task) j 0 + 1 + length (task .pattern))) % 4294967296) % 4294967296 ≡ scoreAt task i j
@@ -110,50 +116,12 @@ module _ (task : Task) (limited : Limited task) (threshold-fits : mag (task .thr
       in
       eq-eqb (scoreAt task i j) (max before (max own (scoreAt task i j))) (omega arith)
 
-  -- what the cells of column j share
-  abbrev pub sessionLine : ℕ → Line
-  sessionLine j = record {
-    threshold = task .threshold;
-    u = task .u;
-    v = task .v;
-    size = length (task .pattern);
-    right = getD (hits task) j 0;
-    back = back (task .pattern) (hitCodes task) j;
-    column = j;
-    gain = task .u + 2 * task .v;
-    base = (lift - task .v * (getD (hits task) j 0 + 1 + length (task .pattern))) % 4294967296;
-    floor = biasedZ (task .threshold);
-  }
-
-  -- weights and counts of a cell are a session's
-  counted : (i j : ℕ) → i ≤ j → j < hitCount task
-      → isScorable (task .u) (task .v) (length (task .pattern)) (getD (hits task) j 0) (sharedAt task i j) (getD (hits task) i 0) ≡ true
-  counted i j a l =
-      let x = getD (hits task) i 0 in
-      let y = getD (hits task) j 0 in
-      let inside : y < length (task .text) = hit-within task j l in
-      says-scorable (task .u) (task .v) (length (task .pattern)) y (sharedAt task i j) x
-      (record {
-        small-u = limited .small-u;
-        small-v = limited .small-v;
-        short-pattern = limited .short-pattern;
-        ordered = hit-at-most task i j a l;
-        short = omega (arith, limited .short-text);
-        at-most-size = rw (← cell-shared task i j a l) (shared-le-size task x y);
-        at-most-len = rw (← cell-shared task i j a l) (shared-le-len task x y inside);
-      })
-
-  -- and its score is the definition's
-  pub score-is : (i j : ℕ) → i ≤ j → j < hitCount task
-      → cellScore (sessionLine j) (sharedAt task i j) (getD (hits task) i 0) ≡ scoreOf task (getD (hits task) i 0) (getD (hits task) j 0)
-  unfolding cellScore scoreOf
-  score-is i j a l = rw (cell-shared task i j a l)
-
-  -- the quick test and the deciding one
+  -- the tests by words are Definition 1's
   pub final-test : (i j before own : ℕ) → i ≤ j → j < hitCount task → TopBefore task before i j → Top task own i (suc j)
-      → finalTest (sessionLine j) (scoreAt task i j) (max before (max own (scoreAt task i j))) (bit (ltb j (reach (task .pattern) (hitCodes task) i))) i
-      (sharedAt task i j) (getD (hits task) i 0) ≡ isFinalCell task (cellAt i j)
-  unfolding finalTest decides isFinalCell leftEnd rightEnd
+      → candidateTest (biasedZ (task .threshold)) (scoreAt task i j) (max before (max own (scoreAt task i j)))
+      (bit (ltb j (reach (task .pattern) (hitCodes task) i))) (back (task .pattern) (hitCodes task) j) i
+      ≡ isFinalCell task (cellAt i j)
+  unfolding candidateTest isFinalCell leftEnd rightEnd
   final-test i j before own a l t o =
       let x = getD (hits task) i 0 in
       let y = getD (hits task) j 0 in
@@ -167,6 +135,47 @@ module _ (task : Task) (limited : Limited task) (threshold-fits : mag (task .thr
       let right : isReasonable task x y y ≡ leb (back (task .pattern) (hitCodes task) j) i =
       cell-reasonable task i j j a l l ∙ sym (back-test (task .pattern) (hitCodes task) (hit-codes-in task) i j a k)
       in
-      rw (counted i j a l, score-is i j a l, enough)
-      (reordered (leb (biasedZ (task .threshold)) (scoreAt task i j)) top (eqb reasonable 1) (leb (back (task .pattern) (hitCodes task) j) i)
-      ∙ rw (← enough, ← left, ← right) (sym (cell-final task i j a l top (greatest i j before own a l t o) (greatest′ i j before own a l t o))))
+      reordered (leb (biasedZ (task .threshold)) (scoreAt task i j)) top (eqb reasonable 1) (leb (back (task .pattern) (hitCodes task) j) i)
+      ∙ rw (← enough, ← left, ← right) (sym (cell-final task i j a l top (greatest i j before own a l t o) (greatest′ i j before own a l t o)))
+
+  -- ---- the deciding test
+
+  module _ (i j : ℕ) (a : i ≤ j) (l : j < hitCount task) where
+    abbrev x : ℕ
+    x = getD (hits task) i 0
+
+    abbrev y : ℕ
+    y = getD (hits task) j 0
+
+    -- weights and counts of a cell are a session's
+    counted : isScorable (termsOf task) x y (sharedAt task i j) ≡ true
+    counted =
+        let inside : y < length (task .text) = hit-within task j l in
+        says-scorable (termsOf task) x y (sharedAt task i j)
+        (record {
+          small-u = limited .small-u;
+          small-v = limited .small-v;
+          short-pattern = limited .short-pattern;
+          ordered = hit-at-most task i j a l;
+          short = omega (arith, limited .short-text);
+          at-most-size = rw (← cell-shared task i j a l) (shared-le-size task x y);
+          at-most-len = rw (← cell-shared task i j a l) (shared-le-len task x y inside);
+        })
+
+    -- and its score is the definition's
+    score-is : candidateScore (termsOf task) x y (sharedAt task i j) ≡ scoreOf task x y
+    unfolding candidateScore scoreOf
+    score-is = rw (cell-shared task i j a l)
+
+    enough : isFinalCell task (cellAt i j) ≡ true → leZ (task .threshold) (scoreOf task x y) ≡ true
+    unfolding isFinalCell leftEnd rightEnd AtMost
+    enough f = test-final task x y f .enough
+
+    -- a final cell is found, with the score of the definition
+    pub final-decided : (cells : ℕ) → isFinalCell task (cellAt i j) ≡ true → decided (termsOf task) x y (sharedAt task i j) cells ≡ Found x y (scoreOf task x y) (sharedAt task i j) cells
+    unfolding decides
+    final-decided cells f =
+        let t : leZ (unbiased (biasedZ (task .threshold))) (candidateScore (termsOf task) x y (sharedAt task i j)) ≡ true =
+        rw (unbiased-biasedZ (task .threshold) threshold-fits, score-is) (enough f)
+        in
+        decided-found (termsOf task) x y (sharedAt task i j) cells (rw (counted, t)) ∙ rw score-is

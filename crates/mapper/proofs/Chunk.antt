@@ -12,7 +12,7 @@ use lib.Seq.{getD-set-same, getD-set-other}
 use lib.Signed.{mag}
 use Rattle.counts.specs.Lists.{bit}
 use Rattle.counts.proofs.Lists.{eq-or-ne}
-use Rattle.mappings.specs.Score.{Task, scoreOf}
+use Rattle.mappings.specs.Score.{Task}
 use Rattle.mappings.specs.Bias.{bias, biasedZ}
 use Rattle.mappings.specs.Cells.{hits, hitCodes, hitCount, cellsOf, isFinalCell, mappingOf, leftEnd, rightEnd, place}
 use Rattle.mappings.specs.Rule.{Answer, found, finished, spent, refused, moreCells, ruleAnswer}
@@ -23,11 +23,12 @@ use Rattle.start.specs.Tables.{reach, back}
 use Rattle.start.specs.WorkWords.{bestBefore, withCell, bestAfter}
 use Rattle.start.proofs.WorkWords.{Outside, length-bestAfter}
 use Rattle.column.specs.declared.cells.Line.{Line}
-use Rattle.column.specs.Deciding.{cellScore}
-use Rattle.column.specs.Passing.{lowered, lineScore, bestWith, inReach, finalTest, Update, passRows}
-use Rattle.column.proofs.Quiet.{final-one}
+use Rattle.column.specs.Passing.{lowered, lineScore, bestWith, inReach, Update, passRows}
+use Rattle.column.proofs.Passing.{tested}
+use Rattle.column.proofs.Quiet.{candidate-one}
 use Rattle.mapper.proofs.Best.{scoreAt, BestAt, before-top, best-at, best-suc}
-use Rattle.mapper.proofs.CellTests.{sharedAt, sessionLine, score-word, shared-next, score-is as definition's, final-test}
+use Rattle.mapper.specs.Walking.{lift}
+use Rattle.mapper.proofs.CellTests.{sharedAt, score-word, shared-next, final-test}
 
 pub more-none : (answer : Answer) → moreCells 0 answer ≡ answer
 more-none (found mapping cells) = let e : 0 + cells ≡ cells = omega arith in ap (found mapping) e
@@ -44,8 +45,15 @@ module _ (task : Task) (limited : Limited task) (threshold-fits : mag (task .thr
     pub best-word : (i : ℕ) → i < hitCount task → getD part (4096 + i) 0 ≡ getD (bestAfter task q) i 0
 
   -- what the cells of column j share
-  abbrev line : ℕ → Line
-  line = sessionLine task limited threshold-fits
+  abbrev pub sessionLine : ℕ → Line
+  sessionLine j = record {
+    column = j;
+    gain = task .u + 2 * task .v;
+    v = task .v;
+    base = (lift - task .v * (getD (hits task) j 0 + 1 + length (task .pattern))) % 4294967296;
+    back = back (task .pattern) (hitCodes task) j;
+    threshold = biasedZ (task .threshold);
+  }
 
   -- words outside the column in hand stay
   abbrev pub SameOutside : List ℕ → List ℕ → Type 0
@@ -54,7 +62,7 @@ module _ (task : Task) (limited : Limited task) (threshold-fits : mag (task .thr
   -- what passing n cells from (i, j) on comes to, where q cells have been passed
   pub data Chunk (j i n q : ℕ) (part : List ℕ) (update : Update) : Type 0 where
     all-passed : update .answer .found ≡ false → update .answer .row ≡ i + n → update .answer .m ≡ sharedAt task (i + n) j → PartHolds (q + n) (update .part) → SameOutside part (update .part) → ((B : ℕ) → ruleAnswer task q (n + B) ≡ moreCells n (ruleAnswer task (q + n) B)) → Chunk j i n q part update
-    one-found : (k : ℕ) → suc k ≤ n → update .answer .found ≡ true → update .answer .row ≡ suc (i + k) → update .answer .m ≡ sharedAt task (i + k) j → update .answer .score ≡ scoreOf task (getD (hits task) (i + k) 0) (getD (hits task) j 0) → lowered (sharedAt task (i + k) j) 1 ≡ sharedAt task (suc (i + k)) j → PartHolds (q + suc k) (update .part) → SameOutside part (update .part) → ((B : ℕ) → ruleAnswer task q (suc k + B) ≡ found (mappingOf task (cellAt (i + k) j)) (suc k)) → Chunk j i n q part update
+    one-found : (k : ℕ) → suc k ≤ n → update .answer .found ≡ true → update .answer .row ≡ suc (i + k) → update .answer .m ≡ sharedAt task (i + k) j → isFinalCell task (cellAt (i + k) j) ≡ true → lowered (sharedAt task (i + k) j) 1 ≡ sharedAt task (suc (i + k)) j → PartHolds (q + suc k) (update .part) → SameOutside part (update .part) → ((B : ℕ) → ruleAnswer task q (suc k + B) ≡ found (mappingOf task (cellAt (i + k) j)) (suc k)) → Chunk j i n q part update
 
   -- ---- one cell
 
@@ -73,40 +81,37 @@ module _ (task : Task) (limited : Limited task) (threshold-fits : mag (task .thr
     row-in : i < hitCount task
     row-in = omega arith
 
-    score-is : lineScore (line j) m (getD part i 0) ≡ scoreAt task i j
+    score-is : lineScore (sessionLine j) m (getD part i 0) ≡ scoreAt task i j
     unfolding lineScore
     score-is = rw (em, holds .index-word i row-in) (score-word task limited threshold-fits i j a l)
 
-    best-is : bestWith part i before (lineScore (line j) m (getD part i 0)) ≡ topAt q i j
+    best-is : bestWith part i before (lineScore (sessionLine j) m (getD part i 0)) ≡ topAt q i j
     unfolding bestWith topAt
     best-is = rw (eb, holds .best-word i row-in, score-is)
 
-    one-is : inReach (line j) part i ≡ bit (ltb j (reach (task .pattern) (hitCodes task) i))
+    one-is : inReach (sessionLine j) part i ≡ bit (ltb j (reach (task .pattern) (hitCodes task) i))
     unfolding inReach
     one-is = rw (holds .reach-word i row-in)
 
-    m-next : lowered m (inReach (line j) part i) ≡ sharedAt task (suc i) j
+    m-next : lowered m (inReach (sessionLine j) part i) ≡ sharedAt task (suc i) j
     m-next = rw (em, one-is) (shared-next task limited threshold-fits i j a l)
 
-    -- the cell's tests, and the score that is handed out
+    -- the cell's tests
     abbrev s : ℕ
-    s = lineScore (line j) m (getD part i 0)
+    s = lineScore (sessionLine j) m (getD part i 0)
 
-    test-is : finalTest (line j) s (bestWith part i before s) (inReach (line j) part i) i m (getD part i 0) ≡ isFinalCell task (cellAt i j)
+    test-is : tested (sessionLine j) s (bestWith part i before s) (inReach (sessionLine j) part i) i ≡ isFinalCell task (cellAt i j)
     unfolding topAt
     test-is =
         let b : BestAt task (bestAfter task q) i j = best-at task q i j a l at in
-        rw (best-is, score-is, one-is, em, holds .index-word i row-in)
+        rw (best-is, score-is, one-is)
         (final-test task limited threshold-fits i j (bestBefore (bestAfter task q) i) (getD (bestAfter task q) i 0) a l (before-top task (bestAfter task q) i j a b) (b .other-rows i (le-refl i) a))
-
-    handed-out : cellScore (line j) m (getD part i 0) ≡ scoreOf task (getD (hits task) i 0) (getD (hits task) j 0)
-    handed-out = rw (em, holds .index-word i row-in) (definition's task limited threshold-fits i j a l)
 
     -- the left end of a final cell is reasonable, so that m falls by one behind it
     lower-by-one : isFinalCell task (cellAt i j) ≡ true → lowered (sharedAt task i j) 1 ≡ sharedAt task (suc i) j
     lower-by-one f =
-        let one = inReach (line j) part i in
-        let e : one ≡ 1 = final-one (line j) s (bestWith part i before s) one i m (getD part i 0) (test-is ∙ f) in
+        let one = inReach (sessionLine j) part i in
+        let e : one ≡ 1 = candidate-one (sessionLine j) s (bestWith part i before s) one i (test-is ∙ f) in
         ap (λ (n : ℕ). lowered (sharedAt task i j) n) (sym e) ∙ ap (λ (n : ℕ). lowered n one) (sym em) ∙ m-next
 
     next : drop q (cellsOf task) ≡ cellAt i j ∷ drop (suc q) (cellsOf task)
@@ -142,7 +147,7 @@ module _ (task : Task) (limited : Limited task) (threshold-fits : mag (task .thr
   -- ---- n cells
 
   module _ (j : ℕ) (l : j < hitCount task) (small : hitCount task ≤ 2048) where
-    no-cells : (i q m before : ℕ) (part : List ℕ) → m ≡ sharedAt task i j → PartHolds q part → Chunk j i 0 q part (passRows (line j) 0 i m before part)
+    no-cells : (i q m before : ℕ) (part : List ℕ) → m ≡ sharedAt task i j → PartHolds q part → Chunk j i 0 q part (passRows (sessionLine j) 0 i m before part)
     no-cells i q m before part em holds =
         let e : i + 0 ≡ i = omega arith in
         let f : q + 0 ≡ q = omega arith in
@@ -157,35 +162,35 @@ module _ (task : Task) (limited : Limited task) (threshold-fits : mag (task .thr
         (λ B. (let s : suc n + B ≡ suc (n + B) = omega arith in
         let t : 1 + n ≡ suc n = omega arith in
         ap (ruleAnswer task q) s ∙ pass (n + B) ∙ ap (moreCells 1) (rule B) ∙ more-cells 1 n (ruleAnswer task (suc q + n) B) ∙ ap (λ (k : ℕ). moreCells k (ruleAnswer task (suc q + n) B)) t ∙ ap (λ (k : ℕ). moreCells (suc n) (ruleAnswer task k B)) g))
-    more-cell i n q part part′ update same pass (one-found k within f r em es lower holds out rule) =
+    more-cell i n q part part′ update same pass (one-found k within f r em final lower holds out rule) =
         let e : suc i + k ≡ i + suc k = omega arith in
         let g : suc q + suc k ≡ q + suc (suc k) = omega arith in
-        one-found (suc k) (suc-le-suc within) f (r ∙ ap suc e) (em ∙ ap (λ (n : ℕ). sharedAt task n j) e) (es ∙ ap (λ (n : ℕ). scoreOf task (getD (hits task) n 0) (getD (hits task) j 0)) e) (rw e at lower) (rw g at holds) (λ k o. out k o ∙ same k o)
+        one-found (suc k) (suc-le-suc within) f (r ∙ ap suc e) (em ∙ ap (λ (n : ℕ). sharedAt task n j) e) (rw e at final) (rw e at lower) (rw g at holds) (λ k o. out k o ∙ same k o)
         (λ B. (let s : suc (suc k) + B ≡ suc (suc k + B) = omega arith in
         let t : 1 + suc k ≡ suc (suc k) = omega arith in
         ap (ruleAnswer task q) s ∙ pass (suc k + B) ∙ ap (moreCells 1) (rule B) ∙ ap (found (mappingOf task (cellAt (suc i + k) j))) t ∙ ap (λ (n : ℕ). found (mappingOf task (cellAt n j)) (suc (suc k))) e))
 
-    pub chunk : (n i q m before : ℕ) (part : List ℕ) → i + n ≤ suc j → place (hitCount task) i j ≡ q → m ≡ sharedAt task i j → before ≡ bestBefore (bestAfter task q) i → PartHolds q part → Chunk j i n q part (passRows (line j) n i m before part)
+    pub chunk : (n i q m before : ℕ) (part : List ℕ) → i + n ≤ suc j → place (hitCount task) i j ≡ q → m ≡ sharedAt task i j → before ≡ bestBefore (bestAfter task q) i → PartHolds q part → Chunk j i n q part (passRows (sessionLine j) n i m before part)
     chunk zero i q m before part fits at em eb holds = no-cells i q m before part em holds
     chunk (suc n) i q m before part fits at em eb holds =
         let a : i ≤ j = omega arith in
         go (isFinalCell task (cellAt i j)) refl a
-        (chunk n (suc i) (suc q) (lowered m (inReach (line j) part i)) (bestWith part i before (lineScore (line j) m (getD part i 0))) (set part (4096 + i) (bestWith part i before (lineScore (line j) m (getD part i 0)))) (omega arith)
+        (chunk n (suc i) (suc q) (lowered m (inReach (sessionLine j) part i)) (bestWith part i before (lineScore (sessionLine j) m (getD part i 0))) (set part (4096 + i) (bestWith part i before (lineScore (sessionLine j) m (getD part i 0)))) (omega arith)
         (place-row (hitCount task) i j ∙ ap suc at)
         (m-next j i q m before part a l small at em eb holds)
         (best-is j i q m before part a l small at em eb holds ∙ before-next j i q m before part a l small at em eb holds)
-        (next-holds j i q m before part a l small at em eb holds (bestWith part i before (lineScore (line j) m (getD part i 0))) (best-is j i q m before part a l small at em eb holds)))
+        (next-holds j i q m before part a l small at em eb holds (bestWith part i before (lineScore (sessionLine j) m (getD part i 0))) (best-is j i q m before part a l small at em eb holds)))
       where
         best : ℕ
-        best = bestWith part i before (lineScore (line j) m (getD part i 0))
+        best = bestWith part i before (lineScore (sessionLine j) m (getD part i 0))
 
-        go : (b : Bool) → isFinalCell task (cellAt i j) ≡ b → i ≤ j → Chunk j (suc i) n (suc q) (set part (4096 + i) best) (passRows (line j) n (suc i) (lowered m (inReach (line j) part i)) best (set part (4096 + i) best)) → Chunk j i (suc n) q part (passRows (line j) (suc n) i m before part)
+        go : (b : Bool) → isFinalCell task (cellAt i j) ≡ b → i ≤ j → Chunk j (suc i) n (suc q) (set part (4096 + i) best) (passRows (sessionLine j) n (suc i) (lowered m (inReach (sessionLine j) part i)) best (set part (4096 + i) best)) → Chunk j i (suc n) q part (passRows (sessionLine j) (suc n) i m before part)
         go true e a rest =
             let h : i + 0 ≡ i = omega arith in
             let g : q + 1 ≡ suc q = omega arith in
             rw (test-is j i q m before part a l small at em eb holds ∙ e)
-            (one-found 0 (suc-le-suc zero-le) refl (ap suc (sym h)) (rw h em) (rw h (handed-out j i q m before part a l small at em eb holds)) (rw h (lower-by-one j i q m before part a l small at em eb holds e)) (rw g (next-holds j i q m before part a l small at em eb holds best (best-is j i q m before part a l small at em eb holds))) (next-same j i q m before part a l small at em eb holds best)
+            (one-found 0 (suc-le-suc zero-le) refl (ap suc (sym h)) (rw h em) (rw h e) (rw h (lower-by-one j i q m before part a l small at em eb holds e)) (rw g (next-holds j i q m before part a l small at em eb holds best (best-is j i q m before part a l small at em eb holds))) (next-same j i q m before part a l small at em eb holds best)
             (λ B. (let s : 1 + B ≡ suc B = omega arith in rw (s, h) (rule-found task q (cellAt i j) (next j i q m before part a l small at em eb holds) B e))))
         go false e a rest =
             rw (test-is j i q m before part a l small at em eb holds ∙ e)
-            (more-cell i n q part (set part (4096 + i) best) (passRows (line j) n (suc i) (lowered m (inReach (line j) part i)) best (set part (4096 + i) best)) (next-same j i q m before part a l small at em eb holds best) (λ B. rule-pass task q (cellAt i j) (next j i q m before part a l small at em eb holds) B e) rest)
+            (more-cell i n q part (set part (4096 + i) best) (passRows (sessionLine j) n (suc i) (lowered m (inReach (sessionLine j) part i)) best (set part (4096 + i) best)) (next-same j i q m before part a l small at em eb holds best) (λ B. rule-pass task q (cellAt i j) (next j i q m before part a l small at em eb holds) B e) rest)

@@ -1,10 +1,10 @@
--- Two consequences that users rely on. A session lives wholly in its first 16,384 words: wherever these are copied to, the copy answers
--- as the original does from the moment of the copy, and no step changes the words behind them. And the mappings handed out depend on
--- q alone, whatever the budgets.
-use Prim.Native.Nat.{ℕ, _+_, _≤_}
-use native.Mathlib.Nat.{le-refl, le-of-eq}
+-- Three consequences that users rely on. No list of steps changes words beyond the first 16,384, whatever the words. A session lives
+-- wholly in those: wherever they are copied to, the copy answers as the original does from the moment of the copy. And the mappings
+-- handed out depend on q alone, whatever the budgets.
+use Prim.Native.Nat.{ℕ, zero, suc, _+_, _≤_}
+use native.Mathlib.Nat.{le-refl, le-of-eq, le-of-suc-le-suc, not-suc-le-zero}
 use native.Mathlib.Omega.{arith}
-use mathlib.Core.Path.{_≡_, sym, ap, ap₂, _∙_}
+use mathlib.Core.Path.{_≡_, refl, sym, ap, ap₂, _∙_}
 use mathlib.Core.List.{List, [], _∷_, _++_}
 use lib.ListN.{length, getD, take, drop, length-append, take-append-drop}
 use lib.Seq.{length-take-le, take-all, take-at, drop-at}
@@ -18,9 +18,30 @@ use Rattle.start.specs.Start.{startWords}
 use Rattle.start.specs.WorkWords.{sessionWords}
 use Rattle.start.proofs.WorkWords.{Holds, words-hold, take-session}
 use Rattle.mapper.specs.Promise.{Accepts}
-use Rattle.mapper.specs.Sessions.{Ran, wordsAfter}
+use Rattle.mapper.specs.Sessions.{Ran, none, then, wordsAfter}
 use Rattle.mapper.proofs.Accepted.{Admitted, admitted}
 use Rattle.mapper.proofs.Demand3.{accepts-in, fresh, ran-on, beyond-session, demand3-codes}
+
+-- ---- words beyond the first 16,384
+
+-- two lists of one length that agree from n on agree there with the same words behind them
+agree-beyond : (n : ℕ) (xs ys zs : List ℕ) → length xs ≡ length ys → drop n xs ≡ drop n ys → drop n (xs ++ zs) ≡ drop n (ys ++ zs)
+agree-beyond zero xs ys zs l e = ap (λ (ws : List ℕ). ws ++ zs) e
+agree-beyond (suc n) [] [] zs l e = refl
+agree-beyond (suc n) [] (y ∷ ys) zs l e = absurd (omega arith)
+agree-beyond (suc n) (x ∷ xs) [] zs l e = absurd (omega arith)
+agree-beyond (suc n) (x ∷ xs) (y ∷ ys) zs l e = agree-beyond n xs ys zs (omega arith) e
+
+pub run-beyond : {work : List ℕ} {states : List (List ℕ)} {steps : List Step} {heard : List Answer} → Ran work steps heard states
+    → (n : ℕ) → n ≤ length steps → drop workWords (wordsAfter work states n) ≡ drop workWords work
+run-beyond run zero l = refl
+run-beyond none (suc n) l = absurd (not-suc-le-zero l)
+run-beyond (then {work = work} {after = after} {step = step} promise rest) (suc n) l =
+    run-beyond rest n (le-of-suc-le-suc l)
+    ∙ agree-beyond workWords after (take (step .lent) work) (drop (step .lent) work) (promise .number) (promise .beyond)
+    ∙ ap (drop workWords) (take-append-drop (step .lent) work)
+
+-- ---- a session copied
 
 -- the same list of steps, run on a session's words after q cells and on a copy of them: the answers and the words of both after each step
 pub record Continues (q : ℕ) (words copy : List ℕ) (steps : List Step) (one other : List Answer) (states states′ : List (List ℕ)) : Type 0 where

@@ -1,5 +1,6 @@
 -- Laws about the work words, the column's update and sessions, and examples that compute.
-pub mod Bias
+pub mod Signed
+pub mod Deciding
 pub mod Walking
 pub mod Places
 pub mod Best

@@ -11,8 +11,6 @@ use lib.ListN.{length, getD}
 use borrow.Author.Tests.{lt-ltb, le-ltb, ltb-true}
 use Rattle.counts.proofs.Lists.{clash, eq-or-ne}
 use Rattle.mappings.specs.Score.{Task}
-use Rattle.mappings.specs.Bias.{unbiased}
-use Rattle.mappings.proofs.Integers.{unbiased-biasedZ}
 use Rattle.mappings.specs.Cells.{hitCount, cells, cellCount}
 use Rattle.mappings.specs.Rule.{Answer, reported, moreCells, ruleAnswer}
 use Rattle.mappings.proofs.Cells.{cellAt, stands}
@@ -28,7 +26,8 @@ use Rattle.mapper.specs.Promise.{Accepts, StepPromise}
 use Rattle.mapper.proofs.Accepted.{Admitted, admitted}
 use Rattle.mapper.proofs.Chunk.{more-none}
 use Rattle.mapper.proofs.Places.{at-cell, at-end}
-use Rattle.mapper.proofs.WalkRule.{termsOf, PlaceAt, Ruled, walk-rule}
+use Rattle.mapper.proofs.CellTests.{termsOf}
+use Rattle.mapper.proofs.WalkRule.{PlaceAt, Ruled, walk-rule}
 use Rattle.mapper.proofs.Within.{Kept, kept-walk}
 
 -- ---- the words of a session
@@ -152,11 +151,10 @@ module _ (work : List ℕ) (budget : ℕ) where
           kept : Kept work (walked .words)
           kept = kept-walk (termsIn work) budget (getD work 7 0) (getD work 8 0) (getD work 9 0) budget work l
 
-          terms-are : (task : Task) (before : List ℕ) (q : ℕ) → Accepts task before → InSession task before q work → termsIn work ≡ termsOf task
-          terms-are task before q a s =
+          terms-are : (task : Task) (before : List ℕ) (q : ℕ) → InSession task before q work → termsIn work ≡ termsOf task
+          terms-are task before q s =
               let held = s .held .held in
-              let threshold : unbiased (getD work 6 0) ≡ task .threshold = ap unbiased (held .threshold-word) ∙ unbiased-biasedZ (task .threshold) (a .threshold-fits) in
-              λ i. record { threshold = threshold i; u = held .u-word i; v = held .v-word i; size = held .size-word i; floor = held .threshold-word i }
+              λ i. record { u = held .u-word i; v = held .v-word i; size = held .size-word i; threshold = held .threshold-word i }
 
           ruled : (task : Task) (before : List ℕ) (q : ℕ) → Accepts task before → q ≤ cellCount (hitCount task) → InSession task before q work
               → (answerOf (walked .answer) ≡ ruleAnswer task q budget) × (walked .words ≡ sessionWords task before (q + reported (ruleAnswer task q budget)))
@@ -166,7 +164,7 @@ module _ (work : List ℕ) (budget : ℕ) where
               let none : budget - budget ≡ 0 = omega arith in
               let at : PlaceAt task q (getD work 7 0) (getD work 8 0) (getD work 9 0) = rw (s .held .columns-word, s .held .row-word, s .held .shared-word) (placed task q k) in
               let r : Ruled task (m .limited) (a .threshold-fits) (m .few-hits) before (m .many-words) q budget q budget walked =
-              rw (terms-are task before q a s) (walk-rule task (m .limited) (a .threshold-fits) (m .few-hits) before (m .many-words) q budget (getD work 7 0) q (getD work 8 0) (getD work 9 0) budget work held (s .held .passed-word) (omega arith) (le-refl budget) at)
+              rw (terms-are task before q s) (walk-rule task (m .limited) (a .threshold-fits) (m .few-hits) before (m .many-words) q budget (getD work 7 0) q (getD work 8 0) (getD work 9 0) budget work held (s .held .passed-word) (omega arith) (le-refl budget) at)
               in
               let answer : answerOf (walked .answer) ≡ ruleAnswer task q budget = r .answer-is ∙ ap (λ (n : ℕ). moreCells n (ruleAnswer task q budget)) none ∙ more-none (ruleAnswer task q budget) in
               (answer, r .words-are ∙ ap (λ (x : Answer). sessionWords task before (q + reported x)) answer)

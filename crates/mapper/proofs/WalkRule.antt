@@ -11,8 +11,8 @@ use lib.Signed.{mag}
 use borrow.Author.Tests.{ne-eqb, ltb-true, ltb-false}
 use Rattle.counts.proofs.Lists.{eq-or-ne}
 use Rattle.mappings.specs.Score.{Task, scoreOf, sharedOf}
-use Rattle.mappings.specs.Bias.{bias, biasedZ}
-use Rattle.mappings.specs.Cells.{hits, hitCount, cellCount, mappingOf, leftEnd, rightEnd, place}
+use Rattle.mappings.specs.Bias.{bias}
+use Rattle.mappings.specs.Cells.{hits, hitCount, cellCount, mappingOf, isFinalCell, leftEnd, rightEnd, place}
 use Rattle.mappings.specs.Rule.{found, finished, spent, reported, moreCells, ruleAnswer}
 use Rattle.mappings.proofs.Cells.{cellAt, cellCount-mono, place-row, place-column, place-last, place-within}
 use Rattle.mappings.proofs.HitCodes.{cell-shared}
@@ -21,20 +21,18 @@ use Rattle.mappings.proofs.Rule.{rule-no-budget, rule-none-left, more-cells}
 use Rattle.start.specs.Tables.{whole}
 use Rattle.start.specs.WorkWords.{bestBefore, bestAfter, columnsLeft, nextRow, nextShared, sessionWords}
 use Rattle.start.proofs.WorkWords.{HoldsBlocks, hold-words}
-use Rattle.mapper.specs.declared.update.Terms.{Terms}
 use Rattle.mapper.specs.declared.place.Place.{Place}
+use Rattle.mapper.specs.declared.answer.Stepped.{Stepped}
+use Rattle.mapper.specs.declared.answer.Stepped.the-variants.{Found}
+use Rattle.mapper.specs.Deciding.{decided}
 use Rattle.mapper.specs.Answers.{answerOf}
 use Rattle.column.specs.Passing.{lowered, seenBefore, Update}
 use Rattle.mapper.specs.Walking.{topShared, settled, saved, lineOf, Walk, spentWalk, finishedWalk, foundWalk, partOf, withPart, columnUpdate, walkOn}
-use Rattle.mapper.proofs.CellTests.{sharedAt, sessionLine}
-use Rattle.mapper.proofs.Chunk.{PartHolds, Chunk, all-passed, one-found, chunk, more-none}
+use Rattle.mapper.proofs.CellTests.{sharedAt, termsOf, final-decided}
+use Rattle.mapper.proofs.Chunk.{PartHolds, sessionLine, Chunk, all-passed, one-found, chunk, more-none}
 use Rattle.mapper.proofs.Places.{at-cell, at-end}
 use Rattle.mapper.proofs.SessionWords.{blocks-part, part-blocks, passed-back, place-saved}
 use Rattle.mapper.proofs.Walking.{walk-spent, walk-found, walk-part, walk-next}
-
--- what the scores of a task share
-abbrev pub termsOf : Task → Terms
-termsOf task = record { threshold = task .threshold; u = task .u; v = task .v; size = length (task .pattern); floor = biasedZ (task .threshold) }
 
 -- the place after q cells: behind the last column, or a cell of the last column left with its m
 abbrev pub PlaceAt : Task → ℕ → ℕ → ℕ → ℕ → Type 0
@@ -171,11 +169,11 @@ module _ (task : Task) (limited : Limited task) (threshold-fits : mag (task .thr
 
     -- a final cell of the column
     at-final : (q j row k m left : ℕ) (work : List ℕ) (update : Update) → HoldsBlocks task before q work → getD work 3 0 ≡ q₀ → q₀ + (budget - left) ≡ q → left ≤ budget → suc k ≤ left → j < hitCount task → row + k ≤ j → place (hitCount task) row j ≡ q
-        → update .answer .row ≡ suc (row + k) → update .answer .m ≡ sharedAt task (row + k) j → update .answer .score ≡ scoreOf task (getD (hits task) (row + k) 0) (getD (hits task) j 0) → lowered (sharedAt task (row + k) j) 1 ≡ sharedAt task (suc (row + k)) j
+        → update .answer .row ≡ suc (row + k) → update .answer .m ≡ sharedAt task (row + k) j → isFinalCell task (cellAt (row + k) j) ≡ true → lowered (sharedAt task (row + k) j) 1 ≡ sharedAt task (suc (row + k)) j
         → HoldsBlocks task before (q + suc k) (withPart work (update .part)) → ((B : ℕ) → ruleAnswer task q (suc k + B) ≡ found (mappingOf task (cellAt (row + k) j)) (suc k))
-        → Ruled q left (foundWalk (withPart work (update .part)) (suc j) (update .answer) (budget - (left - (update .answer .row - row))))
+        → Ruled q left (foundWalk (termsOf task) (withPart work (update .part)) (suc j) (update .answer) (budget - (left - (update .answer .row - row))))
     unfolding foundWalk mappingOf leftEnd rightEnd
-    at-final q j row k m left work update h e₀ e fits spends l inside at er em es lower h′ rule =
+    at-final q j row k m left work update h e₀ e fits spends l inside at er em final lower h′ rule =
         let words = withPart work (update .part) in
         let cells : budget - (left - (update .answer .row - row)) ≡ budget - left + suc k = rw er (omega arith) in
         let whole-budget : left ≡ suc k + (left - suc k) = omega arith in
@@ -187,7 +185,12 @@ module _ (task : Task) (limited : Limited task) (threshold-fits : mag (task .thr
         let right-end : getD words (4096 + suc j - 1) 0 ≡ getD (hits task) j 0 =
         (let f : 4096 + suc j - 1 ≡ 4096 + j = omega arith in ap (λ (n : ℕ). getD words n 0) f ∙ h′ .index-word j l)
         in
-        let shares : update .answer .m ≡ sharedOf task (getD (hits task) (row + k) 0) (getD (hits task) j 0) = em ∙ sym (cell-shared task (row + k) j inside l) in
+        let shares′ : sharedAt task (row + k) j ≡ sharedOf task (getD (hits task) (row + k) 0) (getD (hits task) j 0) = sym (cell-shared task (row + k) j inside l) in
+        let passed = budget - (left - (update .answer .row - row)) in
+        let decides : decided (termsOf task) (getD words (4096 + update .answer .row - 1) 0) (getD words (4096 + suc j - 1) 0) (update .answer .m) passed
+        ≡ Found (getD (hits task) (row + k) 0) (getD (hits task) j 0) (scoreOf task (getD (hits task) (row + k) 0) (getD (hits task) j 0)) (sharedAt task (row + k) j) passed =
+        rw (left-end, right-end, em) (final-decided task limited threshold-fits (row + k) j inside l passed final)
+        in
         let further : place (hitCount task) (suc (row + k)) j ≡ q + suc k = place-further (hitCount task) row (suc k) j (suc (row + k)) q at (omega arith) in
         let within : place (hitCount task) (row + k) j < cellCount (hitCount task) = place-within (hitCount task) (row + k) j inside l in
         let next : suc (place (hitCount task) (row + k) j) ≡ q + suc k = sym (place-row (hitCount task) (row + k) j) ∙ further in
@@ -198,10 +201,10 @@ module _ (task : Task) (limited : Limited task) (threshold-fits : mag (task .thr
         let count : getD words 3 0 + (budget - (left - (update .answer .row - row))) ≡ q + suc k = rw (passed-back task limited threshold-fits small before many q work (update .part) h, e₀, cells) (omega arith) in
         let total : q + suc k ≡ q₀ + (budget - (left - (update .answer .row - row))) = rw cells (omega arith) in
         record {
-          answer-is = rw (left-end, right-end, es, shares, cells, answer);
+          answer-is = ap answerOf decides ∙ rw (shares′, cells, answer);
           words-are =
               saved-is (q + suc k) (budget - (left - (update .answer .row - row))) words (settled words (suc j) (update .answer .row) (lowered (update .answer .m) 1)) h′ (omega arith) count settles
-              ∙ ap (sessionWords task before) total;
+              ∙ ap (sessionWords task before) (total ∙ ap (λ (answer : Stepped). q₀ + reported (answerOf answer)) (sym decides));
         }
 
     -- the update of a column in the words of a session
@@ -246,10 +249,10 @@ module _ (task : Task) (limited : Limited task) (threshold-fits : mag (task .thr
         go (inl z) c rec =
             by (walk-spent (termsOf task) budget (suc j) row m left work (suc-le-suc zero-le) z)
             (spent-ruled q left q 0 j row m budget work h e₀ (omega arith) at (rw z (sym (more-none (ruleAnswer task q 0)))) (omega arith))
-        go (inr n) (one-found k within f r em es lower p same rule) rec =
+        go (inr n) (one-found k within f r em final lower p same rule) rec =
             let inside : row + k ≤ j = omega (arith, at .1) in
             by (walk-found (termsOf task) budget (suc j) row m left work (suc-le-suc zero-le) n (update .answer) (withPart work (update .part)) same-answer same-words f)
-            (at-final q j row k m left work update h e₀ e fits (omega arith) (at .0) inside (at .2) r em es lower (part-blocks task limited threshold-fits small before many q (q + suc k) work (update .part) h p same) rule)
+            (at-final q j row k m left work update h e₀ e fits (omega arith) (at .0) inside (at .2) r em final lower (part-blocks task limited threshold-fits small before many q (q + suc k) work (update .part) h p same) rule)
         go (inr n) (all-passed f r em p same rule) rec = ends (ltb (update .answer .row) (suc j)) refl
           where
             passed : ℕ

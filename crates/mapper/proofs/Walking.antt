@@ -17,7 +17,7 @@ use Rattle.column.proofs.Passing.{bounded}
 use Rattle.column.proofs.Fitting.{fits-all, pass-fits}
 use Rattle.mapper.specs.declared.update.Terms.{Terms}
 use Rattle.mapper.specs.declared.place.Place.{Place}
-use Rattle.mapper.specs.declared.answer.Stepped.the-variants.{Found}
+use Rattle.mapper.specs.Deciding.{decided}
 use Rattle.mapper.specs.Walking.{saved, settled, topShared, spentWalk, foundWalk, withPart, partOf, lineOf, columnUpdate, walkOn}
 
 -- a place settles within the columns and rows that it came from
@@ -43,10 +43,10 @@ module _ (terms : Terms) (budget columns row m left : ℕ) (work : List ℕ) (h 
 
   -- with what the column's update has answered, and the words with its part back
   module _ (l : left ≢ 0) (p : Passed) (words : List ℕ) (ep : p ≡ columnUpdate terms (columns - 1) row m left work .answer) (ew : words ≡ withPart work (columnUpdate terms (columns - 1) row m left work .part)) where
-    unrolled : walkOn terms budget columns row m left work ≡ cond (p .found) (foundWalk words columns p (budget - (left - (p .row - row)))) (cond (ltb (p .row) columns) (spentWalk words (record { columns = columns; row = p .row; m = p .m }) (budget - (left - (p .row - row)))) (walkOn terms budget (columns - 1) 0 (topShared words (columns - 1)) (left - (p .row - row)) words))
+    unrolled : walkOn terms budget columns row m left work ≡ cond (p .found) (foundWalk terms words columns p (budget - (left - (p .row - row)))) (cond (ltb (p .row) columns) (spentWalk words (record { columns = columns; row = p .row; m = p .m }) (budget - (left - (p .row - row)))) (walkOn terms budget (columns - 1) 0 (topShared words (columns - 1)) (left - (p .row - row)) words))
     unrolled = rw (ep, ew) (ap (λ (n : ℕ). walkOn terms budget n row m left work) (suc-pred columns h) ∙ simp (ne-eqb left 0 l, ← suc-pred columns h))
 
-    pub walk-found : p .found ≡ true → walkOn terms budget columns row m left work ≡ foundWalk words columns p (budget - (left - (p .row - row)))
+    pub walk-found : p .found ≡ true → walkOn terms budget columns row m left work ≡ foundWalk terms words columns p (budget - (left - (p .row - row)))
     walk-found f = unrolled ∙ rw f
 
     pub walk-part : p .found ≡ false → p .row < columns → walkOn terms budget columns row m left work ≡ spentWalk words (record { columns = columns; row = p .row; m = p .m }) (budget - (left - (p .row - row)))
@@ -121,7 +121,7 @@ module _ (terms : Terms) (columns row m : ℕ) (work : List ℕ) (p : Passed) (w
   stops : Stops columns row 1 p
   stops = update-stops terms columns row m 1 work p (omega arith) (omega arith) ep
 
-  pub one-found : p .found ≡ true → (after : List ℕ) → after ≡ saved words (record { columns = columns; row = p .row; m = lowered (p .m) 1 }) 1 → walkOn terms 1 columns row m 1 work ≡ record { answer = Found (getD after (4096 + p .row - 1) 0) (getD after (4096 + columns - 1) 0) (p .score) (p .m) 1; words = after }
+  pub one-found : p .found ≡ true → (after : List ℕ) → after ≡ saved words (record { columns = columns; row = p .row; m = lowered (p .m) 1 }) 1 → walkOn terms 1 columns row m 1 work ≡ record { answer = decided terms (getD after (4096 + p .row - 1) 0) (getD after (4096 + columns - 1) 0) (p .m) 1; words = after }
   unfolding foundWalk settled
   one-found f after e =
       let one : 1 - (1 - (p .row - row)) ≡ 1 = omega (arith, stops .moved f) in

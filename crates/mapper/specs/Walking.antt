@@ -4,14 +4,15 @@ use mathlib.Core.Bool.{cond}
 use mathlib.Core.List.{List, _++_}
 use lib.Dec.{ltb, eqb}
 use lib.ListN.{getD, take, drop, set}
-use Rattle.mappings.specs.Bias.{bias, unbiased}
+use Rattle.mappings.specs.Bias.{bias}
 use Rattle.column.specs.Passing.{lowered, seenBefore, Update, passRows}
 use Rattle.column.specs.declared.cells.Line.{Line}
 use Rattle.column.specs.declared.cells.Passed.{Passed}
 use Rattle.mapper.specs.declared.place.Place.{Place}
 use Rattle.mapper.specs.declared.update.Terms.{Terms}
 use Rattle.mapper.specs.declared.answer.Stepped.{Stepped}
-use Rattle.mapper.specs.declared.answer.Stepped.the-variants.{Found, Finished, Spent}
+use Rattle.mapper.specs.declared.answer.Stepped.the-variants.{Finished, Spent}
+use Rattle.mapper.specs.Deciding.{decided}
 
 -- m of the first cell of the last of these columns
 abbrev pub topShared : List ℕ → ℕ → ℕ
@@ -36,11 +37,10 @@ saved work place cells =
 -- what the scores of the session in these words share
 unfoldable pub termsIn : List ℕ → Terms
 termsIn work = record {
-  threshold = unbiased (getD work 6 0);
   u = getD work 1 0;
   v = getD work 2 0;
   size = getD work 5 0;
-  floor = getD work 6 0;
+  threshold = getD work 6 0;
 }
 
 -- added to the base of a column's score words: 2^31, their bias, and 2^44, which keeps the base of any words above 0
@@ -50,16 +50,12 @@ lift = 2 ^ 44 + bias
 -- what the cells of column j share
 unfoldable pub lineOf : List ℕ → Terms → ℕ → Line
 lineOf work terms j = record {
-  threshold = terms .threshold;
-  u = terms .u;
-  v = terms .v;
-  size = terms .size;
-  right = getD work (4096 + j) 0;
-  back = getD work (2048 + j) 0;
   column = j;
   gain = terms .u + 2 * terms .v;
+  v = terms .v;
   base = (lift - terms .v * (getD work (4096 + j) 0 + 1 + terms .size)) % 4294967296;
-  floor = terms .floor;
+  back = getD work (2048 + j) 0;
+  threshold = terms .threshold;
 }
 
 -- a step's answer, and the words afterwards
@@ -73,9 +69,10 @@ spentWalk work place cells = record { answer = Spent cells; words = saved work p
 unfoldable pub finishedWalk : List ℕ → Place → ℕ → Walk
 finishedWalk work place cells = record { answer = Finished cells; words = saved work place cells }
 
-unfoldable pub foundWalk : List ℕ → ℕ → Passed → ℕ → Walk
-foundWalk work columns p cells = record {
-  answer = Found (getD work (4096 + p .row - 1) 0) (getD work (4096 + columns - 1) 0) (p .score) (p .m) cells;
+-- at a candidate
+unfoldable pub foundWalk : Terms → List ℕ → ℕ → Passed → ℕ → Walk
+foundWalk terms work columns p cells = record {
+  answer = decided terms (getD work (4096 + p .row - 1) 0) (getD work (4096 + columns - 1) 0) (p .m) cells;
   words = saved work (settled work columns (p .row) (lowered (p .m) 1)) cells;
 }
 
@@ -101,7 +98,7 @@ walkOn terms budget (suc j) row m left work =
     cond (eqb left 0)
     (spentWalk work (record { columns = suc j; row = row; m = m }) budget)
     (cond (update .answer .found)
-    (foundWalk words (suc j) (update .answer) (budget - rest))
+    (foundWalk terms words (suc j) (update .answer) (budget - rest))
     (cond (ltb (update .answer .row) (suc j))
     (spentWalk words (record { columns = suc j; row = update .answer .row; m = update .answer .m }) (budget - rest))
     later))

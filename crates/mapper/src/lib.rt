@@ -1,5 +1,6 @@
 // Mapping sessions: `session::step` passes cells in the work words that start wrote. Assumes nothing.
 pub mod answer;
+mod decide;
 mod place;
 mod score;
 pub mod session;

@@ -1,6 +1,17 @@
-// The threshold out of the work words, which hold it plus 2^31.
+// The score of an interval, signed, and the threshold out of its word, which holds it plus 2^31.
 ghost use mathlib.Core.Path.{_≡_};
+ghost use Prim.Native.Nat.{_≤_};
+ghost use Rattle.mappings.specs.Score.{linear};
 ghost use Rattle.mappings.specs.Bias.{unbiased as unbiasedOf};
+
+// The score of an interval: u·m − v·d with d = len + |p| − 2m.
+pub fn score(u: u32, v: u32, size: u32, m: u32, len: u32) -> i32
+    requires { ⌜ (u ≤ 1000) × (v ≤ 1000) × (size ≤ 4096) × (len ≤ 65535) × (m ≤ size) × (m ≤ len) ⌝ }
+    ensures { λ r. ⌜ r ≡ linear u v size m len ⌝ }
+{
+    let d = len + size - 2 * m;
+    (u * m) as i32 - (v * d) as i32
+}
 
 // A word less 2^31, as a signed number.
 pub fn unbiased(word: u32) -> i32

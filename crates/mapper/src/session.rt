@@ -1,7 +1,6 @@
 // A step of a session: what is refused, and the walk from the place in the work words.
 use crate::answer::Stepped;
 use crate::place::Place;
-use crate::score::unbiased;
 use crate::update::Terms;
 use crate::walk::walk;
 use crate::walk::walk_one;
@@ -18,7 +17,6 @@ use layout::V;
 use layout::WEIGHT_LIMIT;
 use layout::WORK_WORDS;
 use layout::wide;
-use layout::wider;
 ghost use mathlib.Core.Path.{_≡_};
 ghost use Prim.Native.Nat.{_+_, _≤_};
 ghost use mathlib.Core.Bool.{_&&_};
@@ -59,15 +57,13 @@ fn bad_words(work: &[u32]) -> bool
 // What the scores of the session share.
 fn terms_of(work: &[u32]) -> Terms
     requires { ⌜ 16384 ≤ length (now work) ⌝ }
-    ensures { λ r. ⌜ (r ≡ termsIn (now (work .entry))) × (r .size ≤ 4294967295) ⌝ }
+    ensures { λ r. ⌜ r ≡ termsIn (now (work .entry)) ⌝ }
 {
-    let floor = work[THRESHOLD];
     Terms {
-        threshold: unbiased(floor),
-        u: wider(work[U]),
-        v: wider(work[V]),
-        size: wider(work[SIZE]),
-        floor,
+        u: work[U],
+        v: work[V],
+        size: work[SIZE],
+        threshold: work[THRESHOLD],
     }
 }
 

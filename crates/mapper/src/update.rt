@@ -14,13 +14,12 @@ ghost use Prim.Native.Nat.{_-_, _≤_, _<_, min};
 ghost use lib.ListN.{length};
 ghost use Rattle.mapper.specs.Walking.{lineOf, columnUpdate, withPart};
 
-// What the scores of a session share: the threshold, the weights, the pattern's length, and floor, the threshold's word.
+// What the scores of a session share: the weights, the pattern's length, and the threshold's word.
 pub struct Terms {
-    pub threshold: i32,
-    pub u: u64,
-    pub v: u64,
-    pub size: u64,
-    pub floor: u32,
+    pub u: u32,
+    pub v: u32,
+    pub size: u32,
+    pub threshold: u32,
 }
 
 // Added to the base of a column's score words: 2^31, their bias, and 2^44, which keeps the base of any words above 0.
@@ -35,32 +34,26 @@ fn smaller(a: usize, b: usize) -> usize
 
 // What the cells of column j share.
 fn line_of(work: &[u32], terms: Terms, j: usize) -> Line
-    requires { ⌜ (16384 ≤ length (now work)) × (j < 2048) × (terms .u ≤ 1000) × (terms .v ≤ 1000) × (terms .size ≤ 4294967295) ⌝ }
+    requires { ⌜ (16384 ≤ length (now work)) × (j < 2048) × (terms .u ≤ 1000) × (terms .v ≤ 1000) ⌝ }
     ensures { λ r. ⌜ r ≡ lineOf (now (work .entry)) terms j ⌝ }
 {
-    let right = work[INDEX + j];
-    let back = wide(work[BACK + j]);
     let u = terms.u;
     let v = terms.v;
-    let size = terms.size;
+    let lost = wider(v) * (wider(work[INDEX + j]) + 1 + wider(terms.size));
     Line {
-        threshold: terms.threshold,
-        u: u as u32,
-        v: v as u32,
-        size: size as u32,
-        right,
-        back,
         column: j as u32,
-        gain: (u + 2 * v) as u32,
-        base: ((LIFT - v * (wider(right) + 1 + size)) % 4294967296) as u32,
-        floor: terms.floor,
+        gain: u + 2 * v,
+        v,
+        base: ((LIFT - lost) % 4294967296) as u32,
+        back: wide(work[BACK + j]),
+        threshold: terms.threshold,
     }
 }
 
-// Passes cells of the last of the place's columns from its row on: at most `left` of them, and up to the first final one.
+// Passes cells of the last of the place's columns from its row on: at most `left` of them, and up to the first candidate.
 pub fn update(work: &mut [u32], terms: Terms, place: Place, left: usize) -> Passed
     requires { ⌜ (16384 ≤ length (now work)) × (1 ≤ place .columns) × (place .columns ≤ 2048) × (place .row ≤ place .columns) ⌝ }
-    requires { ⌜ (terms .u ≤ 1000) × (terms .v ≤ 1000) × (terms .size ≤ 4294967295) ⌝ }
+    requires { ⌜ (terms .u ≤ 1000) × (terms .v ≤ 1000) ⌝ }
     ensures { λ r. ⌜ r ≡ columnUpdate terms (place .columns - 1) (place .row) (place .m) left (now (work .entry)) .answer ⌝ }
     ensures { λ _. ⌜ now (work .exit) ≡ withPart (now (work .entry)) (columnUpdate terms (place .columns - 1) (place .row) (place .m) left (now (work .entry)) .part) ⌝ }
 {
@@ -73,7 +66,7 @@ pub fn update(work: &mut [u32], terms: Terms, place: Place, left: usize) -> Pass
 // The same of one cell.
 pub fn update_one(work: &mut [u32], terms: Terms, place: Place) -> Passed
     requires { ⌜ (16384 ≤ length (now work)) × (place .columns ≤ 2048) × (place .row < place .columns) ⌝ }
-    requires { ⌜ (terms .u ≤ 1000) × (terms .v ≤ 1000) × (terms .size ≤ 4294967295) ⌝ }
+    requires { ⌜ (terms .u ≤ 1000) × (terms .v ≤ 1000) ⌝ }
     ensures { λ r. ⌜ r ≡ columnUpdate terms (place .columns - 1) (place .row) (place .m) 1 (now (work .entry)) .answer ⌝ }
     ensures { λ _. ⌜ now (work .exit) ≡ withPart (now (work .entry)) (columnUpdate terms (place .columns - 1) (place .row) (place .m) 1 (now (work .entry)) .part) ⌝ }
 {

@@ -1,5 +1,6 @@
-// Walking along the columns from a place, until a final cell, the budget's end or the last cell.
+// Walking along the columns from a place, until a candidate, the budget's end or the last cell.
 use crate::answer::Stepped;
+use crate::decide::decided;
 use crate::place::Place;
 use crate::place::save;
 use crate::place::settled;
@@ -37,30 +38,24 @@ fn finished(work: &mut [u32], place: Place, cells: usize) -> Stepped
     Stepped::Finished(cells as u32)
 }
 
-// The cell passed last, in the last of these columns, is final.
-fn found(work: &mut [u32], columns: usize, p: Passed, cells: usize) -> Stepped
+// The cell passed last, in the last of these columns, is a candidate: it is decided.
+fn found(work: &mut [u32], terms: Terms, columns: usize, p: Passed, cells: usize) -> Stepped
     requires { ⌜ (16384 ≤ length (now work)) × (1 ≤ columns) × (columns ≤ 2048) × (1 ≤ p .row) × (p .row ≤ 2048) × (cells ≤ 4294967295) ⌝ }
-    ensures { λ r. ⌜ r ≡ foundWalk (now (work .entry)) columns p cells .answer ⌝ }
-    ensures { λ r. ⌜ now (work .exit) ≡ foundWalk (now (work .entry)) columns p cells .words ⌝ }
+    ensures { λ r. ⌜ r ≡ foundWalk terms (now (work .entry)) columns p cells .answer ⌝ }
+    ensures { λ r. ⌜ now (work .exit) ≡ foundWalk terms (now (work .entry)) columns p cells .words ⌝ }
 {
     let row = p.row;
     let a = work[INDEX + row - 1];
     let b = work[INDEX + columns - 1];
     let place = settled(work, columns, row, lowered(p.m, 1));
     save(work, place, cells);
-    Stepped::Found {
-        a,
-        b,
-        score: p.score,
-        m: p.m,
-        cells: cells as u32,
-    }
+    decided(terms, a, b, p.m, cells as u32)
 }
 
 // The cells from this place on, at most `budget` of them.
 pub fn walk(work: &mut [u32], terms: Terms, start: Place, budget: usize) -> Stepped
     requires { ⌜ (16384 ≤ length (now work)) × (budget ≤ 4294967295) × (start .columns ≤ 2048) × (start .row ≤ start .columns) ⌝ }
-    requires { ⌜ (terms .u ≤ 1000) × (terms .v ≤ 1000) × (terms .size ≤ 4294967295) ⌝ }
+    requires { ⌜ (terms .u ≤ 1000) × (terms .v ≤ 1000) ⌝ }
     ensures { λ r. ⌜ r ≡ walkOn terms budget (start .columns) (start .row) (start .m) budget (now (work .entry)) .answer ⌝ }
     ensures { λ r. ⌜ now (work .exit) ≡ walkOn terms budget (start .columns) (start .row) (start .m) budget (now (work .entry)) .words ⌝ }
 {
@@ -76,7 +71,7 @@ pub fn walk(work: &mut [u32], terms: Terms, start: Place, budget: usize) -> Step
         let next = p.row;
         left -= next - row;
         if p.found {
-            return found(work, columns, p, budget - left);
+            return found(work, terms, columns, p, budget - left);
         }
         if next < columns {
             return spent(
@@ -109,7 +104,7 @@ fn behind(p: Passed) -> u32
 // The walk of one cell in a column that has a further row. The place is saved before the answer is made, once for both answers.
 pub fn walk_one(work: &mut [u32], terms: Terms, start: Place) -> Stepped
     requires { ⌜ (16384 ≤ length (now work)) × (start .columns ≤ 2048) × (start .row + 1 < start .columns) ⌝ }
-    requires { ⌜ (terms .u ≤ 1000) × (terms .v ≤ 1000) × (terms .size ≤ 4294967295) ⌝ }
+    requires { ⌜ (terms .u ≤ 1000) × (terms .v ≤ 1000) ⌝ }
     ensures { λ r. ⌜ r ≡ walkOn terms 1 (start .columns) (start .row) (start .m) 1 (now (work .entry)) .answer ⌝ }
     ensures { λ r. ⌜ now (work .exit) ≡ walkOn terms 1 (start .columns) (start .row) (start .m) 1 (now (work .entry)) .words ⌝ }
 {
@@ -121,13 +116,7 @@ pub fn walk_one(work: &mut [u32], terms: Terms, start: Place) -> Stepped
     if p.found {
         let a = work[INDEX + row - 1];
         let b = work[INDEX + columns - 1];
-        return Stepped::Found {
-            a,
-            b,
-            score: p.score,
-            m: p.m,
-            cells: 1,
-        };
+        return decided(terms, a, b, p.m, 1);
     }
     Stepped::Spent(1)
 }

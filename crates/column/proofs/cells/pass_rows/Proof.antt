@@ -2,16 +2,12 @@
 -- whole.
 use Prim.Native.Nat.{ℕ, _-_, _≤_, _<_}
 use native.Mathlib.Omega.{arith}
-use mathlib.Core.Path.{_≡_, sym, ap, ap₂, _∙_}
-use mathlib.Core.Bool.{Bool, true, false}
+use mathlib.Core.Path.{_≡_, sym, ap, _∙_}
 use lib.ListN.{length}
-use mir.Facts.{toZ-ofZ}
-use borrow.Author.Needs.{needs, sfits-of}
-use Rattle.column.specs.Deciding.{judged}
+use borrow.Author.Needs.{needs}
 use Rattle.column.specs.Passing.{seenBefore, Update, passRows}
-use Rattle.column.proofs.Deciding.{final-says, other-says}
-use Rattle.column.proofs.Passing.{foundWith}
-use Rattle.column.proofs.Quiet.{raised, judgedAt, pace, pause-stop, pause-on}
+use Rattle.column.proofs.Passing.{tested}
+use Rattle.column.proofs.Quiet.{testedAt, pace, pause-stop, pause-on}
 use Rattle.column.proofs.cells.pass_rows.Statement.{statement}
 use Rattle.column.proofs.cells.pass_rows.Tie as tie
 
@@ -59,71 +55,58 @@ module _ (d : tie.After-quiet Inv-loop μ-loop) where
       let some : 0 < entry d .args .to - t .i = omega (arith, d .before .before .loop-test .taken) in
       (p .moved some, omega (arith, p .to, t .inv .0), p .word (t .inv .2), p .size ∙ t .inv .1)
 
--- what `judge` said of the cell at the pause
-module _ (j : tie.After-judge Inv-loop μ-loop) where
+-- the tests at the pause
+module _ (j : tie.After-is-candidate Inv-loop μ-loop) where
   abbrev compared : tie.After-below Inv-loop μ-loop
-  compared = j .before .before
+  compared = j .before
 
   abbrev paused : tie.After-quiet Inv-loop μ-loop
   paused = compared .before .before .before
 
-  judges : j .judge .result ≡ judgedAt (entry paused .args .line) (paused .quiet .result)
-  judges =
+  tests : j .is-candidate .result ≡ testedAt (entry paused .args .line) (paused .quiet .result)
+  tests =
       let line = entry paused .args .line in
       let q = paused .quiet .result in
-      j .judge .ensures ∙ ap₂ (λ (one m : ℕ). judged line (q .score) (q .best) one (q .row - 1) m (q .left)) (compared .below .ensures) (j .before .raised .ensures)
-
-  law : {u : Update} → passRows (entry paused .args .line) (entry paused .args .to - turn paused .loop .i) (turn paused .loop .i) (turn paused .loop .m) (turn paused .loop .best) (turn paused .loop .part) ≡ u
-      → u ≡ passRows (entry paused .args .line) (entry paused .args .to - entry paused .args .from) (entry paused .args .from) (entry paused .args .m0)
-      (seenBefore (entry paused .args .part .now) (entry paused .args .from)) (entry paused .args .part .now)
-  law e = sym e ∙ turn paused .loop .inv .3
+      j .is-candidate .ensures ∙ ap (λ (one : ℕ). tested line (q .score) (q .best) one (q .row - 1)) (compared .below .ensures)
 
 below-requires : tie.Need-below-requires Inv-loop μ-loop
 below-requires c κs = search needs
 
+sub-is-candidate : tie.Need-sub-is-candidate Inv-loop μ-loop
+sub-is-candidate c = omega (arith, paced (c .before .before .before) .0)
+
+is-candidate-requires : tie.Need-is-candidate-requires Inv-loop μ-loop
+is-candidate-requires c κs = search needs
+
 raised-requires : tie.Need-raised-requires Inv-loop μ-loop
 raised-requires c κs = search needs
 
-sub-judge : tie.Need-sub-judge Inv-loop μ-loop
-sub-judge c = let d = c .before .before .before in omega (arith, paced (d .before) .0)
-
-judge-requires : tie.Need-judge-requires Inv-loop μ-loop
-judge-requires c κs = search needs
-
-enum-known-score : tie.Need-enum-known-score Inv-loop μ-loop
-enum-known-score c = search needs
-
 same-length : tie.Need-same-length Inv-loop μ-loop
 same-length c =
-    let d = paused (c .before .before .before) in
+    let d = paused (c .before .before) in
     paced d .3 ∙ sym (entry d .pre .0)
 
 returns : tie.Need-returns Inv-loop μ-loop
 returns c =
-    let j = c .before .before .before in
+    let j = c .before .before in
     let d = paused j in
     let t = turn d .loop in
-    let says = final-says _ _ _ _ _ _ _ (c .before .score .given .0 .0) (sym (judges j) ∙ c .before .score .given .1) in
-    let e = law j (pause-stop _ _ _ _ _ _ (d .quiet .result) (d .quiet .last .0) (t .inv .0) (t .inv .2) (d .quiet .ensures .0) (d .quiet .ensures .1) (says .0)) in
-    let z = toZ-ofZ (sfits-of (c .known-told .given .0 .1)) ∙ says .1 in
-    (rw (j .before .raised .ensures) (ap (foundWith (d .quiet .result .row) (raised (d .quiet .result .m))) z ∙ ap (λ (u : Update). u .answer) e), ap (λ (u : Update). u .part) e)
-
-enum-told : tie.Need-enum-told Inv-loop μ-loop
-enum-told c = search needs
+    let e = sym (pause-stop _ _ _ _ _ _ (d .quiet .result) (d .quiet .last .0) (t .inv .0) (t .inv .2) (d .quiet .ensures .0) (d .quiet .ensures .1)
+    (sym (tests j) ∙ c .before .if1 .taken)) ∙ t .inv .3 in
+    (rw (c .raised .ensures) (ap (λ (u : Update). u .answer) e), ap (λ (u : Update). u .part) e)
 
 loop-less : tie.Need-loop-less Inv-loop μ-loop
 loop-less c =
-    let d = paused (c .before .before) in
+    let d = paused (c .before) in
     omega (arith, paced d .0, paced d .1)
 
 loop-again : tie.Need-loop-again Inv-loop μ-loop
 loop-again c =
-    let j = c .before .before in
-    let d = paused j in
+    let d = paused (c .before) in
     let t = turn d .loop in
     let p = paced d in
-    let says = other-says _ _ _ _ _ _ _ (sym (judges j) ∙ c .enum-told .given .1) in
-    let e = law j (pause-on _ _ _ _ _ _ (d .quiet .result) (d .quiet .last .0) (t .inv .0) (t .inv .2) (d .quiet .ensures .0) (d .quiet .ensures .1) says) in
+    let e = sym (pause-on _ _ _ _ _ _ (d .quiet .result) (d .quiet .last .0) (t .inv .0) (t .inv .2) (d .quiet .ensures .0) (d .quiet .ensures .1)
+    (sym (tests (c .before)) ∙ c .if1 .left)) ∙ t .inv .3 in
     (p .1, p .3, p .2, e)
 
 none-passed-requires : tie.Need-none-passed-requires Inv-loop μ-loop
@@ -149,13 +132,11 @@ pass-rows-spec =
     loop-holds
     quiet-requires
     below-requires
+    sub-is-candidate
+    is-candidate-requires
     raised-requires
-    sub-judge
-    judge-requires
-    enum-known-score
     same-length
     returns
-    enum-told
     loop-less
     loop-again
     none-passed-requires

@@ -2,7 +2,7 @@
 -- whole.
 use Prim.Native.Nat.{_-_, _≤_}
 use mathlib.Core.Path.{_≡_, refl, sym, ap, _∙_}
-use lib.ListN.{length, getD, length-set}
+use lib.ListN.{length, length-set}
 use Rattle.column.specs.Passing.{lineScore, inReach, Pause, quietRows}
 use Rattle.column.proofs.Passing.{AtCell}
 use Rattle.column.proofs.Quiet.{quiet-stop, quiet-on}
@@ -37,11 +37,11 @@ entry d = turn d .before .before
 loop-holds : tie.Need-loop-holds Inv-loop μ-loop
 loop-holds c = (search needs, search needs, refl)
 
-mul-x : tie.Need-mul-x Inv-loop μ-loop
-mul-x c = search needs
+mul-score-word : tie.Need-mul-score-word Inv-loop μ-loop
+mul-score-word c = search needs
 
-slice-read-x : tie.Need-slice-read-x Inv-loop μ-loop
-slice-read-x c = search needs
+slice-read-score-word : tie.Need-slice-read-score-word Inv-loop μ-loop
+slice-read-score-word c = search needs
 
 score-word-requires : tie.Need-score-word-requires Inv-loop μ-loop
 score-word-requires c κs = search needs
@@ -93,11 +93,10 @@ same-length c = simp length-set (search needs)
 
 -- what is known at a cell once it is passed
 at-cell : (d : tie.After-lowered Inv-loop μ-loop) → AtCell (entry d .args .line) (turn d .loop .i) (turn d .loop .m) (turn d .loop .best) (turn d .loop .part)
-    (getD (turn d .loop .part) (turn d .loop .i) 0) (scored d .score-word .result) (d .before .below .result)
+    (scored d .score-word .result) (d .before .below .result)
     (greatest d .greater .result) (d .before .before .greater2 .result)
 unfolding inReach lineScore
 at-cell d = record {
-  left = refl;
   score = scored d .score-word .ensures;
   reach = d .before .below .ensures;
   greatest-is = greatest d .greater .ensures;
@@ -108,7 +107,7 @@ returns : tie.Need-returns Inv-loop μ-loop
 returns c =
     let d = c .before .before in
     let t = turn d .loop in
-    let e = sym (quiet-stop (entry d .args .line) (entry d .args .to) (t .i) (t .m) (t .best) (t .part) _ _ _ _ _ (tested d .loop-test .taken) (at-cell d) (d .lowered .result) (c .if1 .taken) (d .lowered .ensures)) ∙ t .inv .2 in
+    let e = sym (quiet-stop (entry d .args .line) (entry d .args .to) (t .i) (t .m) (t .best) (t .part) _ _ _ _ (tested d .loop-test .taken) (at-cell d) (d .lowered .result) (c .if1 .taken) (d .lowered .ensures)) ∙ t .inv .2 in
     (ap (λ (u : Pause). u .answer) e, ap (λ (u : Pause). u .part) e)
 
 loop-less : tie.Need-loop-less Inv-loop μ-loop
@@ -120,7 +119,7 @@ loop-again c =
     let t = turn d .loop in (
       search needs,
       simp length-set (search needs),
-      sym (quiet-on (entry d .args .line) (entry d .args .to) (t .i) (t .m) (t .best) (t .part) _ _ _ _ _ (tested d .loop-test .taken) (at-cell d) (d .lowered .result) (c .if1 .left) (d .lowered .ensures)) ∙ t .inv .2,
+      sym (quiet-on (entry d .args .line) (entry d .args .to) (t .i) (t .m) (t .best) (t .part) _ _ _ _ (tested d .loop-test .taken) (at-cell d) (d .lowered .result) (c .if1 .left) (d .lowered .ensures)) ∙ t .inv .2,
     )
 
 same-length-2 : tie.Need-same-length-2 Inv-loop μ-loop
@@ -139,8 +138,8 @@ quiet-spec =
     Inv-loop
     μ-loop
     loop-holds
-    mul-x
-    slice-read-x
+    mul-score-word
+    slice-read-score-word
     score-word-requires
     add-reach
     mul-reach

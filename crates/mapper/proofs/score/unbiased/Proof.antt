@@ -1,7 +1,7 @@
--- `score::unbiased` meets its contract. Assumes nothing.
+-- `score::unbiased` meets its contract.
 use borrow.Author.Needs.{needs}
 use Rattle.mappings.specs.Bias.{unbiased}
-use Rattle.mapper.proofs.Bias.{word-high, word-sub, word-low}
+use Rattle.mapper.proofs.Signed.{word-high, word-sub, word-low}
 use Rattle.mapper.proofs.score.unbiased.Statement.{statement}
 use Rattle.mapper.proofs.score.unbiased.Tie as tie
 

@@ -116,11 +116,8 @@ module _ (d : tie.After-one-inside) where
   columns-within : columns hits .wide .result ≤ 2048
   columns-within = omega (arith, place d .if3 .left, hits .wide2 .ensures .0, within .few-hits)
 
-  terms-small : (d .before .terms-of .result .u ≤ 1000) × (d .before .terms-of .result .v ≤ 1000) × (d .before .terms-of .result .size ≤ 4294967295)
-  terms-small =
-      let t = d .before .terms-of in
-      let w = terms-within work within (t .result) (t .ensures .0) in
-      (w .0, w .1, t .ensures .1)
+  terms-small : (d .before .terms-of .result .u ≤ 1000) × (d .before .terms-of .result .v ≤ 1000)
+  terms-small = terms-within work within (d .before .terms-of .result) (d .before .terms-of .ensures)
 
   -- a walk from the place in the words, with the budget, keeps the promise
   walked : (cells : ℕ) → cells ≡ start .args .budget → (answer : Stepped) (after : List ℕ)
@@ -130,7 +127,7 @@ module _ (d : tie.After-one-inside) where
   walked cells n answer after a b =
       let same : walkOn (d .before .terms-of .result) cells (columns hits .wide .result) (row d .wide3 .result) (getD work 9 0) cells work
       ≡ walkOn (termsIn work) (start .args .budget) (getD work 7 0) (getD work 8 0) (getD work 9 0) (start .args .budget) work =
-      λ i. walkOn (d .before .terms-of .ensures .0 i) (n i) (columns hits .wide .ensures .0 i) (row d .wide3 .ensures .0 i) (getD work 9 0) (n i) work
+      λ i. walkOn (d .before .terms-of .ensures i) (n i) (columns hits .wide .ensures .0 i) (row d .wide3 .ensures .0 i) (getD work 9 0) (n i) work
       in
       subst₂ (StepPromise work (start .args .budget)) (sym (a ∙ ap (λ (w : Walk). w .answer) same)) (sym (b ∙ ap (λ (w : Walk). w .words) same))
       (walk-promise work (start .args .budget) (enough (good hits .before) .if1 .left) (not-bad (good hits)))

@@ -1,11 +1,9 @@
 -- `walk::found` meets its contract.
 use mathlib.Core.Path.{_∙_}
-use mir.Syntax.{w32}
-use mir.Facts.{toZ-ofZ}
 use Rattle.mapper.proofs.Walking.{settled-within}
 use Rattle.mapper.specs.Walking.{foundWalk, settled}
 use native.Mathlib.Omega.{arith}
-use borrow.Author.Needs.{needs, sfits-of}
+use borrow.Author.Needs.{needs}
 use Rattle.mapper.proofs.walk.found.Statement.{statement}
 use Rattle.mapper.proofs.walk.found.Tie as tie
 
@@ -52,8 +50,11 @@ save-requires c κs =
     let w = settled-within (args .work .now) (args .columns) (args .p .row) (d .lowered .result) in
     (search needs, rw (c .before .settled .ensures) (omega (arith, w .0)), rw (c .before .settled .ensures) (omega (arith, w .1)), search needs)
 
-cast-t13 : tie.Need-cast-t13
-cast-t13 c = search needs
+cast-decided : tie.Need-cast-decided
+cast-decided c = search needs
+
+decided-requires : tie.Need-decided-requires
+decided-requires c κs = search needs
 
 same-length : tie.Need-same-length
 same-length c = search needs
@@ -61,10 +62,9 @@ same-length c = search needs
 returns : tie.Need-returns
 unfolding foundWalk
 returns c =
-    let d = c .before .before .before in
-    let settles = d .before .before in
-    let score = toZ-ofZ {w = w32} {z = entry (settles .before) .args .p .score} (sfits-of (c .struct-told .given .1 .1 .1 .0 .1)) in
-    (rw score, d .save .ensures ∙ rw (settles .settled .ensures, settles .before .lowered .ensures))
+    let s = c .before .before .before in
+    let settles = s .before .before in
+    (c .decided .ensures, s .save .ensures ∙ rw (settles .settled .ensures, settles .before .lowered .ensures))
 
 pub found-spec : {M : Type 1} → statement M
 found-spec =
@@ -81,6 +81,7 @@ found-spec =
     lowered-requires
     settled-requires
     save-requires
-    cast-t13
+    cast-decided
+    decided-requires
     same-length
     returns)

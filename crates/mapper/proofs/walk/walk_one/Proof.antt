@@ -3,9 +3,7 @@ use Prim.Native.Nat.{ℕ, _+_, _-_, _≤_, _<_}
 use native.Mathlib.Omega.{arith}
 use mathlib.Core.Path.{_≡_, sym, ap, _∙_}
 use mathlib.Core.Bool.{Bool, cond}
-use mir.Syntax.{w32}
-use mir.Facts.{toZ-ofZ}
-use borrow.Author.Needs.{needs, sfits-of}
+use borrow.Author.Needs.{needs}
 use lib.ListN.{length}
 use Rattle.column.specs.Passing.{lowered}
 use Rattle.mapper.specs.Walking.{Walk, saved, spentWalk}
@@ -81,6 +79,9 @@ mul-b c = search needs
 slice-read-b : tie.Need-slice-read-b
 slice-read-b c = search needs
 
+decided-requires : tie.Need-decided-requires
+decided-requires c κs = search needs
+
 -- the words after the place was saved, with m behind the cell
 module _ (d : tie.After-slice-known3) where
   same-number : length (saves d .save .last .0) ≡ length (entry (passes d) .args .work .now)
@@ -93,7 +94,9 @@ module _ (d : tie.After-slice-known3) where
       ∙ ap (λ (n : ℕ). saved (passes d .update-one .last .0) (record { columns = entry (passes d) .args .start .columns; row = passes d .update-one .result .row; m = n }) 1) e
 
 same-length : tie.Need-same-length
-same-length c = same-number (c .before .before .before .before)
+same-length c =
+    let t = c .before .before .before in
+    same-number (t .before)
 
 returns : tie.Need-returns
 returns c =
@@ -105,8 +108,7 @@ returns c =
     let m : lowers (saves d) .behind .result ≡ lowered (p .m) 1 = lowers (saves d) .behind .ensures ∙ ap (λ (b : Bool). cond b (lowered (p .m) 1) (p .m)) (t .if1 .taken) in
     let e = sym (one-found (args .terms) (args .start .columns) (args .start .row) (args .start .m) (args .work .now) p (u .update-one .last .0) (entry u .pre .0 .2)
     (u .update-one .ensures .0) (u .update-one .ensures .1) (t .if1 .taken) (saves d .save .last .0) (saved-with d (lowered (p .m) 1) m)) in
-    let score = toZ-ofZ {w = w32} {z = p .score} (sfits-of (c .struct-told .given .1 .1 .1 .0 .1)) in
-    (rw score (ap (λ (w : Walk). w .answer) e), ap (λ (w : Walk). w .words) e)
+    (c .decided .ensures ∙ ap (λ (w : Walk). w .answer) e, ap (λ (w : Walk). w .words) e)
 
 same-length-2 : tie.Need-same-length-2
 same-length-2 c = same-number (c .before)
@@ -138,6 +140,7 @@ walk-one-spec =
     sub-b
     mul-b
     slice-read-b
+    decided-requires
     same-length
     returns
     same-length-2

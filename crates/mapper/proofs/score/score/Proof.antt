@@ -4,9 +4,9 @@ use native.Mathlib.Nat.{mul-le-mul}
 use native.Mathlib.Omega.{arith}
 use borrow.Author.Needs.{needs}
 use Rattle.mappings.specs.Score.{distance, linear}
-use Rattle.column.proofs.Signed.{difference-fits, difference-is}
-use Rattle.column.proofs.score.score.Statement.{statement}
-use Rattle.column.proofs.score.score.Tie as tie
+use Rattle.mapper.proofs.Signed.{difference-fits, difference-is}
+use Rattle.mapper.proofs.score.score.Statement.{statement}
+use Rattle.mapper.proofs.score.score.Tie as tie
 
 -- what is gained and what is lost, within 32 signed bits
 gained : (c : tie.Start) → c .args .u * c .args .m ≤ 4096000
