@@ -1,5 +1,4 @@
 -- The first bytes of the input decide: a program that reads `inputLimit` of them decides like one that reads all.
--- Assumes nothing.
 use Prim.Native.Nat.{ℕ, zero, suc, _+_, _-_, _*_, _^_, min, _≤_, _<_}
 use native.Mathlib.Nat.{sub-zero, mul-le-mul-right, pow-le-pow-right, pow-succ'}
 use native.Mathlib.Omega.{arith}
@@ -18,8 +17,8 @@ use Rattle.listing.specs.Line.{space, lineFeed, minus, digit}
 use Rattle.reading.specs.Input.{isDigit, isDecimal, decimalValue, isUnsigned, isSigned, fields, lines, isFirstLine, isWellFormed, malformed, inputOf}
 use Rattle.reading.specs.Answers.{firstPart}
 use Rattle.reading.proofs.Numbers.{signed-tests}
-use Rattle.reading.proofs.Parts.{parts, first-at, first-more, first-le, parts-one, parts-more}
-use Rattle.reading.proofs.Lines.{inputFrom, input-from, some-part}
+use Rattle.reading.proofs.Parts.{parts, first-at, first-more, two-parts, parts-more}
+use Rattle.reading.proofs.Lines.{inputFrom, input-from, well-formed-lines, first, second, third, behind₃, three-lines, some-part}
 
 -- ---- the parts of the first n bytes
 
@@ -38,18 +37,6 @@ first-of-take b (suc n) (x ∷ l) = go (first-of-take b n l) (eqb x b) refl
     go : firstPart b (take n l) ≡ take n (firstPart b l) → (t : Bool) → eqb x b ≡ t → firstPart b (x ∷ take n l) ≡ take (suc n) (firstPart b (x ∷ l))
     go rec true e = first-at b x (take n l) e ∙ ap (take (suc n)) (sym (first-at b x l e))
     go rec false e = first-more b x (take n l) e ∙ ap (λ (r : List ℕ). x ∷ r) rec ∙ ap (take (suc n)) (sym (first-more b x l e))
-
--- two parts have a separator between them
-two-parts : (b : ℕ) (l : List ℕ) → 2 ≤ length (parts b l) → length (firstPart b l) < length l
-two-parts b l h = go (decided (ltb (length (firstPart b l)) (length l)))
-  where
-    go : (ltb (length (firstPart b l)) (length l) ≡ true) ⊎ (ltb (length (firstPart b l)) (length l) ≡ false) → length (firstPart b l) < length l
-    go (inl t) = ltb-true (length (firstPart b l)) (length l) t
-    go (inr t) =
-        let short : length (firstPart b l) ≤ length l = first-le b l in
-        let long : length l ≤ length (firstPart b l) = ltb-false (length (firstPart b l)) (length l) t in
-        let one : length (parts b l) ≡ 1 = ap length (parts-one b l (omega arith)) in
-        absurd (omega arith)
 
 -- a separator among the first n bytes
 module _ (b n : ℕ) (l : List ℕ) where
@@ -80,9 +67,6 @@ module _ (b n : ℕ) (l : List ℕ) where
       let e : length (firstPart b (take n l)) ≡ min n (length (firstPart b l)) = ap length (first-of-take b n l) ∙ length-take n (firstPart b l) in
       let taken : length (take n l) ≡ min n (length l) = length-take n l in
       omega arith
-
-  cut-of-all : 2 ≤ length (parts b l) → length (firstPart b l) < n → Cut
-  cut-of-all h k = (two-parts b l h, k)
 
 -- ---- three lines among the first n bytes
 
@@ -147,35 +131,12 @@ module _ (n : ℕ) (bytes : List ℕ) where
 
   -- all bytes have them, and early enough
   cuts-of-all : 4 ≤ length (lines bytes) → length (getD (lines bytes) 0 []) ≤ 66 → length (getD (lines bytes) 1 []) ≤ lineLimit → length (getD (lines bytes) 2 []) ≤ lineLimit → inputLimit ≤ n → Cuts
-  unfolding lines firstPart
   cuts-of-all h a b d room =
-      let c₁ : Cut lineFeed n bytes = cut-of-all lineFeed n bytes (omega arith) (omega arith) in
-      let e₁ : parts lineFeed bytes ≡ firstPart lineFeed bytes ∷ parts lineFeed rest₁ = cut-all lineFeed n bytes c₁ in
-      let l₁ : length (parts lineFeed bytes) ≡ suc (length (parts lineFeed rest₁)) = ap length e₁ in
-      let f₁ : length (getD (parts lineFeed bytes) 1 []) ≡ length (firstPart lineFeed rest₁) = ap (λ (ls : List (List ℕ)). length (getD ls 1 [])) e₁ in
-      let c₂ : Cut lineFeed n₁ rest₁ = cut-of-all lineFeed n₁ rest₁ (omega arith) (omega arith) in
-      let e₂ : parts lineFeed rest₁ ≡ firstPart lineFeed rest₁ ∷ parts lineFeed rest₂ = cut-all lineFeed n₁ rest₁ c₂ in
-      let l₂ : length (parts lineFeed rest₁) ≡ suc (length (parts lineFeed rest₂)) = ap length e₂ in
-      let f₂ : length (getD (parts lineFeed bytes) 2 []) ≡ length (firstPart lineFeed rest₂) =
-      ap (λ (ls : List (List ℕ)). length (getD ls 2 [])) (e₁ ∙ ap (λ (ls : List (List ℕ)). firstPart lineFeed bytes ∷ ls) e₂) in
-      (c₁, c₂, cut-of-all lineFeed n₂ rest₂ (omega arith) (omega arith))
-
--- what a well-formed input has
-well-formed-lines : (ls : List (List ℕ)) → isWellFormed ls ≡ true
-    → (4 ≤ length ls) × (isFirstLine (fields (getD ls 0 [])) ≡ true) × (length (getD ls 1 []) ≤ lineLimit) × (length (getD ls 2 []) ≤ lineLimit)
-unfolding isWellFormed
-well-formed-lines ls e =
-    let four : Bool = leb 4 (length ls) in
-    let first : Bool = isFirstLine (fields (getD ls 0 [])) in
-    let text : Bool = leb (length (getD ls 1 [])) lineLimit in
-    let read : Bool = leb (length (getD ls 2 [])) lineLimit in
-    let e₂ : (four && first && text) ≡ true = and-left (four && first && text) read e in
-    let e₁ : (four && first) ≡ true = and-left (four && first) text e₂ in (
-      leb-true 4 (length ls) (and-left four first e₁),
-      and-right four first e₁,
-      leb-true (length (getD ls 1 [])) lineLimit (and-right (four && first) text e₂),
-      leb-true (length (getD ls 2 [])) lineLimit (and-right (four && first && text) read e),
-    )
+      let t = three-lines bytes h in
+      let e : (i : ℕ) → length (getD (lines bytes) i []) ≡ length (getD (first bytes ∷ second bytes ∷ third bytes ∷ parts lineFeed (behind₃ bytes)) i []) =
+      λ i. ap (λ (ls : List (List ℕ)). length (getD ls i [])) (t .these)
+      in
+      ((t .one, omega (arith, e 0)), (t .two, omega (arith, e 0, e 1)), (t .three, omega (arith, e 0, e 1, e 2)))
 
 -- ---- a well-formed first line is short
 

@@ -5,5 +5,6 @@ pub mod Parts
 pub mod Numbers
 pub mod Fields
 pub mod Lines
+pub mod Places
 pub mod Enough
 pub mod ReadBack

@@ -1,11 +1,14 @@
 -- Laws of the parts between separators: the first part is what stands before the first separator, the rest are the parts of what stands
--- behind it. Lines and fields are both read by them. Assumes nothing.
+-- behind it. Lines and fields are both read by them.
 use Prim.Native.Nat.{ℕ, suc, _+_, _-_, _≤_, _<_}
 use native.Mathlib.Omega.{arith}
 use mathlib.Core.Path.{_≡_, refl, sym, ap, ap₂, _∙_}
+use mathlib.Core.Logic.{_⊎_, inl, inr}
 use mathlib.Core.Bool.{Bool, true, false}
 use mathlib.Core.List.{List, [], _∷_}
-use lib.Dec.{eqb}
+use lib.Dec.{eqb, ltb}
+use borrow.Author.Tests.{ltb-true, ltb-false}
+use Rattle.counts.proofs.Lists.{decided}
 use lib.ListN.{length, getD, take, drop, length-drop}
 use lib.Seq.{drop-drop}
 use Rattle.counts.specs.Lists.{extend, partsBetween}
@@ -45,7 +48,7 @@ module _ (b : ℕ) where
       go rec true e = rw e (at x l e)
       go rec false e = rw (e, first-extend x (parts b l)) (more x l e rec)
 
-  first-take : (l : List ℕ) → firstPart b l ≡ take (length (firstPart b l)) l
+  pub first-take : (l : List ℕ) → firstPart b l ≡ take (length (firstPart b l)) l
   first-take = parts-by (λ l p ps. p ≡ take (length p) l) refl (λ x l e. refl) (λ x l e rec. ap (λ (r : List ℕ). x ∷ r) rec)
 
   pub first-le : (l : List ℕ) → length (firstPart b l) ≤ length l
@@ -68,6 +71,18 @@ module _ (b : ℕ) where
       (λ h. absurd (omega arith))
       (λ x l e h. refl)
       (λ x l e rec h. ap (extend x) (rec (omega arith)))
+
+-- two parts have a separator between them
+pub two-parts : (b : ℕ) (l : List ℕ) → 2 ≤ length (parts b l) → length (firstPart b l) < length l
+two-parts b l h = go (decided (ltb (length (firstPart b l)) (length l)))
+  where
+    go : (ltb (length (firstPart b l)) (length l) ≡ true) ⊎ (ltb (length (firstPart b l)) (length l) ≡ false) → length (firstPart b l) < length l
+    go (inl t) = ltb-true (length (firstPart b l)) (length l) t
+    go (inr t) =
+        let short : length (firstPart b l) ≤ length l = first-le b l in
+        let long : length l ≤ length (firstPart b l) = ltb-false (length (firstPart b l)) (length l) t in
+        let one : length (parts b l) ≡ 1 = ap length (parts-one b l (omega arith)) in
+        absurd (omega arith)
 
 -- where a search from an index on, in the part that is lent to it, has found a separator or the end
 module _ (b : ℕ) (l : List ℕ) (from n : ℕ) (inside : from ≤ length l) (found : n ≡ length (firstPart b (take (length l - from) (drop from l)))) where

@@ -1,7 +1,5 @@
 -- What the readers of the input answer: each answer set beside the definitions of `Input`.
--- Assumes nothing.
 use Prim.Native.Nat.{ℕ, _+_, _-_, _≤_}
-use mathlib.Core.Path.{_≡_}
 use mathlib.Core.Bool.{cond, _&&_}
 use mathlib.Core.List.{List, []}
 use lib.Dec.{leb, ltb, eqb}
@@ -10,7 +8,7 @@ use Rattle.counts.specs.Lists.{every, partsBetween}
 use Rattle.requests.specs.Requests.{Settings}
 use Rattle.reading.specs.Limits.{lineLimit}
 use Rattle.listing.specs.Line.{space}
-use Rattle.reading.specs.Input.{isDigit, isDecimal, decimalValue, isUnsigned, isSigned, signedValue, isFirstLine, settingsOf, Input, malformed, given, inputOf}
+use Rattle.reading.specs.Input.{isDigit, isDecimal, decimalValue, isUnsigned, isSigned, signedValue, lines, fields, isFirstLine, isWellFormed, settingsOf, Input, malformed, given}
 use Rattle.reading.specs.declared.Number.{Number}
 use Rattle.reading.specs.declared.Number.the-variants.{Malformed as noNumber, Value as number}
 use Rattle.reading.specs.declared.Threshold.{Threshold}
@@ -52,11 +50,28 @@ answerOf s = firstLine (s .k) (s .w) (s .c) (s .u) (s .v) (s .threshold)
 unfoldable pub firstLineOf : List (List ℕ) → FirstLine
 firstLineOf fs = cond (isFirstLine fs) (answerOf (settingsOf fs)) noFirstLine
 
+-- the numbers of the first line, and where the text line and the read line stand, from the lengths of the first three lines: each begins
+-- behind the line feed of the one before it
+abbrev pub requestAt : Settings → ℕ → ℕ → ℕ → Request
+requestAt s first text read =
+    request (s .k) (s .w) (s .c) (s .u) (s .v) (s .threshold) (first + 1) (first + 1 + text) (first + 1 + text + 1) (first + 1 + text + 1 + read)
+
+-- what stands in these lines
+abbrev pub requestFrom : List (List ℕ) → Request
+requestFrom ls =
+    cond (isWellFormed ls)
+    (requestAt (settingsOf (fields (getD ls 0 []))) (length (getD ls 0 [])) (length (getD ls 1 [])) (length (getD ls 2 [])))
+    noRequest
+
+-- what `read_input` answers
+unfoldable pub requestOf : List ℕ → Request
+requestOf bytes = requestFrom (lines bytes)
+
 -- the bytes from an index up to, not including, another
 abbrev pub part : ℕ → ℕ → List ℕ → List ℕ
 part from end bytes = take (end - from) (drop from bytes)
 
--- the request as the input that it stands for
+-- the input that a request stands for
 abbrev pub requestInput : Request → List ℕ → Input
 requestInput noRequest bytes = malformed
 requestInput (request k w c u v threshold text text-end read read-end) bytes =
@@ -74,8 +89,3 @@ pub record LinesInside (text text-end read read-end : ℕ) (bytes : List ℕ) : 
 abbrev pub Inside : Request → List ℕ → Type 0
 Inside noRequest bytes = Unit {0}
 Inside (request k w c u v threshold text text-end read read-end) bytes = LinesInside text text-end read read-end bytes
-
--- what `read_input` answers: the input that stands in the bytes, by places within them
-pub record InputRead (bytes : List ℕ) (answer : Request) : Type 0 where
-  pub input : requestInput answer bytes ≡ inputOf bytes
-  pub inside : Inside answer bytes

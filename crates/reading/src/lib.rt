@@ -1,5 +1,4 @@
 // Reading the three lines of standard input: `k w c u v threshold`, the text line and the read line.
-// A function assumes what its `requires` says.
 use listing::LINE_FEED;
 use listing::MINUS;
 use listing::SPACE;
@@ -9,7 +8,7 @@ ghost use Prim.Native.Nat.{_≤_, _^_};
 ghost use lib.ListN.{length};
 ghost use lib.IntN.{pos, negℤ};
 ghost use Rattle.reading.specs.Input.{fields};
-ghost use Rattle.reading.specs.Answers.{firstPart, digitsOf, numberOf, thresholdOf, fieldOf, firstLineOf, InputRead};
+ghost use Rattle.reading.specs.Answers.{firstPart, digitsOf, numberOf, thresholdOf, fieldOf, firstLineOf, requestOf};
 
 const NINE: u8 = 57;
 
@@ -208,7 +207,7 @@ fn read_first_line(line: &[u8]) -> FirstLine
 
 // What stands in the bytes of standard input. What follows the third line is ignored.
 pub fn read_input(bytes: &[u8]) -> Request
-    ensures { λ r. ⌜ InputRead (now (bytes .entry)) r ⌝ }
+    ensures { λ r. ⌜ r ≡ requestOf (now (bytes .entry)) ⌝ }
 {
     let end = bytes.len();
     let first_end = find(bytes, LINE_FEED);

@@ -1,4 +1,4 @@
--- `listing::input::read_input` meets its contract: the lines found are the first three of the bytes' lines. Assumes nothing.
+-- `read_input` meets its contract: the lines found are the first three of the bytes' lines.
 use Prim.Native.Nat.{ℕ, _+_, _-_, _≤_}
 use native.Mathlib.Omega.{arith}
 use mathlib.Core.Path.{_≡_, sym, ap, _∙_}
@@ -6,22 +6,32 @@ use mathlib.Core.List.{List, [], _∷_}
 use lib.ListN.{length, take, drop, length-drop}
 use lib.Seq.{length-take-le}
 use lib.IntN.{ℤ}
+use mir.Syntax.{w32}
 use mir.Facts.{toZ-ofZ}
 use denote.Ref.{now}
 use Rattle.listing.specs.Line.{lineFeed}
-use Rattle.reading.specs.Input.{lines, malformed, given, inputOf}
-use Rattle.reading.specs.Answers.{part, InputRead}
+use Rattle.reading.specs.Input.{lines}
+use Rattle.reading.specs.Answers.{requestAt, requestFrom, requestOf}
 use Rattle.reading.specs.declared.FirstLine.{FirstLine}
 use Rattle.reading.specs.declared.Request.the-variants.{Malformed as noRequest}
 use Rattle.reading.proofs.Parts.{parts, found-inside, found-end, found-more}
-use Rattle.reading.proofs.Lines.{inputFrom, input-from, asInput, few-lines, long-text, long-read, by-first-line, some-part, first-inside, first-end, first-more}
+use Rattle.reading.proofs.Lines.{asRequest, few-lines, long-text, long-read, by-first-line, some-part, first-inside, first-end, first-more}
 use borrow.Author.Needs.{needs, sfits-of}
 use Rattle.reading.proofs.read_input.Statement.{statement}
 use Rattle.reading.proofs.read_input.Tie as tie
 
 -- a refusal, from the lines
-refused : (bytes : List ℕ) {ls : List (List ℕ)} → lines bytes ≡ ls → inputFrom ls ≡ malformed → InputRead bytes noRequest
-refused bytes e m = record { input = sym (input-from bytes ∙ ap inputFrom e ∙ m); inside = tt }
+refused : (bytes : List ℕ) {ls : List (List ℕ)} → lines bytes ≡ ls → requestFrom ls ≡ noRequest → noRequest ≡ requestOf bytes
+unfolding requestOf
+refused bytes e m = sym (ap requestFrom e ∙ m)
+
+-- ---- the three searches, each from the next
+
+abbrev found₂ : tie.After-find3 → tie.After-find2
+found₂ c = c .before .before .before
+
+abbrev found₁ : tie.After-find2 → tie.After-find
+found₁ c = c .before .before .before
 
 -- ---- the first line
 
@@ -50,7 +60,7 @@ module _ (c : tie.Else1) where
 
 module _ (c : tie.After-find2) where
   abbrev bytes₂ : List ℕ
-  bytes₂ = bytes (c .before .before .before)
+  bytes₂ = bytes (found₁ c)
 
   abbrev text₂ : ℕ
   text₂ = text (c .before .before)
@@ -61,10 +71,10 @@ module _ (c : tie.After-find2) where
   inside₂ : text₂ + n₂ ≤ length bytes₂
   inside₂ = found-inside lineFeed bytes₂ text₂ n₂ (text-inside (c .before .before)) (c .find2 .ensures)
 
-  two-lines : text₂ + n₂ ≡ length bytes₂ → lines bytes₂ ≡ take (n₁ (c .before .before .before)) bytes₂ ∷ drop text₂ bytes₂ ∷ []
+  two-lines : text₂ + n₂ ≡ length bytes₂ → lines bytes₂ ≡ take (n₁ (found₁ c)) bytes₂ ∷ drop text₂ bytes₂ ∷ []
   two-lines e =
       lines₁ (c .before .before)
-      ∙ ap (λ (ls : List (List ℕ)). take (n₁ (c .before .before .before)) bytes₂ ∷ ls) (found-end lineFeed bytes₂ text₂ n₂ (text-inside (c .before .before)) (c .find2 .ensures) e)
+      ∙ ap (λ (ls : List (List ℕ)). take (n₁ (found₁ c)) bytes₂ ∷ ls) (found-end lineFeed bytes₂ text₂ n₂ (text-inside (c .before .before)) (c .find2 .ensures) e)
 
 -- with a line feed behind it
 module _ (c : tie.Else2) where
@@ -75,22 +85,22 @@ module _ (c : tie.Else2) where
   read-inside = omega (arith, inside₂ (c .before), c .if2 .left)
 
   lines₂ : lines (bytes₂ (c .before))
-      ≡ take (n₁ (c .before .before .before .before)) (bytes₂ (c .before))
+      ≡ take (n₁ (found₁ (c .before))) (bytes₂ (c .before))
       ∷ take (n₂ (c .before)) (drop (text₂ (c .before)) (bytes₂ (c .before)))
       ∷ parts lineFeed (drop read (bytes₂ (c .before)))
   lines₂ =
       lines₁ (c .before .before .before)
-      ∙ ap (λ (ls : List (List ℕ)). take (n₁ (c .before .before .before .before)) (bytes₂ (c .before)) ∷ ls)
+      ∙ ap (λ (ls : List (List ℕ)). take (n₁ (found₁ (c .before))) (bytes₂ (c .before)) ∷ ls)
       (found-more lineFeed (bytes₂ (c .before)) (text₂ (c .before)) (n₂ (c .before)) (text-inside (c .before .before .before)) (c .before .find2 .ensures) (omega (arith, read-inside)))
 
 -- ---- the read line
 
 module _ (c : tie.After-find3) where
   abbrev bytes₃ : List ℕ
-  bytes₃ = bytes₂ (c .before .before .before)
+  bytes₃ = bytes₂ (found₂ c)
 
   abbrev text₃ : ℕ
-  text₃ = text₂ (c .before .before .before)
+  text₃ = text₂ (found₂ c)
 
   abbrev read₃ : ℕ
   read₃ = read (c .before .before)
@@ -99,10 +109,10 @@ module _ (c : tie.After-find3) where
   n₃ = c .find3 .result
 
   abbrev line₁ : List ℕ
-  line₁ = take (n₁ (c .before .before .before .before .before .before)) bytes₃
+  line₁ = take (n₁ (found₁ (found₂ c))) bytes₃
 
   abbrev line₂ : List ℕ
-  line₂ = take (n₂ (c .before .before .before)) (drop text₃ bytes₃)
+  line₂ = take (n₂ (found₂ c)) (drop text₃ bytes₃)
 
   inside₃ : read₃ + n₃ ≤ length bytes₃
   inside₃ = found-inside lineFeed bytes₃ read₃ n₃ (read-inside (c .before .before)) (c .find3 .ensures)
@@ -126,8 +136,11 @@ module _ (c : tie.Else3) where
       ∙ ap (λ (ls : List (List ℕ)). line₁ (c .before) ∷ line₂ (c .before) ∷ ls)
       (found-more lineFeed (bytes₃ (c .before)) (read₃ (c .before)) (n₃ (c .before)) (read-inside (c .before .before .before)) (c .before .find3 .ensures) (omega (arith, inside₃ (c .before), c .if3 .left)))
 
-  length-text : length (line₂ (c .before)) ≡ n₂ (c .before .before .before .before)
-  length-text = length-take-le _ _ (omega (arith, length-drop (text₃ (c .before)) (bytes₃ (c .before)), inside₂ (c .before .before .before .before)))
+  length-first : length (line₁ (c .before)) ≡ n₁ (found₁ (found₂ (c .before)))
+  length-first = length-take-le _ _ (inside₁ (found₁ (found₂ (c .before))))
+
+  length-text : length (line₂ (c .before)) ≡ n₂ (found₂ (c .before))
+  length-text = length-take-le _ _ (omega (arith, length-drop (text₃ (c .before)) (bytes₃ (c .before)), inside₂ (found₂ (c .before))))
 
   length-read : length line₃ ≡ n₃ (c .before)
   length-read = length-take-le _ _ (omega (arith, length-drop (read₃ (c .before)) (bytes₃ (c .before)), inside₃ (c .before)))
@@ -139,23 +152,16 @@ module _ (c : tie.After-read-first-line) where
   abbrev third : tie.Else3
   third = c .before .before .before .before
 
-  first-line-decides : {other : FirstLine} → c .read-first-line .result ≡ other → inputOf (bytes₃ (third .before)) ≡ asInput other (line₂ (third .before)) (line₃ third)
+  first-line-decides : {other : FirstLine} → c .read-first-line .result ≡ other
+      → requestOf (bytes₃ (third .before)) ≡ asRequest other (length (line₁ (third .before))) (length (line₂ (third .before))) (length (line₃ third))
+  unfolding requestOf
   first-line-decides e =
-      input-from (bytes₃ (third .before))
-      ∙ ap inputFrom (lines₃ third)
+      ap requestFrom (lines₃ third)
       ∙ by-first-line (line₁ (third .before) ∷ line₂ (third .before) ∷ line₃ third ∷ rest third)
       (omega (arith, some-part lineFeed (drop (read₃ (third .before) + n₃ (third .before) + 1) (bytes₃ (third .before)))))
       (omega (arith, length-text third, c .before .before .before .if4 .left))
       (omega (arith, length-read third, c .before .before .if5 .left))
-      ∙ ap (λ (a : FirstLine). asInput a (line₂ (third .before)) (line₃ third)) (sym (c .read-first-line .ensures) ∙ e)
-
-same-given : (k w c u v : ℕ) {t t′ : ℤ} {a a′ b b′ : List ℕ} → t ≡ t′ → a ≡ a′ → b ≡ b′
-    → given (record { k = k; w = w; c = c; u = u; v = v; threshold = t }) a b ≡ given (record { k = k; w = w; c = c; u = u; v = v; threshold = t′ }) a′ b′
-same-given k w c u v p q r = λ i. given (record { k = k; w = w; c = c; u = u; v = v; threshold = p i }) (q i) (r i)
-
--- a line by its two ends
-part-is : (from n : ℕ) (l : List ℕ) → part from (from + n) l ≡ take n (drop from l)
-part-is from n l = let e : from + n - from ≡ n = omega arith in ap (λ (k : ℕ). take k (drop from l)) e
+      ∙ ap (λ (a : FirstLine). asRequest a (length (line₁ (third .before))) (length (line₂ (third .before))) (length (line₃ third))) (sym (c .read-first-line .ensures) ∙ e)
 
 find-requires : tie.Need-find-requires
 find-requires c κs = search needs
@@ -212,7 +218,7 @@ returns-5 : tie.Need-returns-5
 returns-5 c = refused _ (lines₃ (c .before .before)) (long-read _ (omega (arith, length-read (c .before .before), c .if5 .taken)))
 
 slice-aggregate-read-first-line : tie.Need-slice-aggregate-read-first-line
-slice-aggregate-read-first-line c = let at-find = c .before .before .before .before .before .before .before .before .before .before in sym (length-take-le _ _ (inside₁ at-find))
+slice-aggregate-read-first-line c = let third = c .before .before .before in sym (length-take-le _ _ (inside₁ (found₁ (found₂ (third .before)))))
 
 read-first-line-requires : tie.Need-read-first-line-requires
 read-first-line-requires c κs = search needs
@@ -224,28 +230,19 @@ enum-known-k : tie.Need-enum-known-k
 enum-known-k c = search needs
 
 returns-6 : tie.Need-returns-6
-returns-6 c = record { input = sym (first-line-decides (c .before .before) (c .enum-told .given .1)); inside = tt }
+returns-6 c = sym (first-line-decides (c .before .before) (c .enum-told .given .1))
 
 returns-7 : tie.Need-returns-7
 returns-7 c =
     let at-line = c .before .before .before in
     let at-third = third at-line in
-    let at-find3 = at-third .before in
-    let at-find2 = at-find3 .before .before .before in
-    record {
-      input =
-          same-given _ _ _ _ _ (toZ-ofZ (sfits-of (c .known-told .given .1 .1 .1 .1 .1 .0 .1))) (part-is _ (n₂ at-find2) _) (part-is _ (n₃ at-find3) _)
-          ∙ sym (first-line-decides at-line (c .before .k .given .1));
-      inside =
-          record {
-            text-order = omega arith;
-            text-inside = inside₂ at-find2;
-            text-short = omega (arith, at-line .before .before .before .if4 .left);
-            read-order = omega arith;
-            read-inside = inside₃ at-find3;
-            read-short = omega (arith, at-line .before .before .if5 .left);
-          };
-    }
+    let read = c .before .k .given .0 in
+    let z = toZ-ofZ {w = w32} {z = read .1 .1 .1 .1 .1 .0} (sfits-of (c .known-told .given .1 .1 .1 .1 .1 .0 .1)) in
+    let n = length-first at-third in
+    let m = length-text at-third in
+    let l = length-read at-third in
+    (λ i. requestAt (record { k = read .0; w = read .1 .0; c = read .1 .1 .0; u = read .1 .1 .1 .0; v = read .1 .1 .1 .1 .0; threshold = z i }) (sym n i) (sym m i) (sym l i))
+    ∙ sym (first-line-decides at-line (c .before .k .given .1))
 
 pub read-input-spec : {M : Type 1} → statement M
 read-input-spec =
