@@ -1,21 +1,28 @@
-//! The picks of a run by its events: between a new lowest key and the moment when the lowest leaves its window, a k-mer costs a
+//! The picks of a run by its events: between a new lowest rank and the moment when the lowest leaves its window, a k-mer costs a
 //! store and a comparison.
-//! Keys are compared here as words, whose order is that of the floats.
 //! Assumes k 1 to 15, w 1 to 64 and at most 1,048,576 letters.
 
-use super::keys::{Key, key_of};
+use super::keys::{Key, ranked_key};
 use super::letters::FOREIGN;
-use super::sketch::value_at;
+use super::ranks::rank;
+use super::sketch::{prime, value_at};
 
 const RING: usize = 64;
 
-/// The least of the w keys up to number n, and its number.
-fn search(ring: &[u64; RING], n: usize, w: usize) -> (u64, usize) {
-    let mut lowest = (u64::MAX, 0);
-    for at in n + 1 - w..n + 1 {
-        let key = ring[at % RING];
-        if key < lowest.0 {
-            lowest = (key, at);
+/// A rank, and the position of its k-mer.
+#[derive(Clone, Copy)]
+struct Lowest {
+    rank: u32,
+    at: usize,
+}
+
+/// The lowest of the w ranks up to a position, rightmost among equals.
+fn search(ring: &[u32; RING], last: usize, w: usize) -> Lowest {
+    let mut lowest = Lowest { rank: u32::MAX, at: 0 };
+    for at in last + 1 - w..last + 1 {
+        let rank = ring[at % RING];
+        if rank <= lowest.rank {
+            lowest = Lowest { rank, at };
         }
     }
     lowest
@@ -25,50 +32,49 @@ fn search(ring: &[u64; RING], n: usize, w: usize) -> (u64, usize) {
 pub fn pick_run(letters: &[u8], start: usize, k: usize, w: usize, values: &[u8; 256], take: &mut impl FnMut(&[Key])) -> usize {
     let mask = u32::MAX >> (32 - 2 * k);
     let mut ring = [0; RING];
-    let mut lowest = (u64::MAX, 0);
-    let (mut code, mut at) = (0, start);
+    let mut lowest = Lowest { rank: u32::MAX, at: start };
+    let (mut at, mut code) = prime(letters, values, start, k);
     // the first window, or a run's only one
     while at < start + k - 1 + w {
         let value = value_at(letters, values, at);
         if value == FOREIGN {
             if at >= start + k {
-                take(&[Key::from_bits(lowest.0)]);
+                take(&[ranked_key(lowest.rank, lowest.at)]);
             }
             return at;
         }
         code = code << 2 | u32::from(value);
         at += 1;
-        if at >= start + k {
-            let n = at - k - start;
-            ring[n] = key_of(code & mask, at - k).to_bits();
-            if ring[n] < lowest.0 {
-                lowest = (ring[n], n);
-            }
+        let rank = rank(code & mask);
+        ring[(at - k) % RING] = rank;
+        if rank <= lowest.rank {
+            lowest = Lowest { rank, at: at - k };
         }
     }
-    take(&[Key::from_bits(lowest.0)]);
     loop {
+        take(&[ranked_key(lowest.rank, lowest.at)]);
         // up to the k-mer with which the lowest leaves, only a lower one is an event
-        let leaves = start + lowest.1 + w + k - 1;
-        let mut key = u64::MAX;
-        for &letter in &letters[at..(leaves + 1).min(letters.len())] {
+        let leaves = (lowest.at + w + k).min(letters.len());
+        let mut lower = false;
+        for &letter in &letters[at..leaves] {
             let value = values[usize::from(letter)];
             if value == FOREIGN {
                 return at;
             }
             code = code << 2 | u32::from(value);
             at += 1;
-            key = key_of(code & mask, at - k).to_bits();
-            ring[(at - k - start) % RING] = key;
-            if key < lowest.0 {
+            let rank = rank(code & mask);
+            ring[(at - k) % RING] = rank;
+            if rank <= lowest.rank {
+                (lowest, lower) = (Lowest { rank, at: at - k }, true);
                 break;
             }
         }
-        if key > lowest.0 && at <= leaves {
-            return at;
+        if !lower {
+            if at < lowest.at + w + k {
+                return at;
+            }
+            lowest = search(&ring, at - k, w);
         }
-        let n = at - k - start;
-        lowest = if key < lowest.0 { (key, n) } else { search(&ring, n, w) };
-        take(&[Key::from_bits(lowest.0)]);
     }
 }
