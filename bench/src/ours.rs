@@ -1,5 +1,4 @@
 //! The proved functions that the table times, in the shapes that plain Rust has too.
-//! Assumes nothing.
 
 use host::calls::{self, Stepped};
 use host::exported::{self, StepWords};
@@ -27,6 +26,11 @@ pub fn strike(codes: &[u32], positions: &[u32], c: u32, codes_out: &mut [u32], p
 
 pub fn start(text: &[u32], pattern: &[u32], u: u32, v: u32, threshold: i32, work: &mut [u32]) -> i32 {
     signed(calls::start(text, pattern, u, v, threshold, work))
+}
+
+/// The work words of a session that lays them out as docs/WORK_WORDS.md says.
+pub fn as_they_are(work: &[u32], _: &[u32]) -> Vec<u32> {
+    work.to_vec()
 }
 
 /// A step whose answer's words are lent anew with each call, and not made anew.

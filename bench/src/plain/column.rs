@@ -62,12 +62,14 @@ impl Line {
         u * m - v * (len + size - 2 * m)
     }
 
-    /// The score of a cell at this row, if it is final: it reaches the threshold, no cell passed in the rows up to it scored more,
-    /// and both its ends are reasonable.
+    /// The score of the cell of this row and m, if it is final: no cell passed in the rows up to it has a greater score word, both its
+    /// ends are reasonable, and its score reaches the threshold.
     fn final_score(&self, part: &Part, row: usize, m: u32, is_best: bool, is_inside: bool) -> Option<i32> {
-        let score = self.score(m, part.index[row]);
+        if !(is_best && is_inside && self.back as usize <= row) {
+            return None;
+        }
         let threshold = self.terms.threshold.wrapping_sub(BIAS) as i32;
-        (score >= threshold && is_best && is_inside && self.back as usize <= row).then_some(score)
+        Some(self.score(m, part.index[row])).filter(|&score| score >= threshold)
     }
 }
 

@@ -144,21 +144,28 @@ fn update(words: &mut Words, place: Place, left: usize) -> Passed {
 
 /// Passes one cell.
 fn update_one(words: &mut Words, place: Place, _: usize) -> Passed {
-    if place.row == 0 {
+    let row = place.row;
+    if row == 0 {
         words[SEEN] = 0;
         words[HIGHEST] = NONE;
     }
     let column = Column::new(words, place.columns - 1);
-    let score = column.pass_cell(words, place.row);
-    if score >= column.threshold && column.is_reasonable(words, place.row) {
-        let highest = highest_before(words, place.row + 1);
-        words[SEEN] = place.row as u32 + 1;
+    let score = column.pass_cell(words, row);
+    if score >= column.threshold && column.is_reasonable(words, row) {
+        let highest = highest_before(words, row + 1);
+        words[SEEN] = row as u32 + 1;
         words[HIGHEST] = highest as u32;
         if score == highest {
-            return column.found(words, place.row, score);
+            return column.found(words, row, score);
         }
     }
-    quiet(place.row + 1)
+    quiet(row + 1)
+}
+
+/// The step of more cells. Kept apart, so that a step of one cell saves few registers.
+#[inline(never)]
+fn walk_on(words: &mut Words, place: Place, budget: u32) -> Stepped {
+    walk(words, place, budget, update)
 }
 
 /// Passes cells until one is final, none remains or the budget is spent.
@@ -166,6 +173,6 @@ pub fn step(work: &mut [u32], budget: u32) -> Stepped {
     match judged(work) {
         Err(answer) => answer,
         Ok((words, place)) if budget == 1 => walk(words, place, 1, update_one),
-        Ok((words, place)) => walk(words, place, budget, update),
+        Ok((words, place)) => walk_on(words, place, budget),
     }
 }

@@ -34,6 +34,12 @@ fn update(words: &mut Words, place: Place, left: usize) -> Passed {
     pass(&mut part(words), &line, place.row, to, place.m)
 }
 
+/// The step of more cells. Kept apart, so that a step of one cell saves few registers.
+#[inline(never)]
+fn walk_on(words: &mut Words, place: Place, budget: u32) -> Stepped {
+    walk(words, place, budget, update)
+}
+
 /// The step of one cell in a column that has a further row.
 fn walk_one(words: &mut Words, place: Place) -> Stepped {
     let line = line(words, place.columns - 1);
@@ -51,6 +57,6 @@ pub fn step(work: &mut [u32], budget: u32) -> Stepped {
     match judged(work) {
         Err(answer) => answer,
         Ok((words, place)) if budget == 1 && place.row + 1 < place.columns => walk_one(words, place),
-        Ok((words, place)) => walk(words, place, budget, update),
+        Ok((words, place)) => walk_on(words, place, budget),
     }
 }

@@ -1,23 +1,26 @@
-//! Start and step beside the reference's rule.
-//! Assumes nothing.
+//! Start and step beside the reference's rule, and their work words beside the reference's.
+
+use std::ops::Range;
 
 use bench::ours;
 use bench::plain::work::WORK_WORDS;
-use bench::plain::{fastest_start, fastest_step, start, step};
-use bench::signatures::{Start, Step as StepOf};
+use bench::plain::{fastest_start, fastest_step, fastest_work, start, step};
+use bench::signatures::{Shared, Start, Step as StepOf};
 use host::calls::{self, Stepped};
 use host::random::Random;
 use host::reference::definition1::Mapping;
 use host::reference::score::Task;
 use host::reference::start::start_call;
 use host::reference::steps::{self, Step, answers};
+use host::reference::work_words::WorkWords;
 
 use crate::on_usual_stack;
 
-const SESSIONS: [(&str, Start, StepOf); 3] = [
-    ("the same algorithm", start::start, step::step),
-    ("the fastest", fastest_start::start, fastest_step::step),
-    ("the proved one", ours::start, calls::step),
+/// Each with what brings its words behind start into the layout of docs/WORK_WORDS.md, and the words that have it behind steps too.
+const SESSIONS: [(&str, Start, StepOf, Shared, &[Range<usize>]); 3] = [
+    ("the same algorithm", start::start, step::step, ours::as_they_are, &[0..WORK_WORDS]),
+    ("the fastest", fastest_start::start, fastest_step::step, fastest_work::shared_after_start, &fastest_work::AGREED),
+    ("the proved one", ours::start, calls::step, ours::as_they_are, &[0..WORK_WORDS]),
 ];
 
 fn task(random: &mut Random) -> Task {
@@ -71,9 +74,13 @@ fn lists_of_steps() {
             let (task, list) = (task(&mut random), list(&mut random));
             let h = start_call(&task, WORK_WORDS).expect("a task that start accepts");
             let (expected, q) = answers(&task, &list);
-            for (name, start, step) in SESSIONS {
-                let mut work = vec![0xaaaa_aaaa; WORK_WORDS + 1];
+            let before = vec![0xaaaa_aaaa; WORK_WORDS + 1];
+            let mut words = WorkWords::new(&task, &before);
+            let (fresh, after) = (words.after(0).to_vec(), words.after(q).to_vec());
+            for (name, start, step, shared, agreed) in SESSIONS {
+                let mut work = before.clone();
                 assert_eq!(start(&task.text, &task.pattern, task.u, task.v, task.threshold, &mut work), h as i32);
+                assert_eq!(shared(&work, &before)[..WORK_WORDS], fresh[..WORK_WORDS], "{name}, seed {seed}: {task:?}");
                 // a session that is copied halfway goes on from there
                 let half = list.len() / 2;
                 let mut answers = given(step, &mut work, &list[..half]);
@@ -81,7 +88,9 @@ fn lists_of_steps() {
                 answers.extend(given(step, &mut work, &list[half..]));
                 assert_eq!(answers, expected, "{name}, seed {seed}: {task:?}");
                 assert_eq!(given(step, &mut copy, &list[half..]), expected[half..], "{name}, seed {seed}: {task:?}");
-                assert_eq!(work[..4], [h as u32, task.u, task.v, q as u32], "{name}, seed {seed}");
+                for agreed in agreed {
+                    assert_eq!(work[agreed.clone()], after[agreed.clone()], "{name}, seed {seed}: {task:?}");
+                }
                 assert_eq!(work[WORK_WORDS], 0xaaaa_aaaa);
             }
         }
@@ -105,7 +114,7 @@ fn refusals_of_start() {
         for (text, pattern, u, v, lent) in cases {
             let task = Task { text: long[..text].to_vec(), pattern: long[..pattern].to_vec(), u, v, threshold: 0 };
             let number = start_call(&task, lent).expect_err("a refusal").number as i32;
-            for (name, start, _) in SESSIONS {
+            for (name, start, ..) in SESSIONS {
                 let mut work = vec![5; lent];
                 assert_eq!(start(&task.text, &task.pattern, u, v, 0, &mut work), -number, "{name}");
                 assert!(work.iter().all(|&word| word == 5), "{name}");
@@ -122,7 +131,7 @@ fn refusals_of_step() {
             let mut work = vec![0; WORK_WORDS];
             work[..4].copy_from_slice(&words);
             let before = work.clone();
-            for (name, _, step) in SESSIONS {
+            for (name, _, step, ..) in SESSIONS {
                 assert_eq!(step(&mut work, 1), Stepped::Refused(15), "{name}");
                 assert_eq!(step(&mut work[..WORK_WORDS - 1], 1), Stepped::Refused(10), "{name}");
                 assert_eq!(work, before, "{name}");
