@@ -1,5 +1,4 @@
 //! Strike beside the reference.
-//! Assumes nothing.
 
 use bench::ours;
 use bench::plain::{fastest_strike, hash_strike, strike};

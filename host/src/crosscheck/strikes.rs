@@ -1,5 +1,4 @@
 //! Strike: random words, and the limits of c, entries and buffers.
-//! Assumes nothing.
 
 use super::tally::Tally;
 use crate::held::strike::strike;
