@@ -5,12 +5,13 @@
 pub struct Sum(u64);
 
 impl Sum {
-    pub fn new() -> Sum {
+    /// The checksum of no words.
+    pub fn none() -> Sum {
         Sum(1)
     }
 
     pub fn of(words: impl IntoIterator<Item = u32>) -> Sum {
-        let mut sum = Sum::new();
+        let mut sum = Sum::none();
         sum.add(words);
         sum
     }
@@ -23,12 +24,6 @@ impl Sum {
 
     pub fn hexadecimal(self) -> String {
         format!("{:016x}", self.0)
-    }
-}
-
-impl Default for Sum {
-    fn default() -> Sum {
-        Sum::new()
     }
 }
 

@@ -110,7 +110,7 @@ pub fn step_run(
         work.copy_from_slice(&fresh);
         let (time, passed) = timed(|| pass_all(&mut step, &mut work, budget, make));
         again.copy_from_slice(&fresh);
-        let mut answers = Sum::new();
+        let mut answers = Sum::none();
         let passed_again = pass_all(&mut step, &mut again, budget, |answer| add(&mut answers, answer));
         assert!(passed == passed_again && work == again, "the same steps make the same");
         (time, made(answers, &work, layout))

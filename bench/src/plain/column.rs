@@ -13,8 +13,8 @@ pub struct Terms {
     pub threshold: u32,
 }
 
-/// What the cells of a column share: its number and the index of its hit, the sum of its score words, and the row from which its hit
-/// is reasonable as a right end.
+/// What the cells of a column share: its number, the index of its hit, what their score words have in common, and the row from which
+/// the hit is reasonable as a right end.
 #[derive(Clone, Copy)]
 pub struct Line {
     pub column: u32,

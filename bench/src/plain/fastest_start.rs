@@ -2,7 +2,7 @@
 
 use super::fastest_work::{HIGHEST, LIFTED, NONE, SEEN};
 use super::search::MAX_PATTERN;
-use super::start::{Hits, Terms, put_heading, refusal};
+use super::start::{Hits, Settings, put_heading, refusal};
 use super::work::{BACK, BEST, INDEX, MAX_HITS, REACH, WHOLE, WORK_WORDS};
 
 const SLOTS: usize = 1 << 14;
@@ -116,6 +116,6 @@ pub fn start(text: &[u32], pattern: &[u32], u: u32, v: u32, threshold: i32, work
     lift(work, hits.number, u + 2 * v, v);
     work[SEEN] = 0;
     work[HIGHEST] = NONE;
-    put_heading(work, hits.number, Terms { u, v, size: pattern.len(), threshold }, shared);
+    put_heading(work, hits.number, Settings { u, v, size: pattern.len(), threshold }, shared);
     hits.number as i32
 }

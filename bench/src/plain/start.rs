@@ -16,7 +16,7 @@ pub struct Hits {
 
 /// What a session is made of beside its hits.
 #[derive(Clone, Copy)]
-pub struct Terms {
+pub struct Settings {
     pub u: u32,
     pub v: u32,
     pub size: usize,
@@ -98,14 +98,14 @@ fn put_blocks(index: &[u32], backs: &[u32], work: &mut [u32]) -> u32 {
 }
 
 /// Writes the single words of a fresh session.
-pub fn put_heading(work: &mut [u32], h: usize, terms: Terms, shared: u32) {
+pub fn put_heading(work: &mut [u32], h: usize, settings: Settings, shared: u32) {
     work[HITS] = h as u32;
-    work[U] = terms.u;
-    work[V] = terms.v;
+    work[U] = settings.u;
+    work[V] = settings.v;
     work[PASSED] = 0;
     work[KIND] = 0;
-    work[SIZE] = terms.size as u32;
-    work[THRESHOLD] = (terms.threshold as u32).wrapping_add(BIAS);
+    work[SIZE] = settings.size as u32;
+    work[THRESHOLD] = (settings.threshold as u32).wrapping_add(BIAS);
     work[COLUMNS] = h as u32;
     work[ROW] = 0;
     work[SHARED] = shared;
@@ -127,6 +127,6 @@ pub fn start(text: &[u32], pattern: &[u32], u: u32, v: u32, threshold: i32, work
     }
     let backs = backs(sorted, &hits.slots[..h]);
     let shared = put_blocks(&hits.index[..h], &backs[..h], work);
-    put_heading(work, h, Terms { u, v, size: pattern.len(), threshold }, shared);
+    put_heading(work, h, Settings { u, v, size: pattern.len(), threshold }, shared);
     h as i32
 }
