@@ -8,7 +8,7 @@ use crate::jobs::{self, K, LETTERS, TEXT};
 use crate::made::Made;
 use crate::ours;
 use crate::plain::{sketch, start, step, strike};
-use crate::runs::{BEFORE, count_run, sketch_run, start_run, strike_run};
+use crate::runs::{BEFORE, as_they_are, count_run, sketch_run, start_run, strike_run};
 use crate::sessions::{HITS, PATTERN, Session, random_hits};
 use crate::steps::{Layout, step_run};
 use crate::table::{each, milliseconds, ratio};
@@ -20,15 +20,15 @@ const ROUNDS: usize = 20;
 const W: u32 = 10;
 
 /// A job at one size: what its cost is counted in, the proved function's run, and what it must make.
-struct Sized<'a> {
+struct Job<'a> {
     items: usize,
     run: Run<'a>,
     expected: Made,
 }
 
 /// A job that plain Rust does too.
-fn beside_plain<'a>(items: usize, [run, mut plain]: [Run<'a>; 2]) -> Sized<'a> {
-    Sized { items, run, expected: plain().1 }
+fn beside_plain<'a>(items: usize, [run, mut plain]: [Run<'a>; 2]) -> Job<'a> {
+    Job { items, run, expected: plain().1 }
 }
 
 /// Prints the head of the table.
@@ -38,7 +38,7 @@ fn print_head() {
 }
 
 /// Prints a job at two sizes, which take turns. Panics where one makes something else than it must.
-fn print(job: &str, small: Sized, large: Sized) {
+fn print(job: &str, small: Job, large: Job) {
     let best = best_times(&mut [small.run, large.run], ROUNDS);
     for (timed, expected) in best.iter().zip([small.expected, large.expected]) {
         assert!(timed.made.agrees(&expected), "{job}: made {:?} in place of {expected:?}", timed.made);
@@ -49,11 +49,11 @@ fn print(job: &str, small: Sized, large: Sized) {
     println!("| {job} | {from} | {to} | {few_ms} | {many_ms} | {grows} | {} | {} |", each(few, from), each(many, to));
 }
 
-fn sketches(letters: &[u8], w: u32) -> Sized<'_> {
+fn sketches(letters: &[u8], w: u32) -> Job<'_> {
     beside_plain(letters.len(), [ours::sketch, sketch::sketch].map(|sketch| sketch_run(sketch, letters, K, w)))
 }
 
-fn counts(letters: &[u8], w: u32) -> Sized<'_> {
+fn counts(letters: &[u8], w: u32) -> Job<'_> {
     beside_plain(letters.len(), [ours::COUNT, sketch::count].map(|count| count_run(count, letters, K, w)))
 }
 
@@ -67,7 +67,7 @@ fn letters_rows() {
     }
 }
 
-fn strikes<'a>(codes: &'a [u32], positions: &'a [u32]) -> Sized<'a> {
+fn strikes<'a>(codes: &'a [u32], positions: &'a [u32]) -> Job<'a> {
     let positions = &positions[..codes.len()];
     beside_plain(codes.len(), [ours::strike, strike::strike].map(|strike| strike_run(strike, codes, positions)))
 }
@@ -84,7 +84,7 @@ fn strike_rows() {
 }
 
 /// A save of this many entries, and a load of what it wrote. All words and all entries are summed.
-fn stores(entries: usize) -> (Sized<'static>, Sized<'static>) {
+fn stores(entries: usize) -> (Job<'static>, Job<'static>) {
     let positions: Vec<u32> = (0..entries as u32).collect();
     let codes = jobs::all_different(entries);
     let room = 2 * entries + 2;
@@ -103,8 +103,8 @@ fn stores(entries: usize) -> (Sized<'static>, Sized<'static>) {
         let numbers = [answer.k, answer.w, answer.entries as u32];
         (time, Made::of(numbers.into_iter().chain(codes_out.iter().chain(&positions_out).copied())))
     };
-    let sized = |run, expected| Sized { items: entries, run, expected };
-    (sized(Box::new(save), saved), sized(Box::new(load), loaded))
+    let job = |run, expected| Job { items: entries, run, expected };
+    (job(Box::new(save), saved), job(Box::new(load), loaded))
 }
 
 fn store_rows() {
@@ -114,8 +114,8 @@ fn store_rows() {
 }
 
 /// A start whose cost is counted in these items.
-fn starts<'a>(items: usize, text: &'a [u32], pattern: &'a [u32]) -> Sized<'a> {
-    beside_plain(items, [ours::start, start::start].map(|start| start_run(start, ours::as_they_are, text, pattern)))
+fn starts<'a>(items: usize, text: &'a [u32], pattern: &'a [u32]) -> Job<'a> {
+    beside_plain(items, [ours::start, start::start].map(|start| start_run(start, as_they_are, text, pattern)))
 }
 
 fn start_rows() {
@@ -129,7 +129,7 @@ fn start_rows() {
 }
 
 /// All cells of a session by steps of this budget.
-fn steps(session: &Session, h: usize, budget: u32) -> Sized<'static> {
+fn steps(session: &Session, h: usize, budget: u32) -> Job<'static> {
     let ours = step_run(ours::start, ours::step(), Layout::Shared, session, budget);
     let plain = step_run(start::start, step::step, Layout::Shared, session, budget);
     beside_plain(h * (h + 1) / 2, [ours, plain])

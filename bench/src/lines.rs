@@ -3,7 +3,7 @@
 use crate::jobs::K;
 use crate::ours;
 use crate::plain::{fastest_sketch, fastest_start, fastest_step, fastest_work, sketch, start, step, strike};
-use crate::runs::{count_run, sketch_run, start_run, strike_run};
+use crate::runs::{as_they_are, count_run, sketch_run, start_run, strike_run};
 use crate::sessions::Session;
 use crate::signatures::{Shared, Start, Strike};
 use crate::steps::{Layout, counted, step_run};
@@ -35,11 +35,8 @@ pub fn strike_line(kind: &str, codes: &[u32], fastest: Strike) -> Line {
 
 pub fn start_line(session: &Session) -> Line {
     let Session { text, pattern, .. } = session;
-    let starts: [(Start, Shared); 3] = [
-        (ours::start, ours::as_they_are),
-        (start::start, ours::as_they_are),
-        (fastest_start::start, fastest_work::shared_after_start),
-    ];
+    let starts: [(Start, Shared); 3] =
+        [(ours::start, as_they_are), (start::start, as_they_are), (fastest_start::start, fastest_work::shared_after_start)];
     let runs = starts.map(|(start, shared)| start_run(start, shared, text, pattern));
     let job = format!("start, {} text and {} pattern entries", text.len(), pattern.len());
     line(job, text.len(), Some(1.5), runs)

@@ -53,7 +53,12 @@ impl Made {
         let all = self.all.hexadecimal();
         match self.words {
             None => format!("equal: {all}"),
-            Some(words) => format!("equal: {all}; all words of proved and plain: {}", words.hexadecimal()),
+            Some(words) => {
+                format!(
+                    "answers and words laid out alike equal: {all}; all words of proved and plain equal: {}",
+                    words.hexadecimal()
+                )
+            }
         }
     }
 }

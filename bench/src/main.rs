@@ -11,16 +11,14 @@ use bench::{growth, machine};
 /// Prints what the first table's columns mean.
 fn print_legend() {
     println!(
-        "Best processor time of {ROUNDS} runs, taken in turn in one process, all built for release. Each run of a job has the same"
+        "The best processor time of {ROUNDS} runs counts, taken in turn in one process, all built for release, with warm buffers."
     );
+    println!("'plain' is plain Rust with the proved function's algorithm, 'fastest' the fastest other plain Rust known to us.");
+    println!("'ns each' is per letter, entry or cell. Letters are random, in one run, k 15. Weights are 3 and 2.");
     println!(
-        "input; buffers are warm. 'plain' is plain Rust with the proved function's algorithm, 'fastest' the fastest plain Rust"
+        "Checksums are of every number, entry, answer and work word made, in one layout; behind steps the fastest session has"
     );
-    println!("known to us. 'ns each' is per letter, entry or cell. Letters are random, in one run, k 15. Checksums are of every");
-    println!(
-        "word, entry and answer made; behind steps the fastest session's own words are left out, and all words of the other two"
-    );
-    println!("have a sum of their own.\n");
+    println!("some words of its own, so that all three are compared without these, and proved and plain in all words.\n");
 }
 
 fn print_sketches(table: &mut Table) {

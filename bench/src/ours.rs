@@ -28,11 +28,6 @@ pub fn start(text: &[u32], pattern: &[u32], u: u32, v: u32, threshold: i32, work
     signed(calls::start(text, pattern, u, v, threshold, work))
 }
 
-/// The work words of a session that lays them out as docs/WORK_WORDS.md says.
-pub fn as_they_are(work: &[u32], _: &[u32]) -> Vec<u32> {
-    work.to_vec()
-}
-
 /// A step whose answer's words are lent anew with each call, and not made anew.
 pub fn step() -> impl FnMut(&mut [u32], u32) -> Stepped {
     let mut words = StepWords::default();

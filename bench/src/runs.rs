@@ -42,6 +42,11 @@ pub fn strike_run<'a>(strike: Strike, codes: &'a [u32], positions: &'a [u32]) ->
     })
 }
 
+/// The work words of a start that lays them out as docs/WORK_WORDS.md says.
+pub fn as_they_are(work: &[u32], _: &[u32]) -> Vec<u32> {
+    work.to_vec()
+}
+
 /// All 16,384 words are summed. `shared` brings them into the layout of docs/WORK_WORDS.md, outside of the time.
 pub fn start_run<'a>(start: Start, shared: Shared, text: &'a [u32], pattern: &'a [u32]) -> Run<'a> {
     let before = vec![BEFORE; WORK_WORDS];

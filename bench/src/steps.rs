@@ -90,13 +90,12 @@ fn fresh(start: Start, session: &Session) -> Vec<u32> {
 }
 
 /// How many cells and mappings the session has.
-pub fn counted(start: Start, step: impl FnMut(&mut [u32], u32) -> Stepped, session: &Session) -> Passed {
-    let mut step = step;
+pub fn counted(start: Start, mut step: impl FnMut(&mut [u32], u32) -> Stepped, session: &Session) -> Passed {
     pass_all(&mut step, &mut fresh(start, session), u32::MAX, |_| ())
 }
 
-/// Steps of this budget over all cells of a fresh session. They are taken twice: once for the time, and once more to sum up each answer,
-/// which would take longer than a step of one cell.
+/// Steps of this budget over all cells of a fresh session. They are taken twice: once for the time, and once more to sum up each
+/// answer, which would take longer than a step of one cell. Both must pass and find as much, and leave the same words.
 pub fn step_run(
     start: Start,
     mut step: impl FnMut(&mut [u32], u32) -> Stepped + 'static,

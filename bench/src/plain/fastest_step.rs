@@ -132,24 +132,25 @@ fn pass_chunks(words: &mut Words, column: Column, from: usize, to: usize) -> Pas
     quiet(to)
 }
 
-/// Passes cells of the place's column, at most so many.
-fn update(words: &mut Words, place: Place, left: usize) -> Passed {
+/// The place's column. Where it begins, none of its rows has been seen.
+#[inline(always)]
+fn entered(words: &mut Words, place: Place) -> Column {
     if place.row == 0 {
         words[SEEN] = 0;
         words[HIGHEST] = NONE;
     }
-    let column = Column::new(words, place.columns - 1);
+    Column::new(words, place.columns - 1)
+}
+
+/// Passes cells of the place's column, at most so many.
+fn update(words: &mut Words, place: Place, left: usize) -> Passed {
+    let column = entered(words, place);
     pass_chunks(words, column, place.row, place.row + left.min(place.columns - place.row))
 }
 
 /// Passes one cell.
 fn update_one(words: &mut Words, place: Place, _: usize) -> Passed {
-    let row = place.row;
-    if row == 0 {
-        words[SEEN] = 0;
-        words[HIGHEST] = NONE;
-    }
-    let column = Column::new(words, place.columns - 1);
+    let (column, row) = (entered(words, place), place.row);
     let score = column.pass_cell(words, row);
     if score >= column.threshold && column.is_reasonable(words, row) {
         let highest = highest_before(words, row + 1);
