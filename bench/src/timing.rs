@@ -6,7 +6,7 @@ use crate::clock::thread_time;
 use crate::made::Made;
 
 /// How often each run is made.
-pub const ROUNDS: usize = 40;
+pub const ROUNDS: usize = 100;
 
 /// A run of a job: it returns the time that counts and what it made.
 pub type Run<'a> = Box<dyn FnMut() -> (Duration, Made) + 'a>;
