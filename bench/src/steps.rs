@@ -95,7 +95,7 @@ pub fn counted(start: Start, mut step: impl FnMut(&mut [u32], u32) -> Stepped, s
 }
 
 /// Steps of this budget over all cells of a fresh session. They are taken twice: once for the time, and once more to sum up each
-/// answer, which would take longer than a step of one cell. Both must pass and find as much, and leave the same words.
+/// answer, which costs about as much as a step of one cell. Both must pass and find as much, and leave the same words.
 pub fn step_run(
     start: Start,
     mut step: impl FnMut(&mut [u32], u32) -> Stepped + 'static,
