@@ -1,15 +1,35 @@
-//! How the cost of the proved functions grows: the same job at two sizes.
-//! Assumes nothing.
+//! How the cost of the proved functions grows: the same job at two sizes. What they make is held to plain Rust, and a store to the
+//! reference.
 
 use host::calls;
+use host::reference::store;
 
-use crate::jobs::{self, HITS, K, LETTERS, PATTERN, TEXT};
+use crate::jobs::{self, K, LETTERS, TEXT};
+use crate::made::Made;
 use crate::ours;
-use crate::runs::{count_run, sketch_run, start_run, step_run, strike_run};
+use crate::plain::{sketch, start, step, strike};
+use crate::runs::{BEFORE, as_they_are, count_run, sketch_run, start_run, strike_run};
+use crate::sessions::{HITS, PATTERN, Session, random_hits};
+use crate::steps::{Layout, step_run};
 use crate::table::{each, milliseconds, ratio};
-use crate::timing::{Run, best_times, checksum, timed};
+use crate::timing::{Run, best_times, timed};
 
 const ROUNDS: usize = 20;
+
+/// The window of the stores.
+const W: u32 = 10;
+
+/// A job at one size: what its cost is counted in, the proved function's run, and what it must make.
+struct Job<'a> {
+    items: usize,
+    run: Run<'a>,
+    expected: Made,
+}
+
+/// A job that plain Rust does too.
+fn beside_plain<'a>(items: usize, [run, mut plain]: [Run<'a>; 2]) -> Job<'a> {
+    Job { items, run, expected: plain().1 }
+}
 
 /// Prints the head of the table.
 fn print_head() {
@@ -17,81 +37,111 @@ fn print_head() {
     println!("|---|---|---|---|---|---|---|---|");
 }
 
-/// Prints a job at two sizes, whose costs are counted in these items. The two take turns.
-fn print(job: &str, (from, small): (usize, Run), (to, large): (usize, Run)) {
-    let best = best_times(&mut [small, large], ROUNDS);
-    let (small, large) = (best[0], best[1]);
-    let grows = format!("{:.1} for {:.1}", ratio(large, small), to as f64 / from as f64);
-    let (few, many) = (milliseconds(small), milliseconds(large));
-    println!("| {job} | {from} | {to} | {few} | {many} | {grows} | {} | {} |", each(small, from), each(large, to));
+/// Prints a job at two sizes, which take turns. Panics where one makes something else than it must.
+fn print(job: &str, small: Job, large: Job) {
+    let best = best_times(&mut [small.run, large.run], ROUNDS);
+    for (timed, expected) in best.iter().zip([small.expected, large.expected]) {
+        assert!(timed.made.agrees(&expected), "{job}: made {:?} in place of {expected:?}", timed.made);
+    }
+    let (from, to, few, many) = (small.items, large.items, best[0], best[1]);
+    let grows = format!("{:.1} for {:.1}", ratio(many, few), to as f64 / from as f64);
+    let (few_ms, many_ms) = (milliseconds(few), milliseconds(many));
+    println!("| {job} | {from} | {to} | {few_ms} | {many_ms} | {grows} | {} | {} |", each(few, from), each(many, to));
+}
+
+fn sketches(letters: &[u8], w: u32) -> Job<'_> {
+    beside_plain(letters.len(), [ours::sketch, sketch::sketch].map(|sketch| sketch_run(sketch, letters, K, w)))
+}
+
+fn counts(letters: &[u8], w: u32) -> Job<'_> {
+    beside_plain(letters.len(), [ours::COUNT, sketch::count].map(|count| count_run(count, letters, K, w)))
 }
 
 fn letters_rows() {
     for (kind, letters) in [("random", jobs::random_letters(LETTERS)), ("climbing", jobs::climbing_letters(LETTERS))] {
         let few = &letters[..LETTERS / 10];
         for w in [10, 64] {
-            let job = format!("sketch, w {w}, {kind} letters");
-            let run = |letters| sketch_run(ours::sketch, letters, K, w);
-            print(&job, (few.len(), run(few)), (letters.len(), run(&letters)));
+            print(&format!("sketch, w {w}, {kind} letters"), sketches(few, w), sketches(&letters, w));
         }
-        let run = |letters| count_run(ours::COUNT, letters, K, 10);
-        print(&format!("count, w 10, {kind} letters"), (few.len(), run(few)), (letters.len(), run(&letters)));
+        print(&format!("count, w 10, {kind} letters"), counts(few, 10), counts(&letters, 10));
     }
 }
 
+fn strikes<'a>(codes: &'a [u32], positions: &'a [u32]) -> Job<'a> {
+    let positions = &positions[..codes.len()];
+    beside_plain(codes.len(), [ours::strike, strike::strike].map(|strike| strike_run(strike, codes, positions)))
+}
+
 fn strike_rows() {
+    let positions: Vec<u32> = (0..TEXT as u32).collect();
     for (kind, few, many) in [
         ("all different", jobs::all_different(TEXT / 10), jobs::all_different(TEXT)),
         ("all the same", jobs::all_the_same(TEXT / 10), jobs::all_the_same(TEXT)),
         ("repeats", jobs::repeats(TEXT / 10), jobs::repeats(TEXT)),
     ] {
-        let positions: Vec<u32> = (0..TEXT as u32).collect();
-        let run = |codes| -> Run { strike_run(ours::strike, codes, &positions[..codes.len()]) };
-        print(&format!("strike, {kind}"), (few.len(), run(&few)), (many.len(), run(&many)));
+        print(&format!("strike, {kind}"), strikes(&few, &positions), strikes(&many, &positions));
     }
 }
 
-/// A save of this many entries, and a load of what it wrote.
-fn store_runs(entries: usize) -> (Run<'static>, Run<'static>) {
+/// A save of this many entries, and a load of what it wrote. All words and all entries are summed.
+fn stores(entries: usize) -> (Job<'static>, Job<'static>) {
     let positions: Vec<u32> = (0..entries as u32).collect();
     let codes = jobs::all_different(entries);
-    let mut words = vec![0; 2 * entries + 2];
-    calls::save(&codes, &positions, K, 10, &mut words).expect("room for the words");
-    let (stored, mut codes_out, mut positions_out) = (words.clone(), codes.clone(), positions.clone());
+    let room = 2 * entries + 2;
+    let stored = store::save(K, W, &codes, &positions, room).expect("a sketch that is saved");
+    let saved = Made::of([room as u32].into_iter().chain(stored.iter().copied()));
+    let loaded = Made::of([K, W, entries as u32].into_iter().chain(codes.iter().chain(&positions).copied()));
+    let (mut words, mut codes_out, mut positions_out) = (vec![BEFORE; room], vec![BEFORE; entries], vec![BEFORE; entries]);
     let save = move || {
-        let (time, answer) = timed(|| calls::save(&codes, &positions, K, 10, &mut words));
-        (time, checksum([answer.expect("a saved sketch") as u32, words[words.len() - 2]]))
+        let (time, answer) = timed(|| calls::save(&codes, &positions, K, W, &mut words));
+        let number = answer.expect("a saved sketch") as u32;
+        (time, Made::of([number].into_iter().chain(words.iter().copied())))
     };
     let load = move || {
         let (time, answer) = timed(|| calls::load(&stored, &mut codes_out, &mut positions_out));
-        (time, checksum([answer.expect("a loaded store").entries as u32, codes_out[codes_out.len() - 1]]))
+        let answer = answer.expect("a loaded store");
+        let numbers = [answer.k, answer.w, answer.entries as u32];
+        (time, Made::of(numbers.into_iter().chain(codes_out.iter().chain(&positions_out).copied())))
     };
-    (Box::new(save), Box::new(load))
+    let job = |run, expected| Job { items: entries, run, expected };
+    (job(Box::new(save), saved), job(Box::new(load), loaded))
 }
 
 fn store_rows() {
-    let (few, many) = (LETTERS / 10, LETTERS);
-    let ((save_few, load_few), (save_many, load_many)) = (store_runs(few), store_runs(many));
-    print("save", (few, save_few), (many, save_many));
-    print("load", (few, load_few), (many, load_many));
+    let ((save_few, load_few), (save_many, load_many)) = (stores(LETTERS / 10), stores(LETTERS));
+    print("save", save_few, save_many);
+    print("load", load_few, load_many);
+}
+
+/// A start whose cost is counted in these items.
+fn starts<'a>(items: usize, text: &'a [u32], pattern: &'a [u32]) -> Job<'a> {
+    beside_plain(items, [ours::start, start::start].map(|start| start_run(start, as_they_are, text, pattern)))
 }
 
 fn start_rows() {
-    let (text, pattern) = jobs::session(TEXT, PATTERN, HITS);
-    let (short, _) = jobs::session(TEXT / 10, PATTERN, HITS / 10);
-    let run = |text, pattern| -> Run { start_run(ours::start, text, pattern) };
-    print("start, text entries", (short.len(), run(&short, &pattern)), (TEXT, run(&text, &pattern)));
-    let (_, few) = jobs::session(TEXT / 10, PATTERN / 10, HITS / 10);
-    print("start, pattern entries", (few.len(), run(&short, &few)), (PATTERN, run(&short, &pattern)));
+    let all = random_hits(TEXT, PATTERN, HITS, 0);
+    let short = random_hits(TEXT / 10, PATTERN, HITS / 10, 0);
+    let few = random_hits(TEXT / 10, PATTERN / 10, HITS / 10, 0);
+    let (short_text, long_text) = (starts(TEXT / 10, &short.text, &all.pattern), starts(TEXT, &all.text, &all.pattern));
+    print("start, text entries", short_text, long_text);
+    let (few_codes, many_codes) = (starts(PATTERN / 10, &short.text, &few.pattern), starts(PATTERN, &short.text, &all.pattern));
+    print("start, pattern entries", few_codes, many_codes);
+}
+
+/// All cells of a session by steps of this budget.
+fn steps(session: &Session, h: usize, budget: u32) -> Job<'static> {
+    let ours = step_run(ours::start, ours::step(), Layout::Shared, session, budget);
+    let plain = step_run(start::start, step::step, Layout::Shared, session, budget);
+    beside_plain(h * (h + 1) / 2, [ours, plain])
 }
 
 fn step_rows() {
-    let run = |h: usize, budget| {
-        let (text, pattern) = jobs::session(TEXT, PATTERN, h);
-        (h * (h + 1) / 2, step_run(ours::start, ours::step(), &text, &pattern, budget))
-    };
-    print("one step over all cells, h 1024 to 2048", run(HITS / 2, u32::MAX), run(HITS, u32::MAX));
-    print("steps of budget 1 over all cells, h 1024 to 2048", run(HITS / 2, 1), run(HITS, 1));
+    let half = random_hits(TEXT, PATTERN, HITS / 2, i32::MAX);
+    let all = random_hits(TEXT, PATTERN, HITS, i32::MAX);
+    for (name, budget) in [("one step", u32::MAX), ("steps of budget 1", 1)] {
+        let job = format!("{name} over all cells, h {} to {HITS}", HITS / 2);
+        print(&job, steps(&half, HITS / 2, budget), steps(&all, HITS, budget));
+    }
 }
 
 /// Prints the table.

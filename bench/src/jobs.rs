@@ -1,5 +1,4 @@
-//! The inputs of the speed table's jobs, all made from fixed seeds.
-//! Assumes nothing.
+//! The letters and entries of the speed table's jobs, all made from fixed seeds.
 
 use host::cases::letters;
 use host::random::Random;
@@ -7,8 +6,6 @@ use host::reference::sketch::rank;
 
 pub const LETTERS: usize = 1_048_576;
 pub const TEXT: usize = 65_535;
-pub const PATTERN: usize = 4_096;
-pub const HITS: usize = 2_048;
 
 /// The k of all sketches here.
 pub const K: u32 = 15;
@@ -62,7 +59,7 @@ pub fn climbing_letters(number: usize) -> Vec<u8> {
 }
 
 /// A code for each number below 2^30, in no order: multiplying by an odd number repeats none.
-fn spread(number: usize) -> u32 {
+pub fn spread(number: usize) -> u32 {
     (number as u32).wrapping_mul(2_654_435_761) % (1 << 30)
 }
 
@@ -80,25 +77,4 @@ pub fn all_the_same(number: usize) -> Vec<u32> {
 pub fn repeats(number: usize) -> Vec<u32> {
     let mut random = Random::new(2);
     (0..number).map(|_| spread(random.below(number / 16))).collect()
-}
-
-/// Codes of a text and of a pattern with exactly so many hits. Codes of hits are few enough to repeat in both.
-pub fn session(entries: usize, size: usize, hits: usize) -> (Vec<u32>, Vec<u32>) {
-    let mut random = Random::new(3);
-    let codes = (hits * 3 / 4).min(size);
-    let pattern: Vec<u32> = (0..size)
-        .map(|n| if n < codes { spread(n) } else { spread(if random.once_in(4) { random.below(codes) } else { 100_000 + n }) })
-        .collect();
-    let mut text: Vec<u32> = (0..entries).map(|_| spread(1_000_000 + random.below(1 << 28))).collect();
-    let mut placed = 0;
-    let mut is_hit = vec![false; entries];
-    while placed < hits {
-        let at = random.below(entries);
-        if !is_hit[at] {
-            is_hit[at] = true;
-            text[at] = spread(random.below(codes));
-            placed += 1;
-        }
-    }
-    (text, pattern)
 }

@@ -1,13 +1,16 @@
 //! The speed table's jobs in plain Rust, and the calls of the proved functions beside them.
-//! Assumes nothing.
 
 pub mod clock;
 pub mod growth;
 pub mod jobs;
 pub mod lines;
+pub mod machine;
+pub mod made;
 pub mod ours;
 pub mod plain;
 pub mod runs;
+pub mod sessions;
 pub mod signatures;
+pub mod steps;
 pub mod table;
 pub mod timing;

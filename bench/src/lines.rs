@@ -1,17 +1,19 @@
-//! The lines of the speed table: each job with its inputs, its checksum and who runs it.
-//! Assumes nothing.
+//! The lines of the speed table: each job with its inputs and who runs it.
 
 use crate::jobs::K;
 use crate::ours;
-use crate::plain::{fastest_sketch, fastest_start, fastest_step, sketch, start, step, strike};
-use crate::runs::{count_run, sketch_run, start_run, step_run, strike_run};
-use crate::signatures::Strike;
+use crate::plain::{fastest_sketch, fastest_start, fastest_step, fastest_work, sketch, start, step, strike};
+use crate::runs::{as_they_are, count_run, sketch_run, start_run, strike_run};
+use crate::sessions::Session;
+use crate::signatures::{Shared, Start, Strike};
+use crate::steps::{Layout, counted, step_run};
 use crate::table::Line;
-use crate::timing::{ROUNDS, Run, race};
+use crate::timing::{ROUNDS, Run, ask_agreement, best_times};
 
 /// Races ours, plain Rust with the same algorithm, and the fastest.
 fn line(job: String, items: usize, goal: Option<f64>, mut runs: [Run; 3]) -> Line {
-    let best = race(&mut runs, ROUNDS);
+    let best = best_times(&mut runs, ROUNDS);
+    ask_agreement(&best);
     Line { job, items, goal, ours: best[0], plain: best[1], fastest: best[2] }
 }
 
@@ -31,28 +33,33 @@ pub fn strike_line(kind: &str, codes: &[u32], fastest: Strike) -> Line {
     line(format!("strike, {} entries, {kind}", codes.len()), codes.len(), Some(1.5), runs)
 }
 
-pub fn start_line(text: &[u32], pattern: &[u32]) -> Line {
-    let runs = [ours::start, start::start, fastest_start::start].map(|start| start_run(start, text, pattern));
+pub fn start_line(session: &Session) -> Line {
+    let Session { text, pattern, .. } = session;
+    let starts: [(Start, Shared); 3] =
+        [(ours::start, as_they_are), (start::start, as_they_are), (fastest_start::start, fastest_work::shared_after_start)];
+    let runs = starts.map(|(start, shared)| start_run(start, shared, text, pattern));
     let job = format!("start, {} text and {} pattern entries", text.len(), pattern.len());
     line(job, text.len(), Some(1.5), runs)
 }
 
-/// All cells of h hits by one step, and the same cells by steps of budget 1. All six runs take turns, since the two lines are compared.
-pub fn step_lines(text: &[u32], pattern: &[u32], h: usize) -> [Line; 2] {
+/// All cells of a session by steps of the greatest budget, and by steps of budget 1. All six runs take turns, since the two lines are
+/// compared.
+pub fn step_lines(kind: &str, session: &Session, goal: Option<f64>) -> [Line; 2] {
     let runs = |budget| {
         [
-            step_run(ours::start, ours::step(), text, pattern, budget),
-            step_run(start::start, step::step, text, pattern, budget),
-            step_run(fastest_start::start, fastest_step::step, text, pattern, budget),
+            step_run(ours::start, ours::step(), Layout::Shared, session, budget),
+            step_run(start::start, step::step, Layout::Shared, session, budget),
+            step_run(fastest_start::start, fastest_step::step, Layout::Fastest, session, budget),
         ]
     };
+    let passed = counted(start::start, step::step, session);
     let mut all: Vec<Run> = runs(u32::MAX).into_iter().chain(runs(1)).collect();
-    let best = race(&mut all, ROUNDS);
-    let items = h * (h + 1) / 2;
-    let line =
-        |job: String, goal, at: usize| Line { job, items, goal, ours: best[at], plain: best[at + 1], fastest: best[at + 2] };
-    [
-        line(format!("one step over all {items} cells of h {h}"), Some(1.1), 0),
-        line("the same cells by steps of budget 1".to_string(), None, 3),
-    ]
+    let best = best_times(&mut all, ROUNDS);
+    ask_agreement(&best[..3]);
+    ask_agreement(&best[3..]);
+    let line = |budget: &str, goal, at: usize| {
+        let job = format!("steps of {budget}, {kind}, {} cells, {} mappings found", passed.cells, passed.found);
+        Line { job, items: passed.cells, goal, ours: best[at], plain: best[at + 1], fastest: best[at + 2] }
+    };
+    [line("the greatest budget", goal, 0), line("budget 1", None, 3)]
 }

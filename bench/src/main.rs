@@ -1,48 +1,70 @@
-//! Times the speed table's jobs and prints the table, and a second one that says how costs grow.
-//! Assumes nothing.
+//! Times the speed table's jobs and prints the table, a second one that says how costs grow, and the goals that are missed.
 
-use bench::growth;
-use bench::jobs::{self, HITS, LETTERS, PATTERN, TEXT};
+use bench::jobs::{self, LETTERS, TEXT};
 use bench::lines::{count_line, sketch_line, start_line, step_lines, strike_line};
 use bench::plain::{fastest_strike, hash_strike};
-use bench::table::{print, print_head, print_singles};
+use bench::sessions::{HITS, PATTERN, cluster, random_hits};
+use bench::table::Table;
 use bench::timing::ROUNDS;
+use bench::{growth, machine};
 
-fn print_speed() {
-    print_head();
+/// Prints what the first table's columns mean.
+fn print_legend() {
+    println!(
+        "The best processor time of {ROUNDS} runs counts, taken in turn in one process, all built for release, with warm buffers."
+    );
+    println!("'plain' is plain Rust with the proved function's algorithm, 'fastest' the fastest other plain Rust known to us.");
+    println!("'ns each' is per letter, entry or cell. Letters are random, in one run, k 15. Weights are 3 and 2.");
+    println!(
+        "Checksums are of every number, entry, answer and work word made, in one layout; behind steps the fastest session has"
+    );
+    println!("some words of its own, so that all three are compared without these, and proved and plain in all words.\n");
+}
+
+fn print_sketches(table: &mut Table) {
     let letters = jobs::random_letters(LETTERS);
     for w in [1, 10, 64] {
-        print(&sketch_line(&letters, w));
-        print(&count_line(&letters, w));
+        table.print(&sketch_line(&letters, w));
+        table.print(&count_line(&letters, w));
     }
+}
+
+fn print_strikes(table: &mut Table) {
     let texts = [
         ("all different", jobs::all_different(TEXT)),
         ("all the same", jobs::all_the_same(TEXT)),
         ("repeats", jobs::repeats(TEXT)),
     ];
     for (kind, codes) in &texts {
-        print(&strike_line(kind, codes, fastest_strike::strike));
-        print(&strike_line(&format!("{kind}; 'fastest' is std's HashMap"), codes, hash_strike::strike));
+        table.print(&strike_line(kind, codes, fastest_strike::strike));
+        table.print(&strike_line(&format!("{kind}; 'fastest' is std's HashMap"), codes, hash_strike::strike));
     }
-    let (text, pattern) = jobs::session(TEXT, PATTERN, HITS);
-    print(&start_line(&text, &pattern));
-    let [single, ones] = step_lines(&text, &pattern, HITS);
-    print(&single);
-    print(&ones);
-    print_singles(&single, &ones, 5.0);
+}
+
+fn print_sessions(table: &mut Table) {
+    let hits = random_hits(TEXT, PATTERN, HITS, i32::MAX);
+    table.print(&start_line(&hits));
+    let [single, ones] = step_lines("hits at random, threshold out of reach", &hits, Some(1.1));
+    table.print(&single);
+    table.print(&ones);
+    table.print_singles(&single, &ones, 5.0);
+    for (kind, threshold, goal) in [("threshold out of reach", i32::MAX, Some(1.1)), ("lowest threshold", i32::MIN, None)] {
+        for line in step_lines(&format!("cluster, {kind}"), &cluster(HITS, threshold), goal) {
+            table.print(&line);
+        }
+    }
 }
 
 fn main() {
-    println!(
-        "Best processor time of {ROUNDS} runs, taken in turn in one process, all built for release. Each run of a job has the same"
-    );
-    println!("input; buffers are warm and not cleared between runs. 'plain' is plain Rust with the proved function's algorithm,");
-    println!(
-        "'fastest' the fastest plain Rust known to us. 'ns each' is per letter, entry or cell. Letters are random, in one run, k 15.\n"
-    );
-    print_speed();
+    machine::print();
+    print_legend();
+    let mut table = Table::begin();
+    print_sketches(&mut table);
+    print_strikes(&mut table);
+    print_sessions(&mut table);
     println!(
         "\nHow the cost of the proved functions grows: ten times the letters or entries, twice the hits (four times the cells).\n"
     );
     growth::print_all();
+    table.print_goals();
 }

@@ -1,5 +1,4 @@
 //! The proved functions that the table times, in the shapes that plain Rust has too.
-//! Assumes nothing.
 
 use host::calls::{self, Stepped};
 use host::exported::{self, StepWords};

@@ -1,5 +1,4 @@
 //! The shapes that plain and proved functions share, so that one job runs both.
-//! Assumes nothing.
 
 use host::calls::Stepped;
 
@@ -14,6 +13,9 @@ pub type Strike = fn(&[u32], &[u32], u32, &mut [u32], &mut [u32]) -> i32;
 
 /// Codes of the text and of the pattern, u, v, threshold and work words; h, or the refusal number negated.
 pub type Start = fn(&[u32], &[u32], u32, u32, i32, &mut [u32]) -> i32;
+
+/// Work words behind start and those before it; the words as docs/WORK_WORDS.md lays them out.
+pub type Shared = fn(&[u32], &[u32]) -> Vec<u32>;
 
 /// Work words and budget.
 pub type Step = fn(&mut [u32], u32) -> Stepped;

@@ -1,5 +1,4 @@
 //! The speed table: a line for each job, with the times of the proved function and of plain Rust, and the one over the other.
-//! Assumes nothing.
 
 use crate::timing::Timed;
 
@@ -8,7 +7,7 @@ pub struct Line {
     pub job: String,
     /// what a time is divided by: so many letters, entries or cells
     pub items: usize,
-    /// the most that ours may take over plain Rust's with the same algorithm
+    /// the most that the proved function may take over plain Rust with the same algorithm
     pub goal: Option<f64>,
     pub ours: Timed,
     pub plain: Timed,
@@ -29,50 +28,66 @@ pub fn ratio(one: Timed, other: Timed) -> f64 {
     one.best.as_secs_f64() / other.best.as_secs_f64()
 }
 
-/// The goal, and by how much it is missed.
-fn judged(ratio: f64, goal: Option<f64>) -> String {
-    match goal {
-        None => "-".to_string(),
-        Some(goal) if ratio <= goal => format!("{goal} met"),
-        Some(goal) => format!("{goal} MISSED by {:.0} %", (ratio / goal - 1.0) * 100.0),
+/// The table as it is printed, and the goals that its lines miss, in words.
+#[derive(Default)]
+pub struct Table {
+    missed: Vec<String>,
+}
+
+impl Table {
+    /// Prints the head.
+    pub fn begin() -> Table {
+        println!(
+            "| job | proved, ms | plain, ms | proved / plain | goal | fastest, ms | proved / fastest | proved, ns each | checksums |"
+        );
+        println!("|---|---|---|---|---|---|---|---|---|");
+        Table::default()
     }
-}
 
-/// Prints the head of the table.
-pub fn print_head() {
-    println!(
-        "| job | proved, ms | plain, ms | proved / plain | goal | fastest, ms | proved / fastest | proved, ns each | checksums |"
-    );
-    println!("|---|---|---|---|---|---|---|---|---|");
-}
+    /// The goal, and by how much it is missed, which is remembered.
+    fn judged(&mut self, job: &str, ratio: f64, goal: Option<f64>) -> String {
+        match goal {
+            None => "-".to_string(),
+            Some(goal) if ratio <= goal => format!("{goal} met"),
+            Some(goal) => {
+                let by = format!("by {:.0} %", (ratio / goal - 1.0) * 100.0);
+                self.missed.push(format!("{job}: {ratio:.2}, the goal is {goal}, missed {by}"));
+                format!("{goal} MISSED {by}")
+            }
+        }
+    }
 
-/// Prints one line. The checksums are equal, as `race` asks.
-pub fn print(line: &Line) {
-    let over = ratio(line.ours, line.plain);
-    println!(
-        "| {} | {} | {} | {over:.2} | {} | {} | {:.2} | {} | equal: {:016x} |",
-        line.job,
-        milliseconds(line.ours),
-        milliseconds(line.plain),
-        judged(over, line.goal),
-        milliseconds(line.fastest),
-        ratio(line.ours, line.fastest),
-        each(line.ours, line.items),
-        line.ours.checksum
-    );
-}
+    /// Prints one line. The checksums are equal, as was asked.
+    pub fn print(&mut self, line: &Line) {
+        let over = ratio(line.ours, line.plain);
+        println!(
+            "| {} | {} | {} | {over:.2} | {} | {} | {:.2} | {} | {} |",
+            line.job,
+            milliseconds(line.ours),
+            milliseconds(line.plain),
+            self.judged(&line.job, over, line.goal),
+            milliseconds(line.fastest),
+            ratio(line.ours, line.fastest),
+            each(line.ours, line.items),
+            line.ours.made.shown()
+        );
+    }
 
-/// Prints how often the single step goes into the steps of budget 1 over the same cells, with its goal.
-pub fn print_singles(single: &Line, ones: &Line, goal: f64) {
-    let over = ratio(ones.ours, single.ours);
-    println!(
-        "| steps of budget 1 over our single step | {} | - | {over:.2} times the single step | {} | - | - | - | - |",
-        milliseconds(ones.ours),
-        judged(over, Some(goal)),
-    );
-    println!(
-        "\nSteps of budget 1 over the single step, in plain Rust: same algorithm {:.2}, fastest {:.2}.",
-        ratio(ones.plain, single.plain),
-        ratio(ones.fastest, single.fastest)
-    );
+    /// Prints how often the single step goes into the steps of budget 1 over the same cells, with its goal.
+    pub fn print_singles(&mut self, single: &Line, ones: &Line, goal: f64) {
+        let job = "steps of budget 1 over the single step, both proved";
+        let over = ratio(ones.ours, single.ours);
+        let judged = self.judged(job, over, Some(goal));
+        println!("| {job} | {} | - | {over:.2} times the single step | {judged} | - | - | - | - |", milliseconds(ones.ours));
+    }
+
+    /// Prints the goals that are missed, or that none is.
+    pub fn print_goals(&self) {
+        if self.missed.is_empty() {
+            println!("\nall goals are met");
+        }
+        for (at, missed) in self.missed.iter().enumerate() {
+            println!("{}goal missed: {missed}", if at == 0 { "\n" } else { "" });
+        }
+    }
 }

@@ -1,5 +1,4 @@
 //! The six calls with answers as a Rust program wants them: a result, or a refusal.
-//! Assumes nothing.
 
 use crate::exported::{self, StepWords};
 use crate::reference::refusal::{Refusal, refused, refused_with};

@@ -1,5 +1,4 @@
 //! Made-up inputs: clusters of near copies of a gene with inner repeats, and settings to map a read with.
-//! Assumes nothing.
 
 use crate::random::Random;
 use crate::reference::input::Settings;

@@ -1,5 +1,4 @@
 //! A deterministic generator of pseudo-random numbers (splitmix64), so that every failing case can be made again from its seed.
-//! Assumes nothing.
 
 #[derive(Clone)]
 pub struct Random {

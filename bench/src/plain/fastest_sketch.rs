@@ -1,5 +1,4 @@
 //! Sketch and count by the fastest plain Rust known to us: by chunks for small windows, by events for greater ones.
-//! Assumes nothing.
 
 use super::keys::{Key, code_of, position_of};
 use super::letters::table;

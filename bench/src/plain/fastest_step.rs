@@ -1,12 +1,15 @@
 //! Step with a row's score carried from column to column: where column j + 1 is left, m falls by one in the rows from
 //! back[j + 1] on, so no cell waits for the one before it. Whether a cell is below a greater one in an earlier row is asked only
 //! where 64 cells have one at the threshold.
-//! Assumes, for its answers, words that the fastest start and such steps made. A score stands signed in them, without a bias.
+//! Assumes, for its answers, words that the fastest start and such steps made.
 
 use host::calls::Stepped;
 
-use super::step::{Numbers, Place, step_by};
-use super::work::{BACK, BEST, BIAS, HITS, INDEX, LIFTED, MAX_HITS, REACH, Tables};
+use super::column::Passed;
+use super::fastest_work::{HIGHEST, LIFTED, NONE, SEEN};
+use super::step::judged;
+use super::walk::{Place, walk};
+use super::work::{BACK, BEST, BIAS, HITS, INDEX, MAX_HITS, REACH, SIZE, THRESHOLD, U, V, Words};
 
 const CHUNK: usize = 64;
 
@@ -16,15 +19,78 @@ struct Column {
     j: usize,
     /// −v·(index of j + 1 + |p|)
     base: u32,
-    /// The first row whose m falls by one in this column, and what its lifted score falls by.
+    /// The first row whose m falls by one in this column, and what its lifted score falls by, u + 2v.
     falls_from: usize,
     fall: u32,
-    floor: i32,
+    v: u32,
+    threshold: i32,
 }
 
-/// The part of this row in which the lifted scores fall, given its length.
-fn falling(column: Column, from: usize, length: usize) -> usize {
-    column.falls_from.saturating_sub(from).min(length)
+impl Column {
+    fn new(words: &Words, j: usize) -> Column {
+        let (h, v) = (words[HITS] as usize, words[V]);
+        Column {
+            j,
+            base: 0u32.wrapping_sub(v.wrapping_mul(words[INDEX + j] + 1 + words[SIZE])),
+            falls_from: if j + 1 < h { words[BACK + j + 1] as usize } else { h },
+            fall: words[U] + 2 * v,
+            v,
+            threshold: words[THRESHOLD].wrapping_sub(BIAS) as i32,
+        }
+    }
+
+    /// Passes the cell of this row, and returns its score.
+    #[inline(always)]
+    fn pass_cell(&self, words: &mut Words, row: usize) -> i32 {
+        if row >= self.falls_from {
+            words[LIFTED + row] = words[LIFTED + row].wrapping_sub(self.fall);
+        }
+        let score = words[LIFTED + row].wrapping_add(self.base) as i32;
+        words[BEST + row] = (words[BEST + row] as i32).max(score) as u32;
+        score
+    }
+
+    /// Whether both ends of the cell of this row are reasonable.
+    #[inline(always)]
+    fn is_reasonable(&self, words: &Words, row: usize) -> bool {
+        self.j < words[REACH + row] as usize && row >= words[BACK + self.j] as usize
+    }
+
+    /// What is answered behind a final cell of this row.
+    fn found(&self, words: &Words, row: usize, score: i32) -> Passed {
+        let m = (words[LIFTED + row] - self.v * words[INDEX + row]) / self.fall;
+        Passed { row: row + 1, m, found: Some(score) }
+    }
+}
+
+/// What is answered where no cell of the rows before this one is final: m is not kept.
+fn quiet(row: usize) -> Passed {
+    Passed { row, m: 0, found: None }
+}
+
+/// The greatest best of the rows before this one in the column in hand. Rows that were seen before are not looked at again.
+fn highest_before(words: &Words, row: usize) -> i32 {
+    let seen = words[SEEN] as usize;
+    words[BEST + seen..BEST + row].iter().fold(words[HIGHEST] as i32, |top, &best| top.max(best as i32))
+}
+
+/// Passes rows one by one up to `to`, and stops behind a final cell. Kept apart, so that the loop over chunks stays small.
+#[inline(never)]
+fn pass_singly(words: &mut Words, column: Column, from: usize, to: usize) -> Passed {
+    assert!(from <= to && to <= MAX_HITS, "rows of a block");
+    let mut highest = highest_before(words, from);
+    let mut passed = quiet(to);
+    for row in from..to {
+        let score = column.pass_cell(words, row);
+        highest = highest.max(words[BEST + row] as i32);
+        if score >= column.threshold && score == highest && column.is_reasonable(words, row) {
+            passed = column.found(words, row, score);
+            break;
+        }
+    }
+    words[SEEN] = passed.row as u32;
+    words[HIGHEST] = highest as u32;
+    passed
 }
 
 /// The greatest score of these rows.
@@ -40,73 +106,74 @@ fn pass_rows(best: &mut [u32], lifted: &mut [u32], fall: u32, base: u32) {
     }
 }
 
-/// Passes rows one by one up to `to`, and stops behind a final cell, whose score it returns with the row behind it.
-fn pass_singly(tables: &mut Tables, column: Column, from: usize, to: usize) -> (usize, Option<i32>) {
-    let Column { j, base, falls_from, fall, floor } = column;
-    let mut highest = tables[BEST..BEST + from].iter().fold(i32::MIN, |top, &best| top.max(best as i32));
-    for i in from..to {
-        if i >= falls_from {
-            tables[LIFTED + i] = tables[LIFTED + i].wrapping_sub(fall);
-        }
-        let score = tables[LIFTED + i].wrapping_add(base) as i32;
-        tables[BEST + i] = (tables[BEST + i] as i32).max(score) as u32;
-        highest = highest.max(tables[BEST + i] as i32);
-        let reasonable = j < tables[REACH + i] as usize && i >= tables[BACK + j] as usize;
-        if score >= floor && reasonable && score == highest {
-            return (i + 1, Some(score));
-        }
-    }
-    (to, None)
-}
-
 /// Passes rows in chunks up to `to`, and stops behind a final cell.
-fn pass_chunks(tables: &mut Tables, column: Column, from: usize, to: usize) -> (usize, Option<i32>) {
-    let mut i = from;
-    while i < to {
-        let length = CHUNK.min(to - i);
-        let still = falling(column, i, length);
-        let Column { base, fall, floor, .. } = column;
-        let (front, lifted) = tables.split_at_mut(LIFTED);
-        let (best, lifted) = (&mut front[BEST + i..BEST + i + length], &mut lifted[i..i + length]);
+fn pass_chunks(words: &mut Words, column: Column, from: usize, to: usize) -> Passed {
+    let Column { base, falls_from, fall, threshold, .. } = column;
+    let mut row = from;
+    while row < to {
+        let length = CHUNK.min(to - row);
+        let still = falls_from.saturating_sub(row).min(length);
+        let (front, lifted) = words.split_at_mut(LIFTED);
+        let (best, lifted) = (&mut front[BEST + row..BEST + row + length], &mut lifted[row..row + length]);
         let (best_still, best_falling) = best.split_at_mut(still);
         let (lifted_still, lifted_falling) = lifted.split_at_mut(still);
         let top = greatest(lifted_still, base).max(greatest(lifted_falling, base.wrapping_sub(fall)));
-        if top < floor {
+        if top < threshold {
             pass_rows(best_still, lifted_still, 0, base);
             pass_rows(best_falling, lifted_falling, fall, base);
-        } else if let (behind, Some(score)) = pass_singly(tables, column, i, i + length) {
-            return (behind, Some(score));
+        } else {
+            let passed = pass_singly(words, column, row, row + length);
+            if passed.found.is_some() {
+                return passed;
+            }
         }
-        i += length;
+        row += length;
     }
-    (to, None)
+    quiet(to)
 }
 
-/// Passes cells of one column of a session with h hits.
-fn pass(h: usize, tables: &mut Tables, numbers: Numbers, place: Place, to: usize) -> (Place, Option<u32>) {
-    let Place { j, i, .. } = place;
-    assert!(j < MAX_HITS && to <= MAX_HITS);
-    let Numbers { scale, v, size, floor } = numbers;
-    let column = Column {
-        j,
-        base: 0u32.wrapping_sub(v.wrapping_mul(tables[INDEX + j] + 1 + size)),
-        falls_from: if j + 1 < h { tables[BACK + j + 1] as usize } else { h },
-        fall: scale,
-        floor: floor.wrapping_sub(BIAS) as i32,
-    };
-    let (behind, found) = pass_chunks(tables, column, i, to);
-    match found {
-        None => (Place { j, i: behind, m: 0 }, None),
-        Some(score) => {
-            // the place has the m behind the cell
-            let m = (tables[LIFTED + behind - 1] - v * tables[INDEX + behind - 1]) / scale;
-            (Place { j, i: behind, m: m - 1 }, Some((score as u32).wrapping_add(BIAS)))
+/// The place's column. Where it begins, none of its rows has been seen.
+#[inline(always)]
+fn entered(words: &mut Words, place: Place) -> Column {
+    if place.row == 0 {
+        words[SEEN] = 0;
+        words[HIGHEST] = NONE;
+    }
+    Column::new(words, place.columns - 1)
+}
+
+/// Passes cells of the place's column, at most so many.
+fn update(words: &mut Words, place: Place, left: usize) -> Passed {
+    let column = entered(words, place);
+    pass_chunks(words, column, place.row, place.row + left.min(place.columns - place.row))
+}
+
+/// Passes one cell.
+fn update_one(words: &mut Words, place: Place, _: usize) -> Passed {
+    let (column, row) = (entered(words, place), place.row);
+    let score = column.pass_cell(words, row);
+    if score >= column.threshold && column.is_reasonable(words, row) {
+        let highest = highest_before(words, row + 1);
+        words[SEEN] = row as u32 + 1;
+        words[HIGHEST] = highest as u32;
+        if score == highest {
+            return column.found(words, row, score);
         }
     }
+    quiet(row + 1)
+}
+
+/// The step of more cells. Kept apart, so that a step of one cell saves few registers.
+#[inline(never)]
+fn walk_on(words: &mut Words, place: Place, budget: u32) -> Stepped {
+    walk(words, place, budget, update)
 }
 
 /// Passes cells until one is final, none remains or the budget is spent.
 pub fn step(work: &mut [u32], budget: u32) -> Stepped {
-    let h = work.get(HITS).map_or(0, |&h| h as usize);
-    step_by(|tables, numbers, place, to| pass(h, tables, numbers, place, to), work, budget)
+    match judged(work) {
+        Err(answer) => answer,
+        Ok((words, place)) if budget == 1 => walk(words, place, 1, update_one),
+        Ok((words, place)) => walk_on(words, place, budget),
+    }
 }

@@ -1,6 +1,5 @@
 //! Strike by an open-addressing table of counts with a multiplicative hash. Each entry's slot is kept, so that the second pass
-//! does not search.
-//! Assumes nothing.
+//! does not search. Codes that come in order need no table.
 
 use super::strike::refusal;
 
@@ -26,11 +25,33 @@ fn count(table: &mut [Slot; SLOTS], code: u32) -> u32 {
     }
 }
 
+/// The same of codes that come in order: those of one code stand side by side.
+fn strike_in_order(codes: &[u32], positions: &[u32], c: usize, out_codes: &mut [u32], out_positions: &mut [u32]) -> i32 {
+    let runs = || codes.chunk_by(u32::eq).map(<[u32]>::len);
+    let rest = runs().filter(|&length| length <= c).sum();
+    if out_codes.len().min(out_positions.len()) < rest {
+        return -4;
+    }
+    let (mut from, mut at) = (0, 0);
+    for length in runs() {
+        if length <= c {
+            out_codes[at..at + length].copy_from_slice(&codes[from..from + length]);
+            out_positions[at..at + length].copy_from_slice(&positions[from..from + length]);
+            at += length;
+        }
+        from += length;
+    }
+    rest as i32
+}
+
 /// Writes the entries that stay and returns their number, or the refusal number negated.
 pub fn strike(codes: &[u32], positions: &[u32], c: u32, out_codes: &mut [u32], out_positions: &mut [u32]) -> i32 {
     let number = refusal(codes, positions, c);
     if number != 0 {
         return -number;
+    }
+    if codes.is_sorted() {
+        return strike_in_order(codes, positions, c as usize, out_codes, out_positions);
     }
     let mut table = [Slot { code: 0, times: 0 }; SLOTS];
     let mut slots = [0u32; 65_535];

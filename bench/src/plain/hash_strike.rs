@@ -1,5 +1,4 @@
 //! Strike as one would write it in Rust at first: a hash map of counts.
-//! Assumes nothing.
 
 use std::collections::HashMap;
 

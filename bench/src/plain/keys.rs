@@ -1,12 +1,11 @@
 //! A k-mer's rank and position in one number, so that the least number is the lowest rank, rightmost among equals.
 //! Assumes codes below 4^15 and positions below 1,048,576.
 
+use super::ranks::{rank, unrank};
+
 /// The rank stands above 20 bits that hold 2^20 − 1 − position.
 const PLACE: u32 = 20;
 const LAST_PLACE: u64 = (1 << PLACE) - 1;
-const RANKS: u32 = (1 << 30) - 1;
-/// 2,654,435,761 · 244,002,641 is 1 mod 2^30, so a rank gives its code back.
-const INVERSE: u32 = 244_002_641;
 /// A key stands as the digits of a float between 1 and 2, since the machine has a least of two floats and none of two such words.
 const ONE: u64 = 0x3ff << 52;
 
@@ -14,13 +13,17 @@ pub type Key = f64;
 
 #[inline(always)]
 pub fn key_of(code: u32, position: usize) -> Key {
-    let rank = u64::from(code.wrapping_mul(2_654_435_761) & RANKS);
-    f64::from_bits(ONE | rank << PLACE | (LAST_PLACE - position as u64))
+    ranked_key(rank(code), position)
+}
+
+#[inline(always)]
+pub fn ranked_key(rank: u32, position: usize) -> Key {
+    f64::from_bits(ONE | u64::from(rank) << PLACE | (LAST_PLACE - position as u64))
 }
 
 #[inline(always)]
 pub fn code_of(key: Key) -> u32 {
-    ((key.to_bits() >> PLACE) as u32).wrapping_mul(INVERSE) & RANKS
+    unrank((key.to_bits() >> PLACE) as u32)
 }
 
 #[inline(always)]

@@ -1,5 +1,4 @@
 //! The value of each byte as a letter.
-//! Assumes nothing.
 
 /// What stands in the table for a byte outside the eight.
 pub const FOREIGN: u8 = 4;

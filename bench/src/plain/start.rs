@@ -1,18 +1,26 @@
-//! Start by the algorithm of the proved function: a sorted copy of p, a search of fixed steps for each text entry, and one pass
-//! over the hits in which the places of a code in the sorted copy are the ring of its last hits.
-//! Assumes nothing.
+//! Start by the algorithm of the proved function: a sorted copy of p, a search for each text entry, and one pass over the hits in
+//! which the places of a code in the sorted copy are the ring of its last hits.
 
+use super::radix::{sort_keys, word_of};
+use super::search::{MAX_PATTERN, lower_bound};
 use super::work::{
-    BACK, BEST, BIAS, COLUMN, FLOOR, HITS, INDEX, MAX_HITS, PASSED, REACH, ROW, SHARED, SIZE, U, V, WHOLE, WORK_WORDS, tables,
+    BACK, BEST, BIAS, COLUMNS, HITS, INDEX, KIND, MAX_HITS, PASSED, REACH, ROW, SHARED, SIZE, THRESHOLD, U, V, WHOLE, WORK_WORDS,
 };
 
-const MAX_PATTERN: usize = 4_096;
-
-/// The hits: their indices in t, and the first place of each one's code in the sorted copy.
+/// The hits, as many as there is room for: their indices in t, and the slot of each, the first place of its code in the sorted copy.
 pub struct Hits {
     pub index: [u32; MAX_HITS],
-    pub place: [u32; MAX_HITS],
+    pub slots: [u32; MAX_HITS],
     pub number: usize,
+}
+
+/// What a session is made of beside its hits.
+#[derive(Clone, Copy)]
+pub struct Settings {
+    pub u: u32,
+    pub v: u32,
+    pub size: usize,
+    pub threshold: i32,
 }
 
 /// The number that refuses these arguments before the hits are known, or 0.
@@ -32,79 +40,75 @@ pub fn refusal(text: &[u32], pattern: &[u32], u: u32, v: u32, work: &[u32]) -> i
     0
 }
 
-/// The first place at which the sorted words are not below the code, by halving steps that do not branch.
-fn search(sorted: &[u32; MAX_PATTERN], code: u32) -> usize {
-    let mut low = 0;
-    let mut step = MAX_PATTERN / 2;
-    while step > 0 {
-        low += if sorted[low + step - 1] < code { step } else { 0 };
-        step /= 2;
+fn sort_words(words: &[u32], sorted: &mut [u32]) {
+    let (mut keys, mut by_word) = ([0; MAX_PATTERN], [0; MAX_PATTERN]);
+    let (keys, by_word) = (&mut keys[..words.len()], &mut by_word[..words.len()]);
+    sort_keys(words, keys, by_word);
+    for (word, &key) in sorted.iter_mut().zip(by_word.iter()) {
+        *word = word_of(key);
     }
-    low
 }
 
-/// All hits are counted; those that fit are kept. Places past the pattern's size hold the greatest word.
-fn hits(text: &[u32], sorted: &[u32; MAX_PATTERN], size: usize) -> Hits {
-    let mut hits = Hits { index: [0; MAX_HITS], place: [0; MAX_HITS], number: 0 };
+/// All hits are counted. An entry that is no hit is noted too, where the next hit then goes.
+fn collect(text: &[u32], sorted: &[u32]) -> Hits {
+    let mut hits = Hits { index: [0; MAX_HITS], slots: [0; MAX_HITS], number: 0 };
     for (index, &code) in text.iter().enumerate() {
-        let place = search(sorted, code);
-        if place < size && sorted[place] == code {
-            if hits.number < MAX_HITS {
-                hits.index[hits.number] = index as u32;
-                hits.place[hits.number] = place as u32;
-            }
-            hits.number += 1;
+        let slot = lower_bound(sorted, code);
+        if hits.number < MAX_HITS {
+            hits.index[hits.number] = index as u32;
+            hits.slots[hits.number] = slot as u32;
         }
+        hits.number += usize::from(sorted.get(slot) == Some(&code));
     }
     hits
 }
 
-/// How often the code of each place occurs in the sorted copy, written at the code's first place.
-fn occurrences(sorted: &[u32]) -> [u32; MAX_PATTERN] {
-    let mut times = [0; MAX_PATTERN];
-    let mut first = 0;
-    for place in 0..sorted.len() {
-        if sorted[place] != sorted[first] {
-            first = place;
-        }
-        times[first] += 1;
+/// Back of each hit. The slots of a code, as many as it occurs in p, are a ring of the last hits with that code, each by its number + 1.
+fn backs(sorted: &[u32], slots: &[u32]) -> [u32; MAX_HITS] {
+    let (mut turns, mut ring) = ([0; MAX_PATTERN], [0; MAX_PATTERN]);
+    let mut backs = [0; MAX_HITS];
+    for (j, &slot) in slots.iter().enumerate() {
+        let slot = slot as usize;
+        let place = slot + turns[slot] as usize;
+        backs[j] = std::mem::replace(&mut ring[place], j as u32 + 1);
+        turns[slot] = if sorted.get(place + 1) == Some(&sorted[slot]) { turns[slot] + 1 } else { 0 };
     }
-    times
+    backs
 }
 
-/// Writes the session of these hits. `times` has how often the code at each first place occurs in p.
-pub fn begin(hits: &Hits, times: &[u32; MAX_PATTERN], size: usize, u: u32, v: u32, threshold: i32, work: &mut [u32]) {
-    let h = hits.number;
-    let tables = tables(work);
-    let mut ring = [0u32; MAX_PATTERN];
-    let mut met = [0u32; MAX_PATTERN];
-    let mut whole = 0;
-    for j in 0..h {
-        let first = hits.place[j] as usize;
-        let slot = &mut ring[first + (met[first] % times[first]) as usize];
-        let full = met[first] >= times[first];
-        if full {
-            tables[REACH + *slot as usize] = j as u32;
+/// Writes the blocks of these hits, and returns m of them all.
+fn put_blocks(index: &[u32], backs: &[u32], work: &mut [u32]) -> u32 {
+    let h = index.len();
+    work[BACK..BACK + h].copy_from_slice(backs);
+    work[INDEX..INDEX + h].copy_from_slice(index);
+    let reach = &mut work[REACH..REACH + h];
+    reach.fill(h as u32);
+    for (j, &back) in backs.iter().enumerate() {
+        if back > 0 {
+            reach[back as usize - 1] = j as u32;
         }
-        tables[BACK + j] = if full { *slot + 1 } else { 0 };
-        whole += u32::from(!full);
-        tables[WHOLE + j] = whole;
-        tables[REACH + j] = h as u32;
-        tables[INDEX + j] = hits.index[j];
-        tables[BEST + j] = 0;
-        *slot = j as u32;
-        met[first] += 1;
     }
+    work[BEST..BEST + h].fill(0);
+    let mut m = 0;
+    for (whole, &back) in work[WHOLE..WHOLE + h].iter_mut().zip(backs) {
+        m += u32::from(back == 0);
+        *whole = m;
+    }
+    m
+}
+
+/// Writes the single words of a fresh session.
+pub fn put_heading(work: &mut [u32], h: usize, settings: Settings, shared: u32) {
     work[HITS] = h as u32;
-    work[U] = u;
-    work[V] = v;
+    work[U] = settings.u;
+    work[V] = settings.v;
     work[PASSED] = 0;
-    work[4] = 0;
-    work[COLUMN] = (h as u32).saturating_sub(1);
+    work[KIND] = 0;
+    work[SIZE] = settings.size as u32;
+    work[THRESHOLD] = (settings.threshold as u32).wrapping_add(BIAS);
+    work[COLUMNS] = h as u32;
     work[ROW] = 0;
-    work[SHARED] = whole;
-    work[SIZE] = size as u32;
-    work[FLOOR] = (threshold as u32).wrapping_add(BIAS);
+    work[SHARED] = shared;
 }
 
 /// Answers h, or the refusal number negated.
@@ -113,14 +117,16 @@ pub fn start(text: &[u32], pattern: &[u32], u: u32, v: u32, threshold: i32, work
     if number != 0 {
         return -number;
     }
-    let mut sorted = [u32::MAX; MAX_PATTERN];
-    let size = pattern.len();
-    sorted[..size].copy_from_slice(pattern);
-    sorted[..size].sort_unstable();
-    let hits = hits(text, &sorted, size);
-    if hits.number > MAX_HITS {
+    let mut sorted = [0; MAX_PATTERN];
+    let sorted = &mut sorted[..pattern.len()];
+    sort_words(pattern, sorted);
+    let hits = collect(text, sorted);
+    let h = hits.number;
+    if h > MAX_HITS {
         return -11;
     }
-    begin(&hits, &occurrences(&sorted[..size]), size, u, v, threshold, work);
-    hits.number as i32
+    let backs = backs(sorted, &hits.slots[..h]);
+    let shared = put_blocks(&hits.index[..h], &backs[..h], work);
+    put_heading(work, h, Settings { u, v, size: pattern.len(), threshold }, shared);
+    h as i32
 }

@@ -1,17 +1,16 @@
-//! Strike by the algorithm of the proved function: a radix sort of keys code·65,536 + index, then runs of equal codes.
-//! Assumes nothing.
+//! Strike by the algorithm of the proved function: the keys of the codes are sorted, unless the codes come in order, each entry is
+//! marked by the length of its code's run, and the marked entries are copied without a branch.
 
-const DIGIT: u32 = 11;
-const DIGITS: usize = 1 << DIGIT;
-/// The index has the lowest 16 bits of a key, and the code those above.
-const CODE_AT: u32 = 16;
+use super::radix::{fill_keys, index_of, sort_keys, word_of};
+
+const MAX_TEXT: usize = 65_535;
 
 /// The number that refuses these arguments, or 0.
 pub fn refusal(codes: &[u32], positions: &[u32], c: u32) -> i32 {
     if codes.len() != positions.len() {
         return 5;
     }
-    if codes.len() > 65_535 {
+    if codes.len() > MAX_TEXT {
         return 8;
     }
     if !(1..=65_535).contains(&c) {
@@ -20,65 +19,37 @@ pub fn refusal(codes: &[u32], positions: &[u32], c: u32) -> i32 {
     0
 }
 
-/// Sorts the keys by one digit of the code, `from` into `to`, and keeps the order of equal digits.
-fn sort_by_digit(from: &[u64], to: &mut [u64], shift: u32) {
-    let mut starts = [0; DIGITS];
-    let digit = |key: u64| (key >> shift) as usize % DIGITS;
-    for &key in from {
-        starts[digit(key)] += 1;
-    }
-    let mut sum = 0;
-    for start in &mut starts {
-        sum += std::mem::replace(start, sum);
-    }
-    for &key in from {
-        let at = &mut starts[digit(key)];
-        to[*at] = key;
-        *at += 1;
+/// Marks the entries of these sorted keys by 1 where their code occurs at most c times, else by 0.
+fn mark_runs(keys: &[u64], c: u32, marks: &mut [u8]) {
+    for run in keys.chunk_by(|&a, &b| word_of(a) == word_of(b)) {
+        let mark = u8::from(run.len() <= c as usize);
+        for &key in run {
+            marks[index_of(key)] = mark;
+        }
     }
 }
 
-/// The keys in order: three digits of 11 bits make up a code's 32 bits.
-fn sort(keys: &mut [u64], spare: &mut [u64]) {
-    if keys.is_sorted() {
+/// Marks the entries whose code occurs at most c times. Codes that come in order, as equal ones do, need no sort.
+fn mark_rare(codes: &[u32], c: u32, marks: &mut [u8]) {
+    let n = codes.len();
+    let mut keys = [0; MAX_TEXT];
+    if codes.is_sorted() {
+        fill_keys(codes, &mut keys[..n]);
+        mark_runs(&keys[..n], c, marks);
         return;
     }
-    sort_by_digit(keys, spare, CODE_AT);
-    sort_by_digit(spare, keys, CODE_AT + DIGIT);
-    sort_by_digit(keys, spare, CODE_AT + 2 * DIGIT);
-    keys.copy_from_slice(spare);
+    let mut sorted = [0; MAX_TEXT];
+    sort_keys(codes, &mut keys[..n], &mut sorted[..n]);
+    mark_runs(&sorted[..n], c, marks);
 }
 
-/// Marks the entries whose code occurs at most c times, and returns their number.
-fn mark(keys: &[u64], c: usize, kept: &mut [bool]) -> usize {
-    let mut number = 0;
-    let mut start = 0;
-    while start < keys.len() {
-        let code = keys[start] >> CODE_AT;
-        let mut end = start + 1;
-        while end < keys.len() && keys[end] >> CODE_AT == code {
-            end += 1;
-        }
-        if end - start <= c {
-            number += end - start;
-            for key in &keys[start..end] {
-                kept[(key % (1 << CODE_AT)) as usize] = true;
-            }
-        }
-        start = end;
-    }
-    number
-}
-
-/// Writes the marked entries in their order.
-pub fn write_kept(codes: &[u32], positions: &[u32], kept: &[bool], out_codes: &mut [u32], out_positions: &mut [u32]) {
-    let mut at = 0;
-    for index in 0..codes.len() {
-        if kept[index] {
-            out_codes[at] = codes[index];
-            out_positions[at] = positions[index];
-            at += 1;
-        }
+/// Copies the n marked words to the start of `out`. A word that is not marked is written too, where the next marked one then goes.
+fn copy_marked(words: &[u32], marks: &[u8], n: usize, out: &mut [u32]) {
+    let (mut index, mut at) = (0, 0);
+    while at < n {
+        out[at] = words[index];
+        at += usize::from(marks[index]);
+        index += 1;
     }
 }
 
@@ -88,16 +59,14 @@ pub fn strike(codes: &[u32], positions: &[u32], c: u32, out_codes: &mut [u32], o
     if number != 0 {
         return -number;
     }
-    let n = codes.len();
-    let (mut keys, mut spare, mut kept) = ([0u64; 65_535], [0u64; 65_535], [false; 65_535]);
-    for (index, &code) in codes.iter().enumerate() {
-        keys[index] = u64::from(code) << CODE_AT | index as u64;
-    }
-    sort(&mut keys[..n], &mut spare[..n]);
-    let rest = mark(&keys[..n], c as usize, &mut kept);
+    let mut marks = [0; MAX_TEXT];
+    let marks = &mut marks[..codes.len()];
+    mark_rare(codes, c, marks);
+    let rest = marks.iter().map(|&mark| usize::from(mark)).sum();
     if out_codes.len().min(out_positions.len()) < rest {
         return -4;
     }
-    write_kept(codes, positions, &kept, out_codes, out_positions);
+    copy_marked(codes, marks, rest, out_codes);
+    copy_marked(positions, marks, rest, out_positions);
     rest as i32
 }

@@ -1,5 +1,4 @@
-//! The work words of the plain session: which word holds what.
-//! Assumes nothing.
+//! The work words as docs/WORK_WORDS.md lays them out: which word holds what.
 
 pub const WORK_WORDS: usize = 16_384;
 pub const MAX_HITS: usize = 2_048;
@@ -8,32 +7,40 @@ pub const HITS: usize = 0;
 pub const U: usize = 1;
 pub const V: usize = 2;
 pub const PASSED: usize = 3;
-/// The column and the row of the next cell, and its m.
-pub const COLUMN: usize = 5;
-pub const ROW: usize = 6;
-pub const SHARED: usize = 7;
+pub const KIND: usize = 4;
 /// |p|, and the threshold with the bias.
-pub const SIZE: usize = 8;
-pub const FLOOR: usize = 9;
-/// Six tables with a word for each hit, one after the other from this word on.
-pub const TABLES: usize = 16;
+pub const SIZE: usize = 5;
+pub const THRESHOLD: usize = 6;
+/// The columns left, and the row and the m of the next cell.
+pub const COLUMNS: usize = 7;
+pub const ROW: usize = 8;
+pub const SHARED: usize = 9;
 
-/// Where each table begins in the block of them: best, reach, back, whole, the hit's index in t, and the lifted scores, which
-/// only the fastest session has.
-pub const BEST: usize = 0;
-pub const REACH: usize = MAX_HITS;
-pub const BACK: usize = 2 * MAX_HITS;
-pub const WHOLE: usize = 3 * MAX_HITS;
-pub const INDEX: usize = 4 * MAX_HITS;
-pub const LIFTED: usize = 5 * MAX_HITS;
-
-/// The block of the tables.
-pub type Tables = [u32; 6 * MAX_HITS];
+/// Blocks with a word for each hit.
+pub const BACK: usize = 2_048;
+pub const INDEX: usize = 4_096;
+pub const REACH: usize = 6_144;
+pub const BEST: usize = 8_192;
+pub const WHOLE: usize = 10_240;
 
 /// Scores are kept with this bias, so that unsigned numbers are in their order.
 pub const BIAS: u32 = 1 << 31;
 
-/// The tables in the work words, of which there are at least 16,384.
-pub fn tables(work: &mut [u32]) -> &mut Tables {
-    work[TABLES..].first_chunk_mut().expect("six tables fit")
+/// The words of a session.
+pub type Words = [u32; WORK_WORDS];
+
+/// A block.
+pub type Block = [u32; MAX_HITS];
+
+/// The blocks that a column's update is lent.
+pub struct Part<'a> {
+    pub index: &'a Block,
+    pub reach: &'a Block,
+    pub best: &'a mut Block,
+}
+
+pub fn part(words: &mut Words) -> Part<'_> {
+    let (index, behind) = words[INDEX..].split_first_chunk_mut().expect("a block");
+    let (reach, behind) = behind.split_first_chunk_mut().expect("a block");
+    Part { index, reach, best: behind.first_chunk_mut().expect("a block") }
 }

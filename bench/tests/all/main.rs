@@ -1,5 +1,4 @@
 //! Plain functions and the proved ones beside the reference.
-//! Assumes nothing.
 
 use std::thread;
 

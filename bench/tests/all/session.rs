@@ -1,24 +1,47 @@
-//! Start and step beside the reference's rule.
-//! Assumes nothing.
+//! Start and step beside the reference's rule, and their work words beside the reference's.
 
 use bench::ours;
 use bench::plain::work::WORK_WORDS;
-use bench::plain::{fastest_start, fastest_step, start, step};
-use bench::signatures::{Start, Step as StepOf};
+use bench::plain::{fastest_start, fastest_step, fastest_work, start, step};
+use bench::runs::as_they_are;
+use bench::signatures::{Shared, Start, Step as StepOf};
+use bench::steps::Layout;
 use host::calls::{self, Stepped};
 use host::random::Random;
 use host::reference::definition1::Mapping;
 use host::reference::score::Task;
 use host::reference::start::start_call;
 use host::reference::steps::{self, Step, answers};
+use host::reference::work_words::WorkWords;
 
 use crate::on_usual_stack;
 
-const SESSIONS: [(&str, Start, StepOf); 3] = [
-    ("the same algorithm", start::start, step::step),
-    ("the fastest", fastest_start::start, fastest_step::step),
-    ("the proved one", ours::start, calls::step),
-];
+/// A session's functions, what brings its words behind start into the layout of docs/WORK_WORDS.md, and how they lie behind steps.
+struct Tested {
+    name: &'static str,
+    start: Start,
+    step: StepOf,
+    shared: Shared,
+    layout: Layout,
+}
+
+fn sessions() -> [Tested; 3] {
+    let same = |name, start: Start, step: StepOf| Tested { name, start, step, shared: as_they_are, layout: Layout::Shared };
+    let (start, step) = (fastest_start::start, fastest_step::step);
+    [
+        same("the same algorithm", start::start, step::step),
+        Tested { name: "the fastest", start, step, shared: fastest_work::shared_after_start, layout: Layout::Fastest },
+        same("the proved one", ours::start, calls::step),
+    ]
+}
+
+/// The words that lie as docs/WORK_WORDS.md says behind steps.
+fn laid_out_alike(work: &[u32], layout: Layout) -> Vec<u32> {
+    match layout {
+        Layout::Shared => work[..WORK_WORDS].to_vec(),
+        Layout::Fastest => fastest_work::AGREED.into_iter().flat_map(|agreed| work[agreed].to_vec()).collect(),
+    }
+}
 
 fn task(random: &mut Random) -> Task {
     let kinds = random.one_of(&[2, 4, 10, 60]);
@@ -71,9 +94,13 @@ fn lists_of_steps() {
             let (task, list) = (task(&mut random), list(&mut random));
             let h = start_call(&task, WORK_WORDS).expect("a task that start accepts");
             let (expected, q) = answers(&task, &list);
-            for (name, start, step) in SESSIONS {
-                let mut work = vec![0xaaaa_aaaa; WORK_WORDS + 1];
+            let before = vec![0xaaaa_aaaa; WORK_WORDS + 1];
+            let mut words = WorkWords::new(&task, &before);
+            let (fresh, after) = (words.after(0).to_vec(), words.after(q).to_vec());
+            for Tested { name, start, step, shared, layout } in sessions() {
+                let mut work = before.clone();
                 assert_eq!(start(&task.text, &task.pattern, task.u, task.v, task.threshold, &mut work), h as i32);
+                assert_eq!(shared(&work, &before)[..WORK_WORDS], fresh[..WORK_WORDS], "{name}, seed {seed}: {task:?}");
                 // a session that is copied halfway goes on from there
                 let half = list.len() / 2;
                 let mut answers = given(step, &mut work, &list[..half]);
@@ -81,7 +108,7 @@ fn lists_of_steps() {
                 answers.extend(given(step, &mut work, &list[half..]));
                 assert_eq!(answers, expected, "{name}, seed {seed}: {task:?}");
                 assert_eq!(given(step, &mut copy, &list[half..]), expected[half..], "{name}, seed {seed}: {task:?}");
-                assert_eq!(work[..4], [h as u32, task.u, task.v, q as u32], "{name}, seed {seed}");
+                assert_eq!(laid_out_alike(&work, layout), laid_out_alike(&after, layout), "{name}, seed {seed}: {task:?}");
                 assert_eq!(work[WORK_WORDS], 0xaaaa_aaaa);
             }
         }
@@ -105,7 +132,7 @@ fn refusals_of_start() {
         for (text, pattern, u, v, lent) in cases {
             let task = Task { text: long[..text].to_vec(), pattern: long[..pattern].to_vec(), u, v, threshold: 0 };
             let number = start_call(&task, lent).expect_err("a refusal").number as i32;
-            for (name, start, _) in SESSIONS {
+            for Tested { name, start, .. } in sessions() {
                 let mut work = vec![5; lent];
                 assert_eq!(start(&task.text, &task.pattern, u, v, 0, &mut work), -number, "{name}");
                 assert!(work.iter().all(|&word| word == 5), "{name}");
@@ -122,7 +149,7 @@ fn refusals_of_step() {
             let mut work = vec![0; WORK_WORDS];
             work[..4].copy_from_slice(&words);
             let before = work.clone();
-            for (name, _, step) in SESSIONS {
+            for Tested { name, step, .. } in sessions() {
                 assert_eq!(step(&mut work, 1), Stepped::Refused(15), "{name}");
                 assert_eq!(step(&mut work[..WORK_WORDS - 1], 1), Stepped::Refused(10), "{name}");
                 assert_eq!(work, before, "{name}");

@@ -1,5 +1,4 @@
 //! Sketch and count beside the reference.
-//! Assumes nothing.
 
 use bench::ours::{self, COUNT};
 use bench::plain::{fastest_sketch, sketch};

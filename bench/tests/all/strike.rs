@@ -1,5 +1,4 @@
 //! Strike beside the reference.
-//! Assumes nothing.
 
 use bench::ours;
 use bench::plain::{fastest_strike, hash_strike, strike};
@@ -49,7 +48,10 @@ fn strikes() {
             let kinds = random.one_of(&[1, 3, 20, 400, 1 << 32]);
             let n = random.one_of(&[3, 50, 1000, 1000, 1000]);
             let n = random.below(n);
-            let text: Vec<u32> = (0..n).map(|_| (random.below(kinds) as u32).wrapping_mul(0x9e37_79b1)).collect();
+            let mut text: Vec<u32> = (0..n).map(|_| (random.below(kinds) as u32).wrapping_mul(0x9e37_79b1)).collect();
+            if random.once_in(4) {
+                text.sort_unstable();
+            }
             let places: Vec<u32> = (0..n).map(|_| random.word() as u32).collect();
             let c = random.one_of(&[1, 2, 3, 50, 65_535]);
             for room in [n, n + 1, n / 2] {

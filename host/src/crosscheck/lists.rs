@@ -1,6 +1,6 @@
 //! Tasks from letters to the list: sketch of text and read, strike, start and steps, beside all intervals of Definition 1.
-//! Assumes nothing.
 
+use super::numbers::Least;
 use super::tally::{Met, Tally};
 use super::tasks::{hold_task, threshold, weights};
 use crate::calls;
@@ -13,6 +13,10 @@ use crate::reference::sketch::{Entry, codes, positions, sketch_call};
 use crate::reference::strike::strike_call;
 
 const CASES: u64 = 20_000;
+const LEAST: Least = Least { lists: 18_000, medium: 7_300, mappings: 75_000 };
+
+/// The fewest and the most entries that a random text is to have, and the most of its read. Half of the texts are to have 9 to 24.
+const LENGTHS: [(usize, usize, usize); 4] = [(0, 8, 5), (9, 24, 8), (9, 24, 16), (25, 50, 20)];
 
 /// What a task is made of, before its sketches.
 struct Made {
@@ -24,19 +28,30 @@ struct Made {
     weights: (u32, u32),
 }
 
+/// Text and read, random or a cluster, with about so many letters that they have the entries wanted.
+fn letters_for(random: &mut Random, k: u32, w: u32) -> (Vec<u8>, Vec<u8>) {
+    let (k, w) = (k.clamp(1, 15) as usize, w.clamp(1, 64) as usize);
+    if random.once_in(2) {
+        return cluster(random, 20 * (w + 1));
+    }
+    // about two k-mers of w + 1 are picked
+    let wanted = |entries: usize| entries * (w + 1) / 2 + k - 1;
+    let alphabet = random.one_of(&[b"A".as_slice(), b"AC", b"AC", b"ACG", b"ACGT", b"ACacN", b"ACGTacgtN"]);
+    let (fewest, most, most_of_read) = random.one_of(&LENGTHS);
+    let (text, read) = (wanted(random.between(fewest, most)), wanted(random.between(1, most_of_read)));
+    (letters(random, text, alphabet), letters(random, read, alphabet))
+}
+
 /// Few letters and small k make few codes and many repeats.
 fn made(random: &mut Random) -> Made {
-    let (text, read) = if random.once_in(2) {
-        let alphabet = random.one_of(&[b"A".as_slice(), b"AC", b"AC", b"ACG", b"ACGT", b"ACacN", b"ACGTacgtN"]);
-        let (longest_text, longest_read) = random.one_of(&[(12, 6), (30, 12), (60, 30)]);
-        let (text, read) = (random.below(longest_text + 1), random.below(longest_read + 1));
-        (letters(random, text, alphabet), letters(random, read, alphabet))
-    } else {
-        cluster(random, 60)
+    let k = if random.once_in(10) { random.between(0, 16) } else { random.between(1, 3) } as u32;
+    let w = if random.once_in(10) { random.between(0, 65) } else { random.between(1, 4) } as u32;
+    let c = match random.below(20) {
+        0 => random.one_of(&[0, 65_536]),
+        1..6 => random.between(1, 12) as u32,
+        _ => random.one_of(&[100, 65_535]),
     };
-    let k = if random.once_in(6) { random.between(0, 16) } else { random.between(1, 3) } as u32;
-    let w = if random.once_in(6) { random.between(0, 65) } else { random.between(1, 4) } as u32;
-    let c = random.one_of(&[0, 1, 2, 3, 5, 100, 65_535, 65_536, 100, 100]);
+    let (text, read) = letters_for(random, k, w);
     Made { text, read, k, w, c, weights: weights(random) }
 }
 
@@ -80,7 +95,7 @@ fn proved_strike((codes, positions): &Sketch, c: u32) -> Held<Sketch> {
 /// The codes of the struck text and of the read, by the proved functions, each held to the reference; none where a call is refused.
 fn proved_codes(made: &Made, met: &mut Met) -> Result<Option<Codes>, Difference> {
     let mut accepted = |call: &'static str, held: Held<Sketch>| -> Result<Option<Sketch>, Difference> {
-        Ok(held?.map_err(|refusal| met.refusal(call, refusal)).ok())
+        Ok(held?.map_err(|refusal| met.no_list(call, refusal)).ok())
     };
     let Some(text) = accepted("sketch", proved_sketch(&made.text, made.k, made.w))? else { return Ok(None) };
     let Some(read) = accepted("sketch", proved_sketch(&made.read, made.k, made.w))? else { return Ok(None) };
@@ -103,5 +118,5 @@ pub fn random(tally: &mut Tally) {
     for seed in 0..CASES {
         tally.compare(|| format!("seed {seed}"), |met| hold(&mut Random::new(seed), met));
     }
-    tally.end_part("lists from letters, by sketch, strike, start and step");
+    tally.end_lists("lists from letters, by sketch, strike, start and step", &LEAST);
 }

@@ -3,7 +3,9 @@
 
 mod codes;
 mod lists;
+mod numbers;
 mod per_mille;
+mod refusals;
 mod session_limits;
 mod session_refusals;
 mod sketches;
@@ -15,9 +17,10 @@ mod tasks;
 
 use tally::Tally;
 
-/// Runs all parts and prints what was compared. Whether nothing differs and the whole table of refusals was met.
+/// Runs all parts and prints what was compared. Whether nothing differs, every part compared what it must, and the whole table of
+/// refusals was met.
 pub fn run() -> bool {
-    let mut tally = Tally::new();
+    let mut tally = Tally::default();
     println!("Random cases, small, each beside the brute force");
     lists::random(&mut tally);
     codes::random(&mut tally);

@@ -1,5 +1,4 @@
 //! Per mille: random numbers, and each condition of its refusal.
-//! Assumes nothing.
 
 use super::tally::Tally;
 use crate::held::{Held, agree};

@@ -1,6 +1,6 @@
 //! Sessions with 2,048 hits in 65,535 text entries and 4,096 pattern entries, beside the form of Definition 1 over hits.
-//! Assumes nothing.
 
+use super::numbers::Least;
 use super::stepping::hold_list;
 use super::tally::{Met, Tally};
 use crate::held::session::start;
@@ -8,7 +8,8 @@ use crate::held::{Difference, agree};
 use crate::random::Random;
 use crate::reference::by_hits::finals_by_hits;
 use crate::reference::cells::{cell_count, hits};
-use crate::reference::definition1::finals;
+use crate::reference::faster::finals;
+use crate::reference::list::Form;
 use crate::reference::score::Task;
 use crate::reference::start::{MAX_HITS, MAX_PATTERN, WORK_WORDS};
 use crate::reference::strike::MAX_TEXT;
@@ -16,6 +17,8 @@ use crate::reference::strike::MAX_TEXT;
 /// Weights and thresholds: both ends of the 32 bits, and some between.
 const SETTINGS: [((u32, u32), i32); 5] =
     [((1_000, 1_000), i32::MIN), ((1_000, 1_000), i32::MAX), ((1_000, 1), -30_000), ((1, 1_000), -4_100_000), ((1, 1), -4_000)];
+
+const LEAST: Least = Least { lists: 30, medium: 0, mappings: 4_287_000 };
 
 /// Where the hits of a text stand.
 #[derive(Clone, Copy, Debug)]
@@ -70,7 +73,9 @@ fn hold(random: &mut Random, task: &Task, met: &mut Met) -> Result<(), Differenc
     let finals = finals_by_hits(task);
     let session = start(random, task, WORK_WORDS, |_| finals.clone())?.map_err(|refusal| format!("refused: {refusal:?}"))?;
     agree("h", hits(task).len(), MAX_HITS)?;
-    hold_list(random, session, cell_count(MAX_HITS), WORK_WORDS, &finals, met)
+    hold_list(random, session, cell_count(MAX_HITS), WORK_WORDS, &finals, met)?;
+    met.list(Form::Faster, task.text.len(), finals.len());
+    Ok(())
 }
 
 /// Asks that the form over hits lists what all intervals of a long text give.
@@ -101,5 +106,5 @@ pub fn limits(tally: &mut Tally) {
             tally.compare(case, |met| hold(&mut random, &task, met));
         }
     }
-    tally.end_part("sessions: h 2,048, 65,535 and 4,096 entries, weights 1,000, thresholds at both ends of 32 bits");
+    tally.end_lists("sessions: h 2,048, 65,535 and 4,096 entries, weights 1,000, thresholds at both ends of 32 bits", &LEAST);
 }

@@ -1,5 +1,4 @@
 //! What start and step refuse, at the limits of weights, entries, words and hits; and words that no start made.
-//! Assumes nothing.
 
 use super::tally::Tally;
 use crate::exported::{self, StepWords};

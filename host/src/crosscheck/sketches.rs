@@ -1,5 +1,4 @@
 //! Sketch and count: random letters with every k and w, and the limits of k, w, letters and buffers.
-//! Assumes nothing.
 
 use super::tally::Tally;
 use crate::cases::letters;

@@ -1,5 +1,4 @@
 //! Passing all cells of a session by random steps, refused ones between, and the list that they hand out.
-//! Assumes nothing.
 
 use super::tally::Met;
 use crate::held::session::Session;
@@ -71,7 +70,6 @@ pub fn hold_list(
     }
     finish(&mut session, lent, &mut found, met)?;
     agree("the list", found.as_slice(), finals)?;
-    met.list(found.len());
     agree("cells passed", session.passed(), cells)?;
     finish(&mut copy, lent, &mut found_by_copy, met)?;
     agree("the list of a copy", found_by_copy.as_slice(), finals)

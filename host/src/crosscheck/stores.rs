@@ -1,5 +1,4 @@
 //! Save and load: random sketches, damaged stores, and the limits of k, w, codes, positions and buffers.
-//! Assumes nothing.
 
 use super::tally::Tally;
 use crate::cases::letters;

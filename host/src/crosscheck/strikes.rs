@@ -1,5 +1,4 @@
 //! Strike: random words, and the limits of c, entries and buffers.
-//! Assumes nothing.
 
 use super::tally::Tally;
 use crate::held::strike::strike;
@@ -15,7 +14,10 @@ pub fn random(tally: &mut Tally) {
         let longest = random.one_of(&[5, 40, 600]);
         let n = random.below(longest);
         let mask = random.word() as u32;
-        let codes: Vec<u32> = (0..n).map(|_| (random.below(kinds) as u32).wrapping_mul(0x9e37_79b1) ^ mask).collect();
+        let mut codes: Vec<u32> = (0..n).map(|_| (random.below(kinds) as u32).wrapping_mul(0x9e37_79b1) ^ mask).collect();
+        if random.once_in(4) {
+            codes.sort_unstable();
+        }
         let mut positions: Vec<u32> = (0..n).map(|_| random.word() as u32).collect();
         if random.once_in(20) {
             positions.push(7);
@@ -25,7 +27,7 @@ pub fn random(tally: &mut Tally) {
         let rooms = if random.once_in(3) { rooms } else { (n, n) };
         tally.call("strike", || format!("seed {seed}"), strike(&mut random, &codes, &positions, c, rooms));
     }
-    tally.end_part("strikes of random words");
+    tally.end_part("strikes of random words, some of them in order");
 }
 
 /// How many entries stay with limit c.

@@ -1,49 +1,36 @@
-//! What was compared, what differs, and which refusals were met.
-//! Assumes nothing.
+//! What was compared and what differs, part by part and in sum.
 
-use std::collections::BTreeMap;
-
+use super::numbers::{Least, Numbers};
+use super::refusals::Refusals;
 use crate::held::{Difference, Held};
+use crate::reference::list::Form;
 use crate::reference::refusal::Refusal;
 
 /// How many differences of a part are printed in words.
 const SHOWN: usize = 5;
 
-/// Document 01's table of refusals: each number, and the calls that return it, by name.
-const REFUSALS: [(u32, &[&str]); 16] = [
-    (1, &["count", "save", "sketch"]),
-    (2, &["count", "save", "sketch"]),
-    (3, &["count", "sketch"]),
-    (4, &["load", "save", "sketch", "strike"]),
-    (5, &["save", "strike"]),
-    (6, &["strike"]),
-    (7, &["start"]),
-    (8, &["start", "strike"]),
-    (9, &["start"]),
-    (10, &["start", "step"]),
-    (11, &["start"]),
-    (12, &["load"]),
-    (13, &["load"]),
-    (14, &["load"]),
-    (15, &["step"]),
-    (16, &["per mille"]),
-];
-
-/// What has been met: for each refusal number, how often by which call; and how many mappings were listed in the part in hand.
+/// What has been met: the numbers of the part in hand, and the refusals of all parts.
 #[derive(Default)]
 pub struct Met {
-    numbers: BTreeMap<u32, BTreeMap<&'static str, usize>>,
-    mappings: usize,
+    part: Numbers,
+    refusals: Refusals,
 }
 
 impl Met {
     pub fn refusal(&mut self, call: &'static str, refusal: Refusal) {
-        *self.numbers.entry(refusal.number).or_default().entry(call).or_default() += 1;
+        self.part.refusals += 1;
+        self.refusals.meet(call, refusal.number);
     }
 
-    /// Takes note of a list with this many mappings.
-    pub fn list(&mut self, mappings: usize) {
-        self.mappings += mappings;
+    /// Takes note of a case that is refused before a list is made.
+    pub fn no_list(&mut self, call: &'static str, refusal: Refusal) {
+        self.part.listless += 1;
+        self.refusal(call, refusal);
+    }
+
+    /// Takes note of a list that was compared as a whole, of a text of so many entries and with so many mappings.
+    pub fn list(&mut self, form: Form, entries: usize, mappings: usize) {
+        self.part.list(form, entries, mappings);
     }
 
     /// Takes note of what a call answered.
@@ -54,25 +41,21 @@ impl Met {
     }
 }
 
+#[derive(Default)]
 pub struct Tally {
     met: Met,
-    compared: usize,
-    differ: usize,
-    part_compared: usize,
-    part_differ: usize,
+    sum: Numbers,
+    /// the least numbers that parts have missed, in words
+    missed: Vec<String>,
 }
 
 impl Tally {
-    pub fn new() -> Tally {
-        Tally { met: Met::default(), compared: 0, differ: 0, part_compared: 0, part_differ: 0 }
-    }
-
     /// Compares one case of the part in hand. `case` names it where it differs.
     pub fn compare(&mut self, case: impl Fn() -> String, run: impl FnOnce(&mut Met) -> Result<(), Difference>) {
-        self.part_compared += 1;
+        self.met.part.cases += 1;
         if let Err(difference) = run(&mut self.met) {
-            self.part_differ += 1;
-            if self.part_differ <= SHOWN {
+            self.met.part.differ += 1;
+            if self.met.part.differ <= SHOWN {
                 println!("  DIFFERS, {}: {difference}", case());
             }
         }
@@ -83,34 +66,30 @@ impl Tally {
         self.compare(case, |met| held.map(|answered| met.answer(call, answered)));
     }
 
-    /// Ends the part in hand and prints its line.
+    /// Ends the part in hand and prints its numbers.
     pub fn end_part(&mut self, name: &str) {
-        let mappings = std::mem::take(&mut self.met.mappings);
-        let listed = if mappings > 0 { format!(", {mappings} mappings listed") } else { String::new() };
-        println!("  {name}: {} compared, {} differ{listed}", self.part_compared, self.part_differ);
-        self.compared += self.part_compared;
-        self.differ += self.part_differ;
-        (self.part_compared, self.part_differ) = (0, 0);
+        let part = std::mem::take(&mut self.met.part);
+        println!("  {name}: {part}");
+        self.sum += part;
     }
 
-    /// Prints the refusals met. Whether each number of the table was met by exactly the calls that return it.
-    fn print_refusals(&self) -> bool {
-        println!("\nRefusal numbers met, each with its second value where it has one");
-        for (number, calls) in &self.met.numbers {
-            let calls: Vec<String> = calls.iter().map(|(call, times)| format!("{call} {times}")).collect();
-            println!("  {number}: {}", calls.join(", "));
+    /// Ends a part that makes lists, and asks for the least that it must compare.
+    pub fn end_lists(&mut self, name: &str, least: &Least) {
+        for missed in self.met.part.missed(least) {
+            self.missed.push(format!("{name}: {missed}"));
         }
-        let met: Vec<(u32, Vec<&str>)> =
-            self.met.numbers.iter().map(|(&number, calls)| (number, calls.keys().copied().collect())).collect();
-        let all = met.iter().map(|(number, calls)| (*number, calls.as_slice())).eq(REFUSALS);
-        println!("  {}", if all { "all of document 01's table, by each call" } else { "NOT THE WHOLE TABLE" });
-        all
+        self.end_part(name);
     }
 
-    /// Prints the refusals met and the sums. Whether nothing differs and the whole table of refusals was met.
+    /// Prints the refusals met, the least numbers missed and the sums. Whether nothing differs, no least number is missed and the
+    /// whole table of refusals was met.
     pub fn print_end(&self) -> bool {
-        let all = self.print_refusals();
-        println!("\n{} compared, {} differ", self.compared, self.differ);
-        all && self.differ == 0
+        let all = self.met.refusals.print();
+        println!();
+        for missed in &self.missed {
+            println!("TOO FEW, {missed}");
+        }
+        println!("In sum: {}", self.sum);
+        all && self.missed.is_empty() && self.sum.differ == 0
     }
 }

@@ -1,5 +1,4 @@
 //! What lists from letters and lists from words share: weights, thresholds, and the comparison of a whole list.
-//! Assumes nothing.
 
 use super::stepping::hold_list;
 use super::tally::Met;
@@ -7,17 +6,10 @@ use crate::held::Difference;
 use crate::held::session::start;
 use crate::random::Random;
 use crate::reference::cells::{cell_count, hits};
-use crate::reference::definition1::{Mapping, finals, finals_by_words};
+use crate::reference::faster::finals;
+use crate::reference::list::{form_of, list_of};
 use crate::reference::score::Task;
 use crate::reference::start::WORK_WORDS;
-
-/// Texts up to this many entries are listed by the definition's words, and longer ones by its fast form.
-const BY_WORDS: usize = 8;
-
-/// The final intervals, all intervals looked at.
-fn all_intervals(task: &Task) -> Vec<Mapping> {
-    if task.text.len() <= BY_WORDS { finals_by_words(task) } else { finals(task) }
-}
 
 /// Weights of any size, mostly small ones.
 pub fn weights(random: &mut Random) -> (u32, u32) {
@@ -41,15 +33,16 @@ pub fn threshold(random: &mut Random, task: &Task) -> i32 {
     }
 }
 
-/// Lists a task by start and steps, beside its final intervals.
+/// Lists a task by start and steps, beside its final intervals. A task that start refuses makes no list.
 pub fn hold_task(random: &mut Random, task: &Task, met: &mut Met) -> Result<(), Difference> {
     let lent = WORK_WORDS + random.one_of(&[0, 1, 100]);
-    let expected = all_intervals(task);
+    let expected = list_of(task);
     match start(random, task, lent, |_| expected.clone())? {
-        Ok(session) => hold_list(random, session, cell_count(hits(task).len()), lent, &expected, met),
-        Err(refusal) => {
-            met.refusal("start", refusal);
-            Ok(())
+        Ok(session) => {
+            hold_list(random, session, cell_count(hits(task).len()), lent, &expected, met)?;
+            met.list(form_of(task), task.text.len(), expected.len());
         }
+        Err(refusal) => met.no_list("start", refusal),
     }
+    Ok(())
 }

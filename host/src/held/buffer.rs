@@ -1,5 +1,4 @@
 //! A buffer of 32-bit words that is lent to a call: it knows what it held before, and has some words behind the part that is lent.
-//! Assumes nothing.
 
 use super::Difference;
 use crate::random::Random;

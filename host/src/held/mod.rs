@@ -1,6 +1,5 @@
 //! The proved calls beside the reference: each is made with buffers of known content, and its answer and every word afterwards are
 //! compared.
-//! Assumes nothing.
 
 pub mod buffer;
 pub mod session;

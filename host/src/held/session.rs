@@ -1,5 +1,4 @@
 //! The proved start and step beside the rule, with every work word compared after each.
-//! Assumes nothing.
 
 use super::buffer::Buffer;
 use super::{Difference, Held, UNWRITTEN, agree, agree_with};

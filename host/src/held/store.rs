@@ -1,5 +1,4 @@
 //! The proved save and load beside the reference.
-//! Assumes nothing.
 
 use super::buffer::Buffer;
 use super::{Held, UNWRITTEN, agree, agree_with};

@@ -1,5 +1,4 @@
 //! The proved strike beside the reference.
-//! Assumes nothing.
 
 use super::buffer::Buffer;
 use super::{Held, UNWRITTEN, agree_with};

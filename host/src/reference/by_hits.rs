@@ -1,6 +1,6 @@
 //! Definition 1 over intervals that begin and end on hits only, for sessions at the limits: an entry that is no hit adds to len and
 //! to no m, so a wider interval loses nothing of its score when such an end is cut off.
-//! Assumes nothing. The tests hold it to the definition over all intervals.
+//! The tests hold it to the definition over all intervals.
 
 use super::cells::hits;
 use super::definition1::Mapping;

@@ -1,5 +1,4 @@
 //! Hits, and cells in the order in which a session passes them.
-//! Assumes nothing.
 
 use std::collections::BTreeSet;
 

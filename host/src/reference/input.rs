@@ -1,5 +1,4 @@
 //! The three lines that `maplist` reads.
-//! Assumes nothing.
 
 pub const MAX_LINE: usize = 4_096;
 

@@ -1,5 +1,4 @@
 //! Letters, their values and their runs: "The bytes A, C, G, T and a, c, g, t have values 0, 1, 2, 3".
-//! Assumes nothing.
 
 /// The value of a letter, or none outside the eight.
 pub fn value(letter: u8) -> Option<u32> {

@@ -1,5 +1,4 @@
 //! The line of a mapping, and the numbers in it.
-//! Assumes nothing.
 
 /// A number in decimal without leading zeros.
 pub fn decimal(number: u64) -> Vec<u8> {

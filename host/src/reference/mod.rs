@@ -1,13 +1,14 @@
 //! Document 01 word for word, as a brute force, one subject a file, and faster forms for the limits that are held to it. It shares
 //! nothing with the proved crates.
-//! Assumes nothing.
 
 pub mod by_hits;
 pub mod cells;
 pub mod definition1;
+pub mod faster;
 pub mod input;
 pub mod letters;
 pub mod line;
+pub mod list;
 pub mod output;
 pub mod permille;
 pub mod refusal;

@@ -1,10 +1,10 @@
 //! The whole of `maplist`: from the bytes of its standard input to the bytes that it prints.
-//! Assumes nothing.
 
 use super::cells::cell_count;
-use super::definition1::{Mapping, finals};
+use super::definition1::Mapping;
 use super::input::{Input, MAX_LINE, Settings, input};
 use super::line::{decimal, line};
+use super::list::list_of;
 use super::permille::per_mille;
 use super::refusal::Refusal;
 use super::score::Task;
@@ -35,7 +35,7 @@ fn line_of(task: &Task, positions: &[u32], k: u32, mapping: &Mapping) -> Vec<u8>
 
 /// Header, a line for each mapping, and last the number of mappings and of all cells.
 fn listed(task: &Task, positions: &[u32], h: usize, k: u32) -> Vec<u8> {
-    let mappings = finals(task);
+    let mappings = list_of(task);
     let mut printed = b"first last score shared permille\n".to_vec();
     for mapping in &mappings {
         printed.extend(line_of(task, positions, k, mapping));

@@ -1,5 +1,4 @@
 //! The per mille of a mapping.
-//! Assumes nothing.
 
 use super::start::MAX_PATTERN;
 use super::strike::MAX_TEXT;

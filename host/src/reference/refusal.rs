@@ -1,5 +1,4 @@
 //! A refused call: the number that document 01 names, and the second value that goes with 4, 11, 12, 13 and 14.
-//! Assumes nothing.
 
 #[derive(Clone, Copy, Debug, PartialEq, Eq)]
 pub struct Refusal {

@@ -1,5 +1,4 @@
 //! K-mers, ranks, windows and the sketch, each window looked at by itself.
-//! Assumes nothing.
 
 use super::letters::{Run, runs};
 use super::refusal::{Refusal, refused, refused_with};

@@ -1,5 +1,4 @@
 //! What start answers: h, or a refusal.
-//! Assumes nothing.
 
 use super::cells::hits;
 use super::refusal::{Refusal, refused, refused_with};

@@ -2,7 +2,8 @@
 //! Assumes that start accepts the task.
 
 use super::cells::cells;
-use super::definition1::{Mapping, finals};
+use super::definition1::Mapping;
+use super::list::list_of;
 use super::score::Task;
 use super::start::WORK_WORDS;
 
@@ -70,7 +71,7 @@ impl Rule {
 
 /// The answers of a list of steps from a fresh session, and q after it.
 pub fn answers(task: &Task, steps: &[Step]) -> (Vec<Answer>, usize) {
-    let mut rule = Rule::new(task, &finals(task));
+    let mut rule = Rule::new(task, &list_of(task));
     let answers = steps.iter().map(|&step| rule.step(step)).collect();
     (answers, rule.q)
 }

@@ -1,5 +1,4 @@
 //! The store of a sketch: its words, saving, and loading with the first bad word named.
-//! Assumes nothing.
 
 use super::refusal::{Refusal, refused, refused_with};
 use super::sketch::{Entry, MAX_K, MAX_LETTERS, MAX_W};

@@ -1,5 +1,4 @@
 //! Striking of frequent k-mers from a text sketch.
-//! Assumes nothing.
 
 use std::collections::BTreeMap;
 

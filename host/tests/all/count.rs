@@ -1,5 +1,4 @@
 //! The exported count beside the reference.
-//! Assumes nothing.
 
 use host::cases::{cluster, letters};
 use host::count;

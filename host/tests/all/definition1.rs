@@ -1,58 +1,83 @@
-//! The fast form of Definition 1 beside its words, and the rule of steps beside the list.
-//! Assumes nothing.
+//! The faster forms of Definition 1 beside the definition itself, and the rule of steps beside the list.
 
 use host::random::Random;
 use host::reference::by_hits::finals_by_hits;
 use host::reference::cells::{cell_count, cells, hits};
-use host::reference::definition1::{Mapping, finals, finals_by_words, is_final, mapping_of};
-use host::reference::score::Task;
+use host::reference::definition1::{Intervals, Mapping, finals_by_definition};
+use host::reference::faster::finals;
+use host::reference::score::{Task, times};
 use host::reference::start::WORK_WORDS;
 use host::reference::steps::{Answer, Step, answers};
 
-fn task(random: &mut Random) -> Task {
-    let codes = random.between(1, 6);
-    let mut list = |longest: usize| -> Vec<u32> { (0..random.below(longest + 1)).map(|_| random.below(codes) as u32).collect() };
-    let (text, mut pattern) = (list(14), list(8));
-    pattern.push(0);
-    let u = random.between(1, 4) as u32;
-    let v = random.between(1, 4) as u32;
-    Task { text, pattern, u, v, threshold: random.between(0, 20) as i32 - 15 }
+/// A text of at most so many entries whose pieces are repeated within it, and a pattern that has only the lower half of the codes.
+fn task(random: &mut Random, longest: usize) -> Task {
+    let codes = random.between(2, 12);
+    let entries = random.below(longest + 1);
+    let mut text = Vec::new();
+    while text.len() < entries {
+        let piece: Vec<u32> = (0..random.between(1, 6)).map(|_| random.below(codes) as u32).collect();
+        text.extend(piece.repeat(random.between(1, 3)));
+    }
+    text.truncate(entries);
+    let pattern = (0..random.between(1, 12)).map(|_| random.below(codes.div_ceil(2)) as u32).collect();
+    let (u, v) = random.one_of(&[(1, 1), (1, 1), (2, 1), (1, 2), (3, 4), (4, 1), (1000, 999)]);
+    let threshold = random.between(0, 40) as i32 - 30;
+    Task { text, pattern, u, v, threshold: if random.once_in(4) { i32::MIN } else { threshold } }
+}
+
+/// What a sweep of tasks meets, so that it can't pass on tasks without mappings.
+#[derive(Default)]
+struct Met {
+    mappings: usize,
+    /// tasks with a text code that the pattern lacks
+    foreign: usize,
+    /// tasks whose text has a code of the pattern more often than the pattern
+    repeats: usize,
+}
+
+/// Holds both faster forms to the definition on tasks with texts of at most so many entries, and asks that enough was met.
+fn sweep(seeds: std::ops::Range<u64>, longest: usize, least: Met) {
+    let mut met = Met::default();
+    for seed in seeds {
+        let task = task(&mut Random::new(seed), longest);
+        let expected = finals_by_definition(&task);
+        assert_eq!(finals(&task), expected, "all intervals, seed {seed}: {task:?}");
+        assert_eq!(finals_by_hits(&task), expected, "over hits, seed {seed}: {task:?}");
+        met.mappings += expected.len();
+        met.foreign += usize::from(task.text.iter().any(|code| !task.pattern.contains(code)));
+        met.repeats += usize::from(task.pattern.iter().any(|&code| times(code, &task.text) > times(code, &task.pattern)));
+    }
+    assert!(met.mappings >= least.mappings, "mappings: {}", met.mappings);
+    assert!(met.foreign >= least.foreign, "texts with a code that the pattern lacks: {}", met.foreign);
+    assert!(met.repeats >= least.repeats, "texts with a code more often than in the pattern: {}", met.repeats);
 }
 
 #[test]
-fn fast_form_agrees_with_the_words() {
-    for seed in 0..1500 {
-        let task = task(&mut Random::new(seed));
-        assert_eq!(finals(&task), finals_by_words(&task), "seed {seed}: {task:?}");
-    }
+fn faster_forms_agree_up_to_24_entries() {
+    sweep(0..6000, 24, Met { mappings: 12_000, foreign: 5_000, repeats: 3_000 });
 }
 
 #[test]
-fn form_over_hits_agrees_with_all_intervals() {
-    for seed in 0..3000 {
-        let task = task(&mut Random::new(seed));
-        assert_eq!(finals_by_hits(&task), finals(&task), "seed {seed}: {task:?}");
-    }
+fn faster_forms_agree_up_to_40_entries() {
+    sweep(10_000..10_800, 40, Met { mappings: 3_000, foreign: 700, repeats: 500 });
 }
 
 #[test]
 fn final_intervals_are_cells_in_order() {
-    for seed in 0..1500 {
-        let task = task(&mut Random::new(seed));
-        let cells = cells(&task);
+    for seed in 20_000..21_500 {
+        let task = task(&mut Random::new(seed), 14);
+        let (intervals, cells) = (Intervals::new(&task), cells(&task));
         assert_eq!(cells.len(), cell_count(hits(&task).len()));
-        let listed: Vec<Mapping> = finals(&task);
-        let among: Vec<Mapping> =
-            cells.iter().filter(|cell| is_final(&task, cell.0, cell.1)).map(|cell| mapping_of(&task, cell.0, cell.1)).collect();
-        assert_eq!(listed, among, "seed {seed}: {task:?}");
+        let among = cells.iter().filter(|&&(a, b)| intervals.is_final(a, b)).map(|&(a, b)| intervals.at(a, b));
+        assert_eq!(among.collect::<Vec<Mapping>>(), finals_by_definition(&task), "seed {seed}: {task:?}");
     }
 }
 
 #[test]
 fn steps_hand_out_the_list() {
-    for seed in 0..1500 {
+    for seed in 30_000..31_500 {
         let mut random = Random::new(seed);
-        let task = task(&mut random);
+        let task = task(&mut random, 14);
         let last = cell_count(hits(&task).len());
         let step = |random: &mut Random| Step {
             budget: random.below(9) as u32,
@@ -65,7 +90,7 @@ fn steps_hand_out_the_list() {
             .iter()
             .filter_map(|answer| if let Answer::Found(mapping, _) = answer { Some(*mapping) } else { None })
             .collect();
-        assert_eq!(handed_out, finals(&task), "seed {seed}: {task:?}");
+        assert_eq!(handed_out, finals_by_definition(&task), "seed {seed}: {task:?}");
         assert_eq!(q, last, "seed {seed}");
         assert!(answers.iter().any(|answer| matches!(answer, Answer::Finished(_))), "seed {seed}");
     }

@@ -4,7 +4,7 @@
 use host::cases::{cluster, settings, three_lines};
 use host::program::{expect, run_on};
 use host::random::Random;
-use host::reference::definition1::finals;
+use host::reference::faster::finals;
 use host::reference::input::{Settings, input};
 use host::reference::output::{output, prepared};
 

@@ -1,5 +1,4 @@
 //! The exported per mille beside the reference.
-//! Assumes nothing.
 
 use host::per_mille;
 use host::random::Random;

@@ -5,7 +5,7 @@
 use host::calls::{self, Loaded, Stepped};
 use host::held::{self, Difference};
 use host::random::Random;
-use host::reference::definition1::finals;
+use host::reference::list::list_of;
 use host::reference::refusal::{Refusal, refused_with};
 use host::reference::sketch::Entry;
 use host::reference::steps::Step;
@@ -87,7 +87,7 @@ fn sessions() {
             assert_eq!(calls::start(&task.text, &task.pattern, task.u, task.v, task.threshold, &mut work), Ok(h), "{line:?}");
             let answers: Vec<String> = steps.iter().map(|&step| answered(&mut work, step)).collect();
             assert_eq!(answers, expected, "{line:?}");
-            let mut session = same(held::session::start(&mut random, &task, 20_000, finals), &line).expect("an accepted start");
+            let mut session = same(held::session::start(&mut random, &task, 20_000, list_of), &line).expect("an accepted start");
             for (&step, expected) in steps.iter().zip(&expected) {
                 assert_eq!(&written(&same(session.step(step), &line)), expected, "{line:?}");
             }

@@ -6,10 +6,11 @@ use std::path::Path;
 
 use host::program::{expect, run_on};
 use host::reference::cells::cells;
-use host::reference::definition1::{Mapping, finals};
+use host::reference::definition1::{Mapping, mapping_of};
+use host::reference::faster::finals;
 use host::reference::input::{Input, input};
 use host::reference::output::{output, prepared};
-use host::reference::score::{Task, score_of};
+use host::reference::score::Task;
 
 fn file(name: &str) -> Vec<u8> {
     fs::read(Path::new(env!("CARGO_MANIFEST_DIR")).join("../data/sample").join(name)).expect("a file of the sample")
@@ -50,7 +51,7 @@ fn each_copy_once() {
     assert_eq!(found, [(186, 261), (43, 118)]);
     assert!(finals(&task).iter().all(|mapping| mapping.score == 22));
     assert_eq!(h * (h + 1) / 2, 4278);
-    assert_eq!(cells(&task).iter().filter(|&&(a, b)| score_of(&task, a, b) >= 10).count(), 58);
+    assert_eq!(cells(&task).iter().filter(|&&(a, b)| mapping_of(&task, a, b).score >= 10).count(), 58);
     let third = &finals(&Task { threshold: 1, ..task })[0];
     assert_eq!((letters(&positions, third), third.score), ((329, 399), 1));
 }

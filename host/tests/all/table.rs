@@ -1,7 +1,6 @@
 //! The nine cases of document 01's table, by the reference.
-//! Assumes nothing.
 
-use host::reference::definition1::{Mapping, finals};
+use host::reference::definition1::{Mapping, finals_by_definition};
 use host::reference::score::Task;
 use host::reference::sketch::{codes, positions, sketch};
 use host::reference::start::WORK_WORDS;
@@ -17,7 +16,7 @@ fn task(text: &[u8], read: &[u8], threshold: i32) -> Task {
 
 /// The ends and scores of the final mappings.
 fn listed(task: &Task) -> Vec<(usize, usize, i64)> {
-    finals(task).iter().map(|mapping| (mapping.a, mapping.b, mapping.score)).collect()
+    finals_by_definition(task).iter().map(|mapping| (mapping.a, mapping.b, mapping.score)).collect()
 }
 
 fn answers_of(task: &Task, budgets: &[u32]) -> Vec<Answer> {
