@@ -1,12 +1,6 @@
 // The calls of document 01 for programs in other languages: numbers and slices only, since an enum does not cross the C boundary.
 // `number` becomes 0 where the call is accepted, else 01's refusal number; the result is the value answered, or the second value.
-// A caller passes each slice as two arguments, a pointer and a length, and not as one of 16 bytes. Assumes nothing.
-mod steps;
-
-use crate::steps::Mapping;
-use crate::steps::cells_of;
-use crate::steps::kind_of;
-use crate::steps::mapping_after;
+// A caller passes each slice as two arguments, a pointer and a length, and not as one of 16 bytes.
 use answers::k_after;
 use answers::of_load;
 use answers::of_save;
@@ -14,6 +8,7 @@ use answers::of_sketch;
 use answers::of_start;
 use answers::of_strike;
 use answers::w_after;
+use mapper::answer::Stepped;
 use mapper::session::step;
 ghost use mathlib.Core.Path.{_≡_};
 ghost use lib.ListN.{length};
@@ -140,17 +135,36 @@ pub extern "C" fn huddlewool_step(
 ) -> u32
     ensures { λ r. ⌜ Steps (now (work .entry)) budget (lentMapping (now («a_out» .entry)) (now («b_out» .entry)) (now («score_out» .entry)) (now («m_out» .entry))) r (now (work .exit)) (lentMapping (now («a_out» .exit)) (now («b_out» .exit)) (now («score_out» .exit)) (now («m_out» .exit))) (now («cells_out» .exit)) ⌝ }
 {
-    let answer = step(work, budget);
-    let a = *a_out;
-    let b = *b_out;
-    let score = *score_out;
-    let m = *m_out;
-    let mapping = mapping_after(answer, Mapping { a, b, score, m });
-    let score = mapping.score;
-    *a_out = mapping.a;
-    *b_out = mapping.b;
-    *score_out = score;
-    *m_out = mapping.m;
-    *cells_out = cells_of(answer);
-    kind_of(answer)
+    match step(work, budget) {
+        Stepped::Found {
+            a,
+            b,
+            score,
+            m,
+            cells,
+        } => {
+            *a_out = a;
+            *b_out = b;
+            *score_out = score;
+            *m_out = m;
+            *cells_out = cells;
+            0
+        }
+        Stepped::Finished(cells) => {
+            *cells_out = cells;
+            1
+        }
+        Stepped::Spent(cells) => {
+            *cells_out = cells;
+            2
+        }
+        Stepped::TooFewWords => {
+            *cells_out = 0;
+            10
+        }
+        Stepped::BadWords => {
+            *cells_out = 0;
+            15
+        }
+    }
 }

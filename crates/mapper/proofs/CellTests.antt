@@ -172,9 +172,10 @@ module _ (task : Task) (limited : Limited task) (threshold-fits : mag (task .thr
     enough f = test-final task x y f .enough
 
     -- a final cell is found, with the score of the definition
-    pub final-decided : (cells : ℕ) → isFinalCell task (cellAt i j) ≡ true → decided (termsOf task) x y (sharedAt task i j) cells ≡ Found x y (scoreOf task x y) (sharedAt task i j) cells
+    pub final-decided : isFinalCell task (cellAt i j) ≡ true
+        → (cells : ℕ) → decided (termsOf task) x y (sharedAt task i j) cells ≡ Found x y (scoreOf task x y) (sharedAt task i j) cells
     unfolding decides
-    final-decided cells f =
+    final-decided f cells =
         let t : leZ (unbiased (biasedZ (task .threshold))) (candidateScore (termsOf task) x y (sharedAt task i j)) ≡ true =
         rw (unbiased-biasedZ (task .threshold) threshold-fits, score-is) (enough f)
         in

@@ -47,18 +47,15 @@ module _ (terms : Terms) (a b m : ℕ) where
         at-most-len = leb-true m (lengthOf a b) (and-right a₆ (leb m (lengthOf a b)) t);
       }
 
-  pub says-scorable : Scorable terms a b m → isScorable terms a b m ≡ true
+  -- where all tests but the last hold, it decides
+  pub last-test : terms .u ≤ weightLimit → terms .v ≤ weightLimit → terms .size ≤ patternLimit → a ≤ b → b - a < textLimit → m ≤ terms .size
+      → isScorable terms a b m ≡ leb m (lengthOf a b)
   unfolding isScorable
+  last-test u v s o l k = simp (le-leb _ _ u, le-leb _ _ v, le-leb _ _ s, le-leb _ _ o, lt-ltb _ _ l, le-leb _ _ k)
+
+  pub says-scorable : Scorable terms a b m → isScorable terms a b m ≡ true
   says-scorable s =
-      simp (
-        le-leb _ _ (s .small-u),
-        le-leb _ _ (s .small-v),
-        le-leb _ _ (s .short-pattern),
-        le-leb _ _ (s .ordered),
-        lt-ltb _ _ (s .short),
-        le-leb _ _ (s .at-most-size),
-        le-leb _ _ (s .at-most-len),
-      )
+      rw (last-test (s .small-u) (s .small-v) (s .short-pattern) (s .ordered) (s .short) (s .at-most-size)) (le-leb m (lengthOf a b) (s .at-most-len))
 
   pub decided-found : (cells : ℕ) → decides terms a b m ≡ true → decided terms a b m cells ≡ Found a b (candidateScore terms a b m) m cells
   unfolding decided

@@ -1,15 +1,12 @@
--- Signed numbers of 32 bits: words with 2^31 added, a difference of two small natural numbers as the code computes it, and the two
--- tests of order.
+-- Signed numbers of 32 bits: words with 2^31 added, and a difference of two small natural numbers as the code computes it.
 use Prim.Native.Nat.{ℕ, zero, suc, _+_, _-_, _≤_, _<_, _^_}
 use native.Mathlib.Omega.{arith}
 use mathlib.Core.Path.{_≡_, refl, ap, ap₂, _∙_}
-use mathlib.Core.Bool.{true, false, false≢true, true≢false}
 use lib.IntN.{ℤ, pos, negsuc, subℕ, _-ℤ_}
-use lib.Signed.{ltZ, leZ}
 use mir.Syntax.{w32}
 use mir.Val.{SFits, toZ, ofZ}
 use mir.ValLaws.{toZ-ofZ}
-use borrow.Author.Tests.{lt-ltb, le-ltb, ltb-true, ltb-false, lt-leb, le-leb}
+use borrow.Author.Tests.{lt-ltb, le-ltb}
 use Rattle.mappings.proofs.Integers.{Difference, up, down, difference}
 
 -- a signed number as the code reads it back from its bits
@@ -61,17 +58,3 @@ module _ (a b : ℕ) (h : a < 2 ^ 31) (k : b < 2 ^ 31) where
 
   pub difference-is : toZ w32 (ofZ w32 (toZ w32 a -ℤ toZ w32 b)) ≡ pos a -ℤ pos b
   difference-is = toZ-ofZ w32 (toZ w32 a -ℤ toZ w32 b) difference-fits ∙ words
-
--- ---- the two tests of order
-
-pub below-not-atMost : (y z : ℤ) → ltZ y z ≡ true → leZ z y ≡ false
-below-not-atMost (pos a) (pos b) t = lt-leb b a (ltb-true a b t)
-below-not-atMost (pos a) (negsuc b) t = absurd (false≢true t)
-below-not-atMost (negsuc a) (pos b) t = refl
-below-not-atMost (negsuc a) (negsuc b) t = lt-leb a b (ltb-true b a t)
-
-pub not-below-atMost : (y z : ℤ) → ltZ y z ≡ false → leZ z y ≡ true
-not-below-atMost (pos a) (pos b) t = le-leb b a (ltb-false a b t)
-not-below-atMost (pos a) (negsuc b) t = refl
-not-below-atMost (negsuc a) (pos b) t = absurd (true≢false t)
-not-below-atMost (negsuc a) (negsuc b) t = le-leb a b (ltb-false b a t)

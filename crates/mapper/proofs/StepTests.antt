@@ -12,9 +12,7 @@ use borrow.Author.Tests.{lt-ltb, le-ltb, ltb-false, ltb-true, eqb-true}
 use Rattle.counts.proofs.Lists.{or-neither, and-left, and-right}
 use Rattle.mappings.specs.Cells.{cellCount}
 use Rattle.start.specs.Start.{badWeights}
-use Rattle.mapper.specs.declared.update.Terms.{Terms}
 use Rattle.mapper.specs.Step.{badWords}
-use Rattle.mapper.specs.Walking.{termsIn}
 
 module _ (work : List ℕ) (h : ℕ) (eh : h ≡ getD work 0 0) where
   pub many-hits : 2048 < h → true ≡ badWords work
@@ -65,11 +63,6 @@ good-words work e =
       small-u = ltb-false 1000 (getD work 1 0) (or-neither (ltb (getD work 1 0) 1) (ltb 1000 (getD work 1 0)) (uv .0) .1);
       small-v = ltb-false 1000 (getD work 2 0) (or-neither (ltb (getD work 2 0) 1) (ltb 1000 (getD work 2 0)) (uv .1) .1);
     }
-
--- the terms read from such words
-pub terms-within : (work : List ℕ) → GoodWords work → (terms : Terms) → terms ≡ termsIn work → (terms .u ≤ 1000) × (terms .v ≤ 1000)
-unfolding termsIn
-terms-within work g terms e = rw e (g .small-u, g .small-v)
 
 -- a budget of one cell, and a further row in its column
 pub one-inside : (budget row columns : ℕ) → (ltb (row + 1) columns && eqb budget 1) ≡ true → (budget ≡ 1) × (row + 1 < columns)

@@ -1,5 +1,5 @@
 -- A walk in the words of a session answers as the rule does, and leaves the words of the session further on.
-use Prim.Native.Nat.{ℕ, zero, suc, _+_, _-_, _*_, _≤_, _<_, min, zero-le, suc-le-suc}
+use Prim.Native.Nat.{ℕ, zero, suc, _+_, _-_, _≤_, _<_, min, zero-le, suc-le-suc}
 use native.Mathlib.Omega.{arith}
 use mathlib.Core.Path.{_≡_, refl, sym, ap, _∙_, subst}
 use mathlib.Core.Logic.{_⊎_, inl, inr}
@@ -185,11 +185,11 @@ module _ (task : Task) (limited : Limited task) (threshold-fits : mag (task .thr
         let right-end : getD words (4096 + suc j - 1) 0 ≡ getD (hits task) j 0 =
         (let f : 4096 + suc j - 1 ≡ 4096 + j = omega arith in ap (λ (n : ℕ). getD words n 0) f ∙ h′ .index-word j l)
         in
-        let shares′ : sharedAt task (row + k) j ≡ sharedOf task (getD (hits task) (row + k) 0) (getD (hits task) j 0) = sym (cell-shared task (row + k) j inside l) in
+        let shares : sharedAt task (row + k) j ≡ sharedOf task (getD (hits task) (row + k) 0) (getD (hits task) j 0) = sym (cell-shared task (row + k) j inside l) in
         let passed = budget - (left - (update .answer .row - row)) in
         let decides : decided (termsOf task) (getD words (4096 + update .answer .row - 1) 0) (getD words (4096 + suc j - 1) 0) (update .answer .m) passed
         ≡ Found (getD (hits task) (row + k) 0) (getD (hits task) j 0) (scoreOf task (getD (hits task) (row + k) 0) (getD (hits task) j 0)) (sharedAt task (row + k) j) passed =
-        rw (left-end, right-end, em) (final-decided task limited threshold-fits (row + k) j inside l passed final)
+        rw (left-end, right-end, em) (final-decided task limited threshold-fits (row + k) j inside l final passed)
         in
         let further : place (hitCount task) (suc (row + k)) j ≡ q + suc k = place-further (hitCount task) row (suc k) j (suc (row + k)) q at (omega arith) in
         let within : place (hitCount task) (row + k) j < cellCount (hitCount task) = place-within (hitCount task) (row + k) j inside l in
@@ -201,7 +201,7 @@ module _ (task : Task) (limited : Limited task) (threshold-fits : mag (task .thr
         let count : getD words 3 0 + (budget - (left - (update .answer .row - row))) ≡ q + suc k = rw (passed-back task limited threshold-fits small before many q work (update .part) h, e₀, cells) (omega arith) in
         let total : q + suc k ≡ q₀ + (budget - (left - (update .answer .row - row))) = rw cells (omega arith) in
         record {
-          answer-is = ap answerOf decides ∙ rw (shares′, cells, answer);
+          answer-is = ap answerOf decides ∙ rw (shares, cells, answer);
           words-are =
               saved-is (q + suc k) (budget - (left - (update .answer .row - row))) words (settled words (suc j) (update .answer .row) (lowered (update .answer .m) 1)) h′ (omega arith) count settles
               ∙ ap (sessionWords task before) (total ∙ ap (λ (answer : Stepped). q₀ + reported (answerOf answer)) (sym decides));

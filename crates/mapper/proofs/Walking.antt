@@ -10,15 +10,20 @@ use lib.Dec.{ltb}
 use borrow.Author.Tests.{ne-eqb, lt-ltb, le-ltb}
 use lib.ListN.{length, getD, drop, set, length-drop}
 use lib.Seq.{getD-set-other, length-take-le}
-use Rattle.column.specs.Passing.{lowered, seenBefore, columnPass}
+use Rattle.column.specs.Passing.{seenBefore, columnPass}
 use Rattle.column.specs.declared.cells.Line.{Line}
 use Rattle.column.specs.declared.cells.Passed.{Passed}
 use Rattle.column.proofs.Passing.{bounded}
 use Rattle.column.proofs.Fitting.{fits-all, pass-fits}
 use Rattle.mapper.specs.declared.update.Terms.{Terms}
 use Rattle.mapper.specs.declared.place.Place.{Place}
-use Rattle.mapper.specs.Deciding.{decided}
-use Rattle.mapper.specs.Walking.{saved, settled, topShared, spentWalk, foundWalk, withPart, partOf, lineOf, columnUpdate, walkOn}
+use Rattle.mapper.specs.Walking.{termsIn, saved, settled, topShared, spentWalk, finishedWalk, foundWalk, withPart, partOf, lineOf, columnUpdate, walkOn}
+
+-- the terms read from words with small weights
+pub small-terms : (work : List ℕ) (terms : Terms) → terms ≡ termsIn work → (getD work 1 0 ≤ 1000) × (getD work 2 0 ≤ 1000)
+    → (terms .u ≤ 1000) × (terms .v ≤ 1000)
+unfolding termsIn
+small-terms work terms e small = rw e small
 
 -- a place settles within the columns and rows that it came from
 pub settled-within : (work : List ℕ) (columns row m : ℕ) → (settled work columns row m .columns ≤ columns) × (settled work columns row m .row ≤ row)
@@ -36,6 +41,10 @@ settled-within work columns row m = go (ltb row columns)
 
 suc-pred : (n : ℕ) → 0 < n → n ≡ suc (n - 1)
 suc-pred n h = omega arith
+
+pub walk-finished : (terms : Terms) (budget columns row m left : ℕ) (work : List ℕ) → columns ≡ 0
+    → walkOn terms budget columns row m left work ≡ finishedWalk work (record { columns = 0; row = row; m = m }) (budget - left)
+walk-finished terms budget columns row m left work e = rw e
 
 module _ (terms : Terms) (budget columns row m left : ℕ) (work : List ℕ) (h : 0 < columns) where
   pub walk-spent : left ≡ 0 → walkOn terms budget columns row m left work ≡ spentWalk work (record { columns = columns; row = row; m = m }) budget
@@ -114,23 +123,20 @@ saved-behind work place cells n l = saved-other work place cells n (λ e. omega 
 
 -- ---- the walk of one cell, in a column that has a further row
 
-module _ (terms : Terms) (columns row m : ℕ) (work : List ℕ) (p : Passed) (words : List ℕ) (h : row + 1 < columns) (ep : p ≡ columnUpdate terms (columns - 1) row m 1 work .answer) (ew : words ≡ withPart work (columnUpdate terms (columns - 1) row m 1 work .part)) where
+module _ (terms : Terms) (columns row m : ℕ) (work : List ℕ) (p : Passed) (words : List ℕ) (h : row + 1 < columns)
+    (ep : p ≡ columnUpdate terms (columns - 1) row m 1 work .answer) (ew : words ≡ withPart work (columnUpdate terms (columns - 1) row m 1 work .part)) where
   some : _≢_ {A = ℕ} 1 0
   some e = omega arith
 
-  stops : Stops columns row 1 p
-  stops = update-stops terms columns row m 1 work p (omega arith) (omega arith) ep
+  pub one-stops : Stops columns row 1 p
+  one-stops = update-stops terms columns row m 1 work p (omega arith) (omega arith) ep
 
-  pub one-found : p .found ≡ true → (after : List ℕ) → after ≡ saved words (record { columns = columns; row = p .row; m = lowered (p .m) 1 }) 1 → walkOn terms 1 columns row m 1 work ≡ record { answer = decided terms (getD after (4096 + p .row - 1) 0) (getD after (4096 + columns - 1) 0) (p .m) 1; words = after }
-  unfolding foundWalk settled
-  one-found f after e =
-      let one : 1 - (1 - (p .row - row)) ≡ 1 = omega (arith, stops .moved f) in
-      let inside : p .row < columns = omega (arith, stops .spends) in
-      let kept : (n : ℕ) → 10 ≤ n → getD after n 0 ≡ getD words n 0 = λ n l. ap (λ (ws : List ℕ). getD ws n 0) e ∙ saved-behind words (record { columns = columns; row = p .row; m = lowered (p .m) 1 }) 1 n l in
+  pub one-found : p .found ≡ true → walkOn terms 1 columns row m 1 work ≡ foundWalk terms words columns p 1
+  one-found f =
+      let one : 1 - (1 - (p .row - row)) ≡ 1 = omega (arith, one-stops .moved f) in
       rw one at (walk-found terms 1 columns row m 1 work (omega arith) some p words ep ew f)
-      ∙ rw (kept (4096 + p .row - 1) (omega (arith, stops .moved f)), kept (4096 + columns - 1) (omega arith), e, lt-ltb (p .row) columns inside)
 
   pub one-spent : p .found ≡ false → walkOn terms 1 columns row m 1 work ≡ spentWalk words (record { columns = columns; row = p .row; m = p .m }) 1
   one-spent f =
-      let one : 1 - (1 - (p .row - row)) ≡ 1 = omega (arith, stops .whole f) in
-      rw one at (walk-part terms 1 columns row m 1 work (omega arith) some p words ep ew f (omega (arith, stops .spends)))
+      let one : 1 - (1 - (p .row - row)) ≡ 1 = omega (arith, one-stops .whole f) in
+      rw one at (walk-part terms 1 columns row m 1 work (omega arith) some p words ep ew f (omega (arith, one-stops .spends)))

@@ -42,18 +42,17 @@ fn is_scorable(terms: Terms, a: u32, b: u32, m: u32) -> bool
 pub fn decided(terms: Terms, a: u32, b: u32, m: u32, cells: u32) -> Stepped
     ensures { λ r. ⌜ r ≡ decidedAnswer terms a b m cells ⌝ }
 {
-    if !is_scorable(terms, a, b, m) {
-        return Stepped::Spent(cells);
+    if is_scorable(terms, a, b, m) {
+        let score = score(terms.u, terms.v, terms.size, m, b - a + 1);
+        if unbiased(terms.threshold) <= score {
+            return Stepped::Found {
+                a,
+                b,
+                score,
+                m,
+                cells,
+            };
+        }
     }
-    let score = score(terms.u, terms.v, terms.size, m, b - a + 1);
-    if score < unbiased(terms.threshold) {
-        return Stepped::Spent(cells);
-    }
-    Stepped::Found {
-        a,
-        b,
-        score,
-        m,
-        cells,
-    }
+    Stepped::Spent(cells)
 }

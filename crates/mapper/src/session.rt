@@ -1,7 +1,6 @@
 // A step of a session: what is refused, and the walk from the place in the work words.
 use crate::answer::Stepped;
 use crate::place::Place;
-use crate::update::Terms;
 use crate::walk::walk;
 use crate::walk::walk_one;
 use layout::COLUMNS;
@@ -10,8 +9,6 @@ use layout::HITS;
 use layout::PASSED;
 use layout::ROW;
 use layout::SHARED;
-use layout::SIZE;
-use layout::THRESHOLD;
 use layout::U;
 use layout::V;
 use layout::WEIGHT_LIMIT;
@@ -23,7 +20,6 @@ ghost use mathlib.Core.Bool.{_&&_};
 ghost use lib.Dec.{eqb, ltb};
 ghost use lib.ListN.{length};
 ghost use Rattle.mapper.specs.Step.{badWords};
-ghost use Rattle.mapper.specs.Walking.{termsIn};
 ghost use Rattle.mapper.specs.Promise.{StepPromise};
 
 // Words 0 to 3 hold h over 2,048, u or v outside 1 to 1,000, or more cells passed than h(h + 1)/2.
@@ -54,19 +50,6 @@ fn bad_words(work: &[u32]) -> bool
     cells < passed
 }
 
-// What the scores of the session share.
-fn terms_of(work: &[u32]) -> Terms
-    requires { ⌜ 16384 ≤ length (now work) ⌝ }
-    ensures { λ r. ⌜ r ≡ termsIn (now (work .entry)) ⌝ }
-{
-    Terms {
-        u: work[U],
-        v: work[V],
-        size: work[SIZE],
-        threshold: work[THRESHOLD],
-    }
-}
-
 // The budget is one cell, and the column of that cell has a further row.
 fn one_inside(budget: u32, row: usize, columns: usize) -> bool
     requires { ⌜ row ≤ 4294967295 ⌝ }
@@ -95,12 +78,11 @@ pub fn step(work: &mut [u32], budget: u32) -> Stepped
     }
     let row = wide(work[ROW]);
     let m = work[SHARED];
-    let terms = terms_of(work);
     if one_inside(budget, row, columns) {
-        return walk_one(work, terms, Place { columns, row, m });
+        return walk_one(work, Place { columns, row, m });
     }
     if columns < row {
         return Stepped::Spent(0);
     }
-    walk(work, terms, Place { columns, row, m }, wide(budget))
+    walk(work, Place { columns, row, m }, wide(budget))
 }

@@ -7,12 +7,16 @@ use column::cells::pass_one;
 use layout::BACK;
 use layout::INDEX;
 use layout::PART_END;
+use layout::SIZE;
+use layout::THRESHOLD;
+use layout::U;
+use layout::V;
 use layout::wide;
 use layout::wider;
 ghost use mathlib.Core.Path.{_≡_};
 ghost use Prim.Native.Nat.{_-_, _≤_, _<_, min};
 ghost use lib.ListN.{length};
-ghost use Rattle.mapper.specs.Walking.{lineOf, columnUpdate, withPart};
+ghost use Rattle.mapper.specs.Walking.{termsIn, lineOf, columnUpdate, withPart};
 
 // What the scores of a session share: the weights, the pattern's length, and the threshold's word.
 pub struct Terms {
@@ -20,6 +24,19 @@ pub struct Terms {
     pub v: u32,
     pub size: u32,
     pub threshold: u32,
+}
+
+// What the scores of the session in these words share.
+pub fn terms_of(work: &[u32]) -> Terms
+    requires { ⌜ 16384 ≤ length (now work) ⌝ }
+    ensures { λ r. ⌜ r ≡ termsIn (now (work .entry)) ⌝ }
+{
+    Terms {
+        u: work[U],
+        v: work[V],
+        size: work[SIZE],
+        threshold: work[THRESHOLD],
+    }
 }
 
 // Added to the base of a column's score words: 2^31, their bias, and 2^44, which keeps the base of any words above 0.

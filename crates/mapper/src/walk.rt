@@ -6,17 +6,16 @@ use crate::place::save;
 use crate::place::settled;
 use crate::place::top_shared;
 use crate::update::Terms;
+use crate::update::terms_of;
 use crate::update::update;
 use crate::update::update_one;
 use column::cells::Passed;
 use column::score::lowered;
 use layout::INDEX;
 ghost use mathlib.Core.Path.{_≡_};
-ghost use mathlib.Core.Bool.{cond};
 ghost use Prim.Native.Nat.{_+_, _≤_, _<_};
-ghost use lib.ListN.{length};
-ghost use Rattle.column.specs.Passing as Passing;
-ghost use Rattle.mapper.specs.Walking.{spentWalk, finishedWalk, foundWalk, walkOn};
+ghost use lib.ListN.{length, getD};
+ghost use Rattle.mapper.specs.Walking.{termsIn, spentWalk, finishedWalk, foundWalk, walkOn};
 
 // The budget's cells are passed.
 fn spent(work: &mut [u32], place: Place, cells: usize) -> Stepped
@@ -53,12 +52,13 @@ fn found(work: &mut [u32], terms: Terms, columns: usize, p: Passed, cells: usize
 }
 
 // The cells from this place on, at most `budget` of them.
-pub fn walk(work: &mut [u32], terms: Terms, start: Place, budget: usize) -> Stepped
+pub fn walk(work: &mut [u32], start: Place, budget: usize) -> Stepped
     requires { ⌜ (16384 ≤ length (now work)) × (budget ≤ 4294967295) × (start .columns ≤ 2048) × (start .row ≤ start .columns) ⌝ }
-    requires { ⌜ (terms .u ≤ 1000) × (terms .v ≤ 1000) ⌝ }
-    ensures { λ r. ⌜ r ≡ walkOn terms budget (start .columns) (start .row) (start .m) budget (now (work .entry)) .answer ⌝ }
-    ensures { λ r. ⌜ now (work .exit) ≡ walkOn terms budget (start .columns) (start .row) (start .m) budget (now (work .entry)) .words ⌝ }
+    requires { ⌜ (getD (now work) 1 0 ≤ 1000) × (getD (now work) 2 0 ≤ 1000) ⌝ }
+    ensures { λ r. ⌜ r ≡ walkOn (termsIn (now (work .entry))) budget (start .columns) (start .row) (start .m) budget (now (work .entry)) .answer ⌝ }
+    ensures { λ r. ⌜ now (work .exit) ≡ walkOn (termsIn (now (work .entry))) budget (start .columns) (start .row) (start .m) budget (now (work .entry)) .words ⌝ }
 {
+    let terms = terms_of(work);
     let mut columns = start.columns;
     let mut row = start.row;
     let mut m = start.m;
@@ -91,32 +91,26 @@ pub fn walk(work: &mut [u32], terms: Terms, start: Place, budget: usize) -> Step
     finished(work, Place { columns: 0, row, m }, budget - left)
 }
 
-// m behind the cell that was passed last.
-fn behind(p: Passed) -> u32
-    ensures { λ r. ⌜ r ≡ cond (p .found) (Passing.lowered (p .m) 1) (p .m) ⌝ }
-{
-    if p.found {
-        return lowered(p.m, 1);
-    }
-    p.m
-}
-
-// The walk of one cell in a column that has a further row. The place is saved before the answer is made, once for both answers.
-pub fn walk_one(work: &mut [u32], terms: Terms, start: Place) -> Stepped
+// The walk of one cell in a column that has a further row.
+pub fn walk_one(work: &mut [u32], start: Place) -> Stepped
     requires { ⌜ (16384 ≤ length (now work)) × (start .columns ≤ 2048) × (start .row + 1 < start .columns) ⌝ }
-    requires { ⌜ (terms .u ≤ 1000) × (terms .v ≤ 1000) ⌝ }
-    ensures { λ r. ⌜ r ≡ walkOn terms 1 (start .columns) (start .row) (start .m) 1 (now (work .entry)) .answer ⌝ }
-    ensures { λ r. ⌜ now (work .exit) ≡ walkOn terms 1 (start .columns) (start .row) (start .m) 1 (now (work .entry)) .words ⌝ }
+    requires { ⌜ (getD (now work) 1 0 ≤ 1000) × (getD (now work) 2 0 ≤ 1000) ⌝ }
+    ensures { λ r. ⌜ r ≡ walkOn (termsIn (now (work .entry))) 1 (start .columns) (start .row) (start .m) 1 (now (work .entry)) .answer ⌝ }
+    ensures { λ r. ⌜ now (work .exit) ≡ walkOn (termsIn (now (work .entry))) 1 (start .columns) (start .row) (start .m) 1 (now (work .entry)) .words ⌝ }
 {
+    let terms = terms_of(work);
     let columns = start.columns;
     let p = update_one(work, terms, start);
-    let row = p.row;
-    let m = behind(p);
-    save(work, Place { columns, row, m }, 1);
     if p.found {
-        let a = work[INDEX + row - 1];
-        let b = work[INDEX + columns - 1];
-        return decided(terms, a, b, p.m, 1);
+        return found(work, terms, columns, p, 1);
     }
-    Stepped::Spent(1)
+    spent(
+        work,
+        Place {
+            columns,
+            row: p.row,
+            m: p.m,
+        },
+        1,
+    )
 }

@@ -2,7 +2,7 @@
 use Prim.Native.Nat.{ℕ, suc, _+_, _≤_, _<_, zero-le}
 use native.Mathlib.Nat.{zero-add, le-of-eq}
 use native.Mathlib.Omega.{arith}
-use mathlib.Core.Path.{_≡_, sym, ap, _∙_}
+use mathlib.Core.Path.{_≡_, ap, _∙_}
 use mathlib.Core.Logic.{_↔_}
 use mathlib.Core.List.{List}
 use lib.ListN.{length, take}
@@ -15,7 +15,7 @@ use Rattle.mappings.specs.Demand.{Found, Finished, stepAt, answerAt, pas
 use Rattle.mappings.proofs.Cells.{length-cells}
 use Rattle.mappings.proofs.Rule.{total, finalsOf}
 use Rattle.mappings.proofs.Steps.{accepted-answer, refused-answer, step-refused, step-finished, answers-list, answers-within, length-answers, take-answers, answer-at, passed-suc, answers-end}
-use Rattle.mappings.proofs.Finals.{finals-among, finals-list, finals-once, final-among}
+use Rattle.mappings.proofs.Finals.{finals-among, finals-once, final-among}
 
 -- all cells
 pub take-all-cells : (task : Task) → take (total task) (cellsOf task) ≡ cellsOf task

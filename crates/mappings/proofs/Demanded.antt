@@ -1,11 +1,11 @@
 -- What `Demanded` says of the answers of a list of steps, from the statement alone: each field is put to its use, so that none can say
 -- less than it should.
-use Prim.Native.Nat.{ℕ, zero, suc, _+_, _≤_, _<_, zero-le}
-use native.Mathlib.Nat.{le-of-suc-le-suc, not-suc-le-zero, zero-lt-suc, suc-inj, le-of-eq}
+use Prim.Native.Nat.{ℕ, zero, suc, _+_, _≤_, _<_}
+use native.Mathlib.Nat.{le-of-suc-le-suc, not-suc-le-zero, zero-lt-suc, suc-inj}
 use native.Mathlib.Omega.{arith}
 use mathlib.Core.Path.{_≡_, refl, sym, ap, ap₂, _∙_, subst}
 use mathlib.Core.List.{List, [], _∷_, _++_, List·Memᴰ, List·Memᴰ·head, List·Memᴰ·tail, Memᴰ·append-right}
-use lib.ListN.{length, getD, take, drop, replicate, length-take, length-replicate, take-append-drop}
+use lib.ListN.{length, getD, take, drop, replicate, length-take, take-append-drop}
 use Rattle.counts.specs.Lists.{keep}
 use Rattle.mappings.specs.Limits.{workWords}
 use Rattle.mappings.specs.Score.{Task}

@@ -9,7 +9,7 @@ use mathlib.Core.List.{List, [], _∷_}
 use lib.Dec.{leb, ltb, eqb}
 use lib.ListN.{length, getD, take, drop, length-take}
 use lib.Seq.{take-nil, take-all}
-use borrow.Author.Tests.{ltb-true, ltb-false, leb-true, leb-false, eqb-false, ne-eqb, not-true, le-leb}
+use borrow.Author.Tests.{ltb-true, leb-true, leb-false, eqb-false, ne-eqb, not-true, le-leb}
 use Rattle.counts.specs.Lists.{every, extend}
 use Rattle.counts.proofs.Lists.{and-left, and-right, decided}
 use Rattle.reading.specs.Limits.{lineLimit, wordLimit, signedLimit, inputLimit}

@@ -1,5 +1,5 @@
 -- The request of an input stands for that input: its indices are those of the text line and the read line, which lie within the bytes.
-use Prim.Native.Nat.{ℕ, suc, _+_, _-_, _≤_, _<_}
+use Prim.Native.Nat.{ℕ, suc, _+_, _-_}
 use native.Mathlib.Omega.{arith}
 use mathlib.Core.Path.{_≡_, refl, sym, ap, _∙_}
 use mathlib.Core.Bool.{Bool, true, false}
@@ -7,7 +7,6 @@ use mathlib.Core.List.{List, []}
 use lib.ListN.{length, getD, take, drop, length-drop}
 use lib.Seq.{drop-drop}
 use Rattle.listing.specs.Line.{lineFeed}
-use Rattle.reading.specs.Limits.{lineLimit}
 use Rattle.reading.specs.Input.{lines, fields, isWellFormed, settingsOf, given, inputOf}
 use Rattle.reading.specs.Answers.{requestOf, part, requestInput, LinesInside, Inside}
 use Rattle.reading.proofs.Parts.{first-take}

@@ -1,18 +1,16 @@
 -- More laws of what a writer leaves in a lent buffer, and of a line written into a part of it.
 -- Assumes nothing.
 use Prim.Native.Nat.{ℕ, _+_, _-_, _≤_}
-use native.Mathlib.Nat.{le-refl}
 use native.Mathlib.Omega.{arith}
 use mathlib.Core.Path.{_≡_, refl, sym, ap, _∙_}
 use mathlib.Core.Bool.{Bool, true, false, cond}
-use mathlib.Core.List.{List, [], _++_, append-assoc, append-nil}
+use mathlib.Core.List.{List, [], _++_}
 use lib.Dec.{leb}
-use lib.ListN.{length, take, drop, length-append, length-drop, drop-of-length-le}
+use lib.ListN.{length, take, drop, length-append}
 use lib.Seq.{drop-drop, drop-append-add, take-at, length-take-le}
 use borrow.Author.Tests.{leb-true}
-use Rattle.counts.specs.Replies.{over}
-use Rattle.listing.specs.Writing.{Written, LineWritten, fitting, overFrom}
-use Rattle.listing.proofs.Buffers.{written-index, written-buffer, part-to-end}
+use Rattle.listing.specs.Writing.{Written, fitting, overFrom}
+use Rattle.listing.proofs.Buffers.{written-index, written-buffer}
 
 fitting-short : (room : ℕ) (bytes : List ℕ) → length (fitting room bytes) ≤ room
 unfolding fitting
@@ -60,24 +58,3 @@ take-written {bytes} {at} {old} {new} {next} w room =
     let long : length (take at old ++ bytes) ≡ next =
     length-append (take at old) bytes ∙ ap (λ (n : ℕ). n + length bytes) (length-take-le at old (omega arith)) ∙ sym (written-index w room) in
     ap (take next) (written-buffer w room) ∙ take-at (take at old ++ bytes) (drop (at + length bytes) old) next long
-
--- a line written from the start of the part from `at` on, put back into the whole
-pub part-written : (bytes : List ℕ) (at : ℕ) (old part : List ℕ) (n : ℕ) → at ≤ length old → LineWritten bytes (take (length old - at) (drop at old)) part n → Written bytes at old (take at old ++ (part ++ drop (length old - at) (drop at old))) (at + n)
-unfolding overFrom
-part-written bytes at old part n h w =
-    let whole : take (length old - at) (drop at old) ≡ drop at old = part-to-end old (length old) at (le-refl (length old)) in
-    let room : length (take (length old - at) (drop at old)) ≡ length old - at = length-take-le (length old - at) (drop at old) (omega (arith, length-drop at old)) in
-    let f : List ℕ = fitting (length old - at) bytes in
-    let same : fitting (length (take (length old - at) (drop at old))) bytes ≡ f = ap (λ (r : ℕ). fitting r bytes) room in
-    let end : at + (length old - at) ≡ length old = omega arith in
-    let none : drop (length old - at) (drop at old) ≡ [] = drop-drop (length old - at) at old ∙ ap (λ (i : ℕ). drop i old) end ∙ drop-of-length-le old (le-refl (length old)) in
-    let written : part ≡ f ++ drop (at + length f) old =
-    w .buffer ∙ ap (λ (l : List ℕ). over l (take (length old - at) (drop at old))) same ∙ ap (λ (l : List ℕ). f ++ drop (length f) l) whole ∙ ap (λ (l : List ℕ). f ++ l) (drop-drop (length f) at old) in
-    record {
-      index = ap (λ (i : ℕ). at + i) (w .number ∙ ap length same);
-      buffer =
-          ap (λ (l : List ℕ). take at old ++ (part ++ l)) none
-          ∙ ap (λ (l : List ℕ). take at old ++ l) (append-nil part)
-          ∙ ap (λ (l : List ℕ). take at old ++ l) written
-          ∙ sym (append-assoc (take at old) f (drop (at + length f) old));
-    }

@@ -12,14 +12,6 @@ use Rattle.report.proofs.Writers.{written-inside}
 use Rattle.report.proofs.Whole.{After, begin-prints, next-prints}
 use Rattle.maplist.proofs.main.Statement.{statement}
 use Rattle.maplist.proofs.main.Tie as tie
-use Rattle.maplist.proofs.main.Reads as reads
-use Rattle.maplist.proofs.main.Lts as lts
-use Rattle.io.proofs.large_buffer.Reads as large-buffer-reads
-use Rattle.io.proofs.read_full.Reads as read-full-reads
-use Rattle.io.proofs.write_all.Reads as write-all-reads
-use Rattle.maplist.proofs.input_bytes.Reads as input-bytes-reads
-use Rattle.report.proofs.beginning.begin.Reads as begin-reads
-use Rattle.report.proofs.filling.fill.Reads as fill-reads
 
 abbrev Inv-loop : tie.InvT-loop
 Inv-loop n positions work₀ out₀ begun left₀ found₀ work out left found =

@@ -17,11 +17,6 @@ use native.Mathlib.Omega.{arith}
 use Prim.Native.Nat.{_≤_}
 use Rattle.start.proofs.begin.Statement.{statement}
 use Rattle.start.proofs.begin.Tie as tie
-use Rattle.start.proofs.begin.Reads as reads
-use Rattle.start.proofs.begin.Lts as lts
-use Rattle.counts.proofs.sort_words.Reads as sort-words-reads
-use Rattle.start.proofs.begin_sorted.Reads as begin-sorted-reads
-use Rattle.start.proofs.blocks.zeros_4096.Reads as zeros-4096-reads
 
 zeros-4096-requires : tie.Need-zeros-4096-requires
 zeros-4096-requires c κs = search needs

@@ -12,12 +12,6 @@ use native.Mathlib.Omega.{arith}
 use Prim.Native.Nat.{_≤_}
 use Rattle.start.proofs.begin_sorted.Statement.{statement}
 use Rattle.start.proofs.begin_sorted.Tie as tie
-use Rattle.start.proofs.begin_sorted.Reads as reads
-use Rattle.start.proofs.begin_sorted.Lts as lts
-use Rattle.start.proofs.blocks.zeros_2048.Reads as zeros-2048-reads
-use Rattle.start.proofs.hits.collect.Reads as collect-reads
-use Rattle.start.proofs.put_session.Reads as put-session-reads
-use Rattle.start.proofs.threshold.biased.Reads as biased-reads
 
 -- there is room for each hit
 index-room : (c : tie.Else1) → c .before .before .before .collect .result ≤ length (c .before .before .before .collect .last .1 .1 .0)

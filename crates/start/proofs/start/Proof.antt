@@ -13,10 +13,6 @@ use mathlib.Core.List.{[]}
 use mathlib.Core.Path.{_≡_, sym, _∙_, subst}
 use Rattle.start.proofs.start.Statement.{statement}
 use Rattle.start.proofs.start.Tie as tie
-use Rattle.start.proofs.start.Reads as reads
-use Rattle.start.proofs.start.Lts as lts
-use Rattle.start.proofs.bad_weight.Reads as bad-weight-reads
-use Rattle.start.proofs.begin.Reads as begin-reads
 
 bad-weight-requires : tie.Need-bad-weight-requires
 bad-weight-requires c κs = search needs

@@ -1,5 +1,5 @@
 -- `decide::decided` meets its contract: each answer follows from the tests that led to it.
-use Prim.Native.Nat.{ℕ, _+_, _-_}
+use Prim.Native.Nat.{_+_, _-_}
 use native.Mathlib.Omega.{arith}
 use mathlib.Core.Path.{_≡_, sym, ap, _∙_}
 use mathlib.Core.Bool.{true, false}
@@ -9,34 +9,24 @@ use mir.Facts.{toZ-ofZ}
 use mir.Syntax.{w32}
 use mir.Val.{toZ, ofZ}
 use borrow.Author.Needs.{needs, sfits-of}
-use borrow.Author.Tests.{not-true, not-false}
 use Rattle.mappings.specs.Bias.{unbiased}
 use Rattle.mappings.specs.Score.{lengthOf, linear}
 use Rattle.mapper.specs.declared.answer.Stepped.the-variants.{Found}
 use Rattle.mapper.specs.Deciding.{isScorable, candidateScore, decides}
 use Rattle.mapper.proofs.Deciding.{Scorable, scorable-says, decided-found, decided-spent}
-use Rattle.mapper.proofs.Signed.{below-not-atMost, not-below-atMost}
 use Rattle.mapper.proofs.decide.decided.Statement.{statement}
 use Rattle.mapper.proofs.decide.decided.Tie as tie
 
 is-scorable-requires : tie.Need-is-scorable-requires
 is-scorable-requires c κs = search needs
 
-returns : tie.Need-returns
-unfolding decides
-returns c =
-    let d = c .before in
-    let args = d .before .args in
-    let no : isScorable (args .terms) (args .a) (args .b) (args .m) ≡ false = sym (d .is-scorable .ensures) ∙ not-true _ (c .if1 .taken) in
-    sym (decided-spent (args .terms) (args .a) (args .b) (args .m) (args .cells) (rw no))
-
 -- `is_scorable` has said so
-module _ (d : tie.Else1) where
+module _ (d : tie.Then1) where
   abbrev entry : tie.Start
   entry = d .before .before
 
   yes : isScorable (entry .args .terms) (entry .args .a) (entry .args .b) (entry .args .m) ≡ true
-  yes = sym (d .before .is-scorable .ensures) ∙ not-false _ (d .if1 .left)
+  yes = sym (d .before .is-scorable .ensures) ∙ d .if1 .taken
 
   counts : Scorable (entry .args .terms) (entry .args .a) (entry .args .b) (entry .args .m)
   counts = scorable-says _ _ _ _ yes
@@ -48,9 +38,9 @@ module _ (d : tie.Else1) where
   threshold = unbiased (entry .args .terms .threshold)
 
   -- the score alone is left to decide
-  last-test : decides (entry .args .terms) (entry .args .a) (entry .args .b) (entry .args .m) ≡ leZ threshold score
+  last : decides (entry .args .terms) (entry .args .a) (entry .args .b) (entry .args .m) ≡ leZ threshold score
   unfolding decides
-  last-test = rw yes
+  last = rw yes
 
 sub-score : tie.Need-sub-score
 sub-score c = counts c .ordered
@@ -72,7 +62,7 @@ module _ (u : tie.After-unbiased) where
   abbrev scored : tie.After-score
   scored = u .before
 
-  abbrev passed : tie.Else1
+  abbrev passed : tie.Then1
   passed = scored .before
 
   score-read : toZ w32 (ofZ w32 (scored .score .result)) ≡ score passed
@@ -86,30 +76,37 @@ module _ (u : tie.After-unbiased) where
   threshold-read : toZ w32 (ofZ w32 (u .unbiased .result)) ≡ threshold passed
   threshold-read = toZ-ofZ {w = w32} (sfits-of (u .unbiased .ok)) ∙ u .unbiased .ensures
 
+returns : tie.Need-returns
+returns c =
+    let u = c .before in
+    let d = passed u in
+    let args = entry d .args in
+    let enough : leZ (threshold d) (score d) ≡ true = rw (threshold-read u, score-read u) at (c .if2 .taken) in
+    ap (λ (z : ℤ). Found (args .a) (args .b) z (args .m) (args .cells)) (score-read u) ∙ sym (decided-found _ _ _ _ _ (last d ∙ enough))
+
 returns-2 : tie.Need-returns-2
 returns-2 c =
     let u = c .before in
     let d = passed u in
-    let low = below-not-atMost (score d) (threshold d) (rw (score-read u, threshold-read u) at (c .if2 .taken)) in
-    sym (decided-spent _ _ _ _ _ (last-test d ∙ low))
+    let low : leZ (threshold d) (score d) ≡ false = rw (threshold-read u, score-read u) at (c .if2 .left) in
+    sym (decided-spent _ _ _ _ _ (last d ∙ low))
 
 returns-3 : tie.Need-returns-3
+unfolding decides
 returns-3 c =
-    let u = c .before in
-    let d = passed u in
-    let args = entry d .args in
-    let high = not-below-atMost (score d) (threshold d) (rw (score-read u, threshold-read u) at (c .if2 .left)) in
-    ap (λ (z : ℤ). Found (args .a) (args .b) z (args .m) (args .cells)) (score-read u) ∙ sym (decided-found _ _ _ _ _ (last-test d ∙ high))
+    let args = c .before .before .args in
+    let no : isScorable (args .terms) (args .a) (args .b) (args .m) ≡ false = sym (c .before .is-scorable .ensures) ∙ c .if1 .left in
+    sym (decided-spent (args .terms) (args .a) (args .b) (args .m) (args .cells) (rw no))
 
 pub decided-spec : {M : Type 1} → statement M
 decided-spec =
     tie.close
     (tie.spec
     is-scorable-requires
-    returns
     sub-score
     add-score
     score-requires
     unbiased-requires
+    returns
     returns-2
     returns-3)

@@ -1,11 +1,13 @@
 -- `decide::is_scorable` meets its contract: each answer follows from the tests that led to it.
 use Prim.Native.Nat.{_+_, _-_}
 use native.Mathlib.Omega.{arith}
-use mathlib.Core.Path.{_≡_}
+use mathlib.Core.Path.{_≡_, sym, ap, _∙_}
+use lib.Dec.{leb}
 use borrow.Author.Needs.{needs}
 use borrow.Author.Tests.{le-leb, lt-leb, lt-ltb, le-ltb}
 use Rattle.mappings.specs.Score.{lengthOf}
 use Rattle.mapper.specs.Deciding.{isScorable}
+use Rattle.mapper.proofs.Deciding.{last-test}
 use Rattle.mapper.proofs.decide.is_scorable.Statement.{statement}
 use Rattle.mapper.proofs.decide.is_scorable.Tie as tie
 
@@ -69,21 +71,15 @@ add-result : tie.Need-add-result
 add-result c = search needs
 
 returns-7 : tie.Need-returns-7
-unfolding isScorable lengthOf
+unfolding lengthOf
 returns-7 c =
     let e = c .before .before in
     let d = e .before .before in
     let args = entry d .args in
-    let len : args .b - args .a + 1 ≡ lengthOf (args .a) (args .b) = omega arith in
-    simp (
-      le-leb _ _ (first (second d) .if1 .left),
-      le-leb _ _ (second d .if2 .left),
-      le-leb _ _ (d .if3 .left),
-      le-leb _ _ (e .before .if4 .left),
-      lt-ltb _ _ (e .if5 .left),
-      le-leb _ _ (c .if6 .left),
-    )
-    (rw len)
+    let len : args .b - args .a + 1 ≡ lengthOf (args .a) (args .b) = omega (arith, e .before .if4 .left) in
+    let f = first (second d) in
+    ap (leb (args .m)) len
+    ∙ sym (last-test _ _ _ _ (f .if1 .left) (second d .if2 .left) (d .if3 .left) (e .before .if4 .left) (e .if5 .left) (c .if6 .left))
 
 pub is-scorable-spec : {M : Type 1} → statement M
 is-scorable-spec =

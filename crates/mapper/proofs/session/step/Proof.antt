@@ -12,7 +12,7 @@ use Rattle.mapper.specs.Step.{badWords}
 use Rattle.mapper.specs.Walking.{Walk, termsIn, walkOn}
 use Rattle.mapper.specs.Promise.{StepPromise}
 use Rattle.mapper.proofs.StepPromise.{few-promise, bad-promise, lost-promise, walk-promise}
-use Rattle.mapper.proofs.StepTests.{GoodWords, good-words, terms-within, one-inside}
+use Rattle.mapper.proofs.StepTests.{GoodWords, good-words, one-inside}
 use Rattle.mapper.proofs.session.step.Statement.{statement}
 use Rattle.mapper.proofs.session.step.Tie as tie
 
@@ -31,12 +31,9 @@ columns c = c .before .before
 abbrev good : tie.After-wide2 → tie.Else2
 good c = columns c .before .before
 
--- the row is read, m, and what the scores share
-abbrev shares : tie.After-one-inside → tie.After-slice-known5
-shares c = c .before .before .before
-
+-- the row is read, and m
 abbrev row : tie.After-one-inside → tie.After-wide3
-row c = shares c .before
+row c = c .before .before
 
 abbrev place : tie.After-one-inside → tie.Else3
 place c = row c .before .before
@@ -91,9 +88,6 @@ wide-requires-3 c κs = search needs
 slice-read-m : tie.Need-slice-read-m
 slice-read-m c = search needs
 
-terms-of-requires : tie.Need-terms-of-requires
-terms-of-requires c κs = search needs
-
 one-inside-requires : tie.Need-one-inside-requires
 one-inside-requires c κs = search needs
 
@@ -112,22 +106,22 @@ module _ (d : tie.After-one-inside) where
   within : GoodWords work
   within = good-words work (not-bad (good hits))
 
+  small-weights : (getD work 1 0 ≤ 1000) × (getD work 2 0 ≤ 1000)
+  small-weights = (within .small-u, within .small-v)
+
   -- the place lies in a column
   columns-within : columns hits .wide .result ≤ 2048
   columns-within = omega (arith, place d .if3 .left, hits .wide2 .ensures .0, within .few-hits)
 
-  terms-small : (d .before .terms-of .result .u ≤ 1000) × (d .before .terms-of .result .v ≤ 1000)
-  terms-small = terms-within work within (d .before .terms-of .result) (d .before .terms-of .ensures)
-
   -- a walk from the place in the words, with the budget, keeps the promise
   walked : (cells : ℕ) → cells ≡ start .args .budget → (answer : Stepped) (after : List ℕ)
-      → answer ≡ walkOn (d .before .terms-of .result) cells (columns hits .wide .result) (row d .wide3 .result) (getD work 9 0) cells work .answer
-      → after ≡ walkOn (d .before .terms-of .result) cells (columns hits .wide .result) (row d .wide3 .result) (getD work 9 0) cells work .words
+      → answer ≡ walkOn (termsIn work) cells (columns hits .wide .result) (row d .wide3 .result) (getD work 9 0) cells work .answer
+      → after ≡ walkOn (termsIn work) cells (columns hits .wide .result) (row d .wide3 .result) (getD work 9 0) cells work .words
       → StepPromise work (start .args .budget) answer after
   walked cells n answer after a b =
-      let same : walkOn (d .before .terms-of .result) cells (columns hits .wide .result) (row d .wide3 .result) (getD work 9 0) cells work
+      let same : walkOn (termsIn work) cells (columns hits .wide .result) (row d .wide3 .result) (getD work 9 0) cells work
       ≡ walkOn (termsIn work) (start .args .budget) (getD work 7 0) (getD work 8 0) (getD work 9 0) (start .args .budget) work =
-      λ i. walkOn (d .before .terms-of .ensures i) (n i) (columns hits .wide .ensures .0 i) (row d .wide3 .ensures .0 i) (getD work 9 0) (n i) work
+      λ i. walkOn (termsIn work) (n i) (columns hits .wide .ensures .0 i) (row d .wide3 .ensures .0 i) (getD work 9 0) (n i) work
       in
       subst₂ (StepPromise work (start .args .budget)) (sym (a ∙ ap (λ (w : Walk). w .answer) same)) (sym (b ∙ ap (λ (w : Walk). w .words) same))
       (walk-promise work (start .args .budget) (enough (good hits .before) .if1 .left) (not-bad (good hits)))
@@ -141,7 +135,7 @@ inside e =
 walk-one-requires : tie.Need-walk-one-requires
 walk-one-requires c κs =
     let d = c .before .before in
-    ((enough (good (hits d) .before) .if1 .left, columns-within d, inside (c .before) .1), terms-small d)
+    ((enough (good (hits d) .before) .if1 .left, columns-within d, inside (c .before) .1), small-weights d)
 
 same-length-3 : tie.Need-same-length-3
 same-length-3 c = search needs
@@ -169,7 +163,7 @@ walk-requires : tie.Need-walk-requires
 walk-requires c κs =
     let e = c .before .before in
     let d = e .before .before in
-    ((enough (good (hits d) .before) .if1 .left, c .wide4 .ensures .1, columns-within d, e .if5 .left), terms-small d)
+    ((enough (good (hits d) .before) .if1 .left, c .wide4 .ensures .1, columns-within d, e .if5 .left), small-weights d)
 
 same-length-5 : tie.Need-same-length-5
 same-length-5 c = search needs
@@ -198,7 +192,6 @@ step-spec =
     slice-read-wide-3
     wide-requires-3
     slice-read-m
-    terms-of-requires
     one-inside-requires
     walk-one-requires
     same-length-3

@@ -1,7 +1,8 @@
 -- `walk::found` meets its contract.
-use mathlib.Core.Path.{_∙_}
+use mathlib.Core.Path.{ap, _∙_}
 use Rattle.mapper.proofs.Walking.{settled-within}
-use Rattle.mapper.specs.Walking.{foundWalk, settled}
+use Rattle.mapper.specs.Walking.{foundWalk, settled, saved}
+use Rattle.mapper.specs.declared.place.Place.{Place}
 use native.Mathlib.Omega.{arith}
 use borrow.Author.Needs.{needs}
 use Rattle.mapper.proofs.walk.found.Statement.{statement}
@@ -62,9 +63,11 @@ same-length c = search needs
 returns : tie.Need-returns
 unfolding foundWalk
 returns c =
-    let s = c .before .before .before in
-    let settles = s .before .before in
-    (c .decided .ensures, s .save .ensures ∙ rw (settles .settled .ensures, settles .before .lowered .ensures))
+    let saves = c .before .before .before in
+    let settles = saves .before .before in
+    let args = entry (settles .before) .args in
+    let at = settles .settled .ensures ∙ ap (settled (args .work .now) (args .columns) (args .p .row)) (settles .before .lowered .ensures) in
+    (c .decided .ensures, saves .save .ensures ∙ ap (λ (q : Place). saved (args .work .now) q (args .cells)) at)
 
 pub found-spec : {M : Type 1} → statement M
 found-spec =

@@ -5,10 +5,6 @@ use Rattle.opening.proofs.Requests.{opens-malformed, lines-inside, open
 use borrow.Author.Needs.{needs, sfits-of}
 use Rattle.opening.proofs.calls.open.Statement.{statement}
 use Rattle.opening.proofs.calls.open.Tie as tie
-use Rattle.opening.proofs.calls.open.Reads as reads
-use Rattle.opening.proofs.calls.open.Lts as lts
-use Rattle.reading.proofs.read_input.Reads as read-input-reads
-use Rattle.opening.proofs.calls.open_lines.Reads as open-lines-reads
 
 -- src/calls.rt:110:11
 read-input-requires : tie.Need-read-input-requires

@@ -16,12 +16,6 @@ use Rattle.opening.proofs.Letters.{sketch-number, sketch-accepts, sketc
 use borrow.Author.Needs.{needs}
 use Rattle.opening.proofs.calls.open_lines.Statement.{statement}
 use Rattle.opening.proofs.calls.open_lines.Tie as tie
-use Rattle.opening.proofs.calls.open_lines.Reads as reads
-use Rattle.opening.proofs.calls.open_lines.Lts as lts
-use Rattle.answers.proofs.of_sketch.Reads as of-sketch-reads
-use Rattle.opening.proofs.calls.open_sketches.Reads as open-sketches-reads
-use Rattle.opening.proofs.calls.zeros_4096.Reads as zeros-4096-reads
-use Rattle.sketch.proofs.sketch.Reads as sketch-reads
 
 -- the text's sketch in its buffers, and its answer as numbers
 module _ (c : tie.After-of-sketch) where

@@ -21,13 +21,6 @@ use Rattle.opening.proofs.Sketches.{strike-refused, inside, start-refus
 use borrow.Author.Needs.{needs}
 use Rattle.opening.proofs.calls.open_sketches.Statement.{statement}
 use Rattle.opening.proofs.calls.open_sketches.Tie as tie
-use Rattle.opening.proofs.calls.open_sketches.Reads as reads
-use Rattle.opening.proofs.calls.open_sketches.Lts as lts
-use Rattle.answers.proofs.of_start.Reads as of-start-reads
-use Rattle.answers.proofs.of_strike.Reads as of-strike-reads
-use Rattle.opening.proofs.calls.zeros_4096.Reads as zeros-4096-reads
-use Rattle.start.proofs.start.Reads as start-reads
-use Rattle.strike.proofs.strike.Reads as strike-reads
 
 -- strike's answer as numbers, and what it says
 module _ (c : tie.After-of-strike) where

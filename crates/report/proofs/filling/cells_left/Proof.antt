@@ -12,9 +12,6 @@ use Rattle.report.specs.Pieces.{cellsLeft}
 use borrow.Author.Needs.{needs}
 use Rattle.report.proofs.filling.cells_left.Statement.{statement}
 use Rattle.report.proofs.filling.cells_left.Tie as tie
-use Rattle.report.proofs.filling.cells_left.Reads as reads
-use Rattle.report.proofs.filling.cells_left.Lts as lts
-use Rattle.layout.proofs.wide.Reads as wide-reads
 
 module _ (work : List ℕ) where
   short : length work < 16384 → 0 ≡ cellsLeft work

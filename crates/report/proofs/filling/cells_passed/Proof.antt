@@ -4,8 +4,6 @@ use lib.ListN.{List·getD-eq-default}
 use borrow.Author.Needs.{needs}
 use Rattle.report.proofs.filling.cells_passed.Statement.{statement}
 use Rattle.report.proofs.filling.cells_passed.Tie as tie
-use Rattle.report.proofs.filling.cells_passed.Reads as reads
-use Rattle.report.proofs.filling.cells_passed.Lts as lts
 
 -- src/filling.rt:63:9
 returns : tie.Need-returns

@@ -17,14 +17,6 @@ use mir.Facts.{toZ-ofZ}
 use borrow.Author.Needs.{needs, sfits-of}
 use Rattle.report.proofs.filling.fill.Statement.{statement}
 use Rattle.report.proofs.filling.fill.Tie as tie
-use Rattle.report.proofs.filling.fill.Reads as reads
-use Rattle.report.proofs.filling.fill.Lts as lts
-use Rattle.mapper.proofs.session.step.Reads as step-reads
-use Rattle.report.proofs.filling.cells_left.Reads as cells-left-reads
-use Rattle.report.proofs.filling.cells_passed.Reads as cells-passed-reads
-use Rattle.report.proofs.filling.put_mapping.Reads as put-mapping-reads
-use Rattle.report.proofs.filling.stopped.Reads as stopped-reads
-use Rattle.report.proofs.lines.put_last.Reads as put-last-reads
 
 abbrev Inv-loop : tie.InvT-loop
 Inv-loop work₀ positions k size found out₀ at₀ count₀ work out at count = (at ≤ length out) × (length work ≡ length work₀) × (length out ≡ length out₀) × Going work₀ positions k size found out₀ out work at count

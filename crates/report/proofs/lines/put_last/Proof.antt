@@ -14,11 +14,6 @@ use Rattle.report.specs.Output.{lastLine}
 use borrow.Author.Needs.{needs}
 use Rattle.report.proofs.lines.put_last.Statement.{statement}
 use Rattle.report.proofs.lines.put_last.Tie as tie
-use Rattle.report.proofs.lines.put_last.Reads as reads
-use Rattle.report.proofs.lines.put_last.Lts as lts
-use Rattle.listing.proofs.writing.put_byte.Reads as put-byte-reads
-use Rattle.listing.proofs.writing.put_bytes.Reads as put-bytes-reads
-use Rattle.listing.proofs.writing.put_decimal.Reads as put-decimal-reads
 
 module _ (found cells : ℕ) {t0 t1 t2 t3 t4 t5 : List ℕ} {n1 n2 n3 n4 n5 : ℕ} (room : length t0 ≡ 64) where
   pieces : Written (102 ∷ 111 ∷ 117 ∷ 110 ∷ 100 ∷ 32 ∷ []) 0 t0 t1 n1 → Written (decimal found) n1 t1 t2 n2

@@ -14,11 +14,6 @@ use Rattle.report.specs.Output.{refusedLine}
 use borrow.Author.Needs.{needs}
 use Rattle.report.proofs.lines.put_refused.Statement.{statement}
 use Rattle.report.proofs.lines.put_refused.Tie as tie
-use Rattle.report.proofs.lines.put_refused.Reads as reads
-use Rattle.report.proofs.lines.put_refused.Lts as lts
-use Rattle.listing.proofs.writing.put_byte.Reads as put-byte-reads
-use Rattle.listing.proofs.writing.put_bytes.Reads as put-bytes-reads
-use Rattle.listing.proofs.writing.put_decimal.Reads as put-decimal-reads
 
 module _ (number : ℕ) {t0 t1 t2 t3 : List ℕ} {n1 n2 n3 : ℕ} (room : length t0 ≡ 32) where
   pieces : Written (114 ∷ 101 ∷ 102 ∷ 117 ∷ 115 ∷ 101 ∷ 100 ∷ 32 ∷ []) 0 t0 t1 n1 → Written (decimal number) n1 t1 t2 n2 → Written (lineFeed ∷ []) n2 t2 t3 n3 → Written (refusedLine number) 0 t0 t3 n3

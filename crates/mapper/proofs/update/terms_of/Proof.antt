@@ -1,9 +1,9 @@
--- `session::terms_of` meets its contract: each field is read from its word.
+-- `update::terms_of` meets its contract: each field is read from its word.
 use mathlib.Core.Path.{refl}
 use borrow.Author.Needs.{needs}
 use Rattle.mapper.specs.Walking.{termsIn}
-use Rattle.mapper.proofs.session.terms_of.Statement.{statement}
-use Rattle.mapper.proofs.session.terms_of.Tie as tie
+use Rattle.mapper.proofs.update.terms_of.Statement.{statement}
+use Rattle.mapper.proofs.update.terms_of.Tie as tie
 
 shared-slice-read-t3 : tie.Need-shared-slice-read-t3
 shared-slice-read-t3 c = search needs
