@@ -28,7 +28,7 @@ pub(crate) fn header_k(x: u32) -> u32
 pub(crate) fn header_w(x: u32) -> u32
     ensures { λ r. ⌜ r ≡ headerW x ⌝ }
 {
-    x / store::W_UNIT
+    x / store::W_UNIT % store::W_SPAN
 }
 
 pub(crate) fn is_header(x: u32) -> bool

@@ -21,8 +21,10 @@ loads stores = map (λ (words : List ℕ). loadReply words 2 2) stores
 pub record LoadExamples : Type 0 where
   -- 12. No word 0; k 0; a kind that is not 0
   pub header-bad : loads ([] ∷ (0x40 ∷ 0xC0000000 ∷ []) ∷ (0x40000041 ∷ 0xC0000000 ∷ []) ∷ []) ≡ refused 12 (0 ∷ []) ∷ refused 12 (0 ∷ []) ∷ refused 12 (0 ∷ []) ∷ []
-  -- k 16; w 65; w 0; bit 12
+  -- k 16; w 65; w 0; k 1 and w 2 with bit 12, into which a wider w would spill
   pub header-high : loads ((0x50 ∷ 0xC0000000 ∷ []) ∷ (0x821 ∷ 0xC0000000 ∷ []) ∷ (0x01 ∷ 0xC0000000 ∷ []) ∷ (0x1041 ∷ 0xC0000000 ∷ []) ∷ []) ≡ refused 12 (0 ∷ []) ∷ refused 12 (0 ∷ []) ∷ refused 12 (0 ∷ []) ∷ refused 12 (0 ∷ []) ∷ []
+  -- the same with the highest bit below the kind
+  pub header-spilt : loads ((0x20000041 ∷ 0xC0000000 ∷ []) ∷ []) ≡ refused 12 (0 ∷ []) ∷ []
   -- 13. A position where a code is due; a code of 4 with k 1; a position of 1,048,576
   pub word-bad : loads ((0x41 ∷ 0x80000000 ∷ []) ∷ (0x41 ∷ 0x40000004 ∷ []) ∷ (0x41 ∷ 0x40000000 ∷ 0x80100000 ∷ []) ∷ []) ≡ refused 13 (1 ∷ []) ∷ refused 13 (1 ∷ []) ∷ refused 13 (2 ∷ []) ∷ []
   -- the number of entries where a position is due
@@ -46,6 +48,7 @@ load-examples =
     record {
       header-bad = refl;
       header-high = refl;
+      header-spilt = refl;
       word-bad = refl;
       kind-undue = refl;
       position-twice = refl;

@@ -47,7 +47,7 @@ stored-loads k w cs ps room s codes₀ positions₀ c-room p-room =
     record {
       reply =
           load-accepts (stored k w es) (length codes₀) (length positions₀) es loads
-          ∙ rw (storeK-stored k w (ks .1) es, storeW-stored k w (ks .1) es, size);
+          ∙ rw (storeK-stored k w (ks .1) es, storeW-stored k w (ks .1) (ws .1) es, size);
       codes-back = fills .0 ∙ ap (λ (l : List ℕ). over l codes₀) (codes-entries cs ps (s .paired));
       positions-back = fills .1 ∙ ap (λ (l : List ℕ). over l positions₀) (positions-entries cs ps (s .paired));
     }

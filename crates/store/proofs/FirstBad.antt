@@ -129,7 +129,7 @@ pub record FirstBad (words : List ℕ) (number i : ℕ) : Type 0 where
   -- no word before it is bad
   pub before : 1 ≤ i → NothingBad i (judge (take i words))
 
-first-bad : (words : List ℕ) (number i : ℕ) → judge words ≡ bad number i → FirstBad words number i
+pub first-bad : (words : List ℕ) (number i : ℕ) → judge words ≡ bad number i → FirstBad words number i
 unfolding judge
 first-bad [] number i g =
     let here : 0 ≡ i = cc in

@@ -15,7 +15,7 @@ use Rattle.minimizers.specs.Kmers.{Entry, codes, positions}
 use Rattle.store.specs.Words.{kindUnit, kind, content, word, headerK, isHeader, isCode, isPosition, isCodeWord, isPositionWord}
 use Rattle.store.specs.Save.{entryWords, stored, storable}
 use Rattle.store.specs.Load.{Judged, good, bad, withEntry, lastWord, judgeFrom, judge, storeK, storeW}
-use Rattle.store.proofs.WordLaws.{kind-word, content-word, word-content, code-fits, isPosition-range, isHeader-holds, header-whole, header-isHeader, headerK-header, headerW-header}
+use Rattle.store.proofs.WordLaws.{kind-word, content-word, word-content, code-fits, isPosition-range, isHeader-holds, header-isHeader, headerK-header, headerW-header}
 use Rattle.store.proofs.Entries.{storable-parts, storable-length, storable-at, entryWords-at, length-stored}
 use Rattle.store.proofs.Judging.{judge-last, judge-entry, Way, run-out, last, more, miscount, first, half, second, entry, way}
 
@@ -50,9 +50,9 @@ module _ (k w : ℕ) (k-high : k ≤ kLimit) where
   unfolding storeK stored
   storeK-stored es = headerK-header k w k-high
 
-  pub storeW-stored : (es : List Entry) → storeW (stored k w es) ≡ w
+  pub storeW-stored : w ≤ wLimit → (es : List Entry) → storeW (stored k w es) ≡ w
   unfolding storeW stored
-  storeW-stored es = headerW-header k w k-high
+  storeW-stored w-high es = headerW-header k w k-high w-high
 
 pub judge-stored : (k w : ℕ) (es : List Entry) → 1 ≤ k → k ≤ kLimit → 1 ≤ w → w ≤ wLimit → storable k 0 es ≡ true → judge (stored k w es) ≡ good es
 unfolding judge stored
@@ -133,7 +133,7 @@ judge-good (x ∷ rest) es g = go (decided (isHeader x))
         let holds = way-holds (way (headerK x) 1 0 0 rest) es judged in
         let count : 0 + length es ≡ length es = omega arith in
         record {
-          whole = ap₂ (λ (y : ℕ) (l : List ℕ). y ∷ l) (header-whole x) (holds .words ∙ ap (λ (m : ℕ). entryWords m es) count);
+          whole = ap₂ (λ (y : ℕ) (l : List ℕ). y ∷ l) (ranges .whole) (holds .words ∙ ap (λ (m : ℕ). entryWords m es) count);
           k-low = ranges .k-low;
           k-high = ranges .k-high;
           w-low = ranges .w-low;

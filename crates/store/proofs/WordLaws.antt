@@ -6,7 +6,7 @@ use native.Mathlib.Omega.{arith}
 use mathlib.Core.Path.{_≡_}
 use mathlib.Core.Bool.{true, not, _&&_}
 use lib.Dec.{eqb, ltb, leb, lit<}
-use borrow.Author.Tests.{lt-ltb, eq-eqb, ltb-true, leb-true, not-true}
+use borrow.Author.Tests.{lt-ltb, eq-eqb, ltb-true, leb-true, not-true, eqb-true}
 use Rattle.counts.proofs.Lists.{and-both, and-left, and-right}
 use Rattle.minimizers.specs.Limits.{kLimit, wLimit, letterLimit, outside}
 use Rattle.minimizers.proofs.Ranges.{inside, inside-range}
@@ -50,13 +50,14 @@ pub headerK-header : (k w : ℕ) → k ≤ kLimit → headerK (header k w) ≡ k
 unfolding header word headerK
 headerK-header k w h = omega arith
 
-pub headerW-header : (k w : ℕ) → k ≤ kLimit → headerW (header k w) ≡ w
+pub headerW-header : (k w : ℕ) → k ≤ kLimit → w ≤ wLimit → headerW (header k w) ≡ w
 unfolding header word headerW
-headerW-header k w h = omega arith
+headerW-header k w h l = omega arith
 
-pub header-whole : (x : ℕ) → x ≡ header (headerK x) (headerW x)
-unfolding header word headerK headerW
-header-whole x = omega arith
+-- a word with no bit from 12 on is k and w alone
+header-whole : (x : ℕ) → kind x ≡ 0 → content x < 2 ^ 12 → x ≡ header (headerK x) (headerW x)
+unfolding kind content header word headerK headerW
+header-whole x e l = omega arith
 
 pub header-isHeader : (k w : ℕ) → 1 ≤ k → k ≤ kLimit → 1 ≤ w → w ≤ wLimit → isHeader (header k w) ≡ true
 unfolding isHeader header
@@ -68,7 +69,7 @@ header-isHeader k w k₁ k₂ w₁ w₂ =
     (eq-eqb (kind (header k w)) 0 (kind-word 0 (w * 2 ^ 5 + k) (omega arith)))
     (rw (content-word 0 (w * 2 ^ 5 + k) (omega arith)) (lt-ltb (w * 2 ^ 5 + k) (2 ^ 12) small)))
     (rw (headerK-header k w k₂, inside 1 kLimit k k₁ k₂)))
-    (rw (headerW-header k w k₂, inside 1 wLimit w w₁ w₂))
+    (rw (headerW-header k w k₂ w₂, inside 1 wLimit w w₁ w₂))
 
 -- the ranges of a word 0
 pub record Header (x : ℕ) : Type 0 where
@@ -76,6 +77,7 @@ pub record Header (x : ℕ) : Type 0 where
   pub k-high : headerK x ≤ kLimit
   pub w-low : 1 ≤ headerW x
   pub w-high : headerW x ≤ wLimit
+  pub whole : x ≡ header (headerK x) (headerW x)
 
 pub isHeader-holds : (x : ℕ) → isHeader x ≡ true → Header x
 unfolding isHeader
@@ -85,4 +87,7 @@ isHeader-holds x h =
     let front = eqb (kind x) 0 && ltb (content x) (2 ^ 12) in
     let ks = inside-range 1 kLimit (headerK x) (not-true outK (and-right front (not outK) (and-left (front && not outK) (not outW) h))) in
     let ws = inside-range 1 wLimit (headerW x) (not-true outW (and-right (front && not outK) (not outW) h)) in
-    record { k-low = ks .0; k-high = ks .1; w-low = ws .0; w-high = ws .1 }
+    let bits = and-left front (not outK) (and-left (front && not outK) (not outW) h) in
+    let kind-is = eqb-true (kind x) 0 (and-left (eqb (kind x) 0) (ltb (content x) (2 ^ 12)) bits) in
+    let low = ltb-true (content x) (2 ^ 12) (and-right (eqb (kind x) 0) (ltb (content x) (2 ^ 12)) bits) in
+    record { k-low = ks .0; k-high = ks .1; w-low = ws .0; w-high = ws .1; whole = header-whole x kind-is low }

@@ -27,7 +27,7 @@ unfoldable pub headerK : ℕ → ℕ
 headerK x = x % 2 ^ 5
 
 unfoldable pub headerW : ℕ → ℕ
-headerW x = x / 2 ^ 5
+headerW x = x / 2 ^ 5 % 2 ^ 7
 
 -- laid out as word 0 is, with k 1–15 and w 1–64
 unfoldable pub isHeader : ℕ → Bool

@@ -11,6 +11,9 @@ pub const KIND_UNIT: u32 = 1073741824;
 // What w multiplies in word 0: bit 5.
 pub const W_UNIT: u32 = 32;
 
+// One more than the highest w that its seven bits can hold.
+pub const W_SPAN: u32 = 128;
+
 // What `save` answers: the number of words written, or why nothing was.
 pub enum Saved {
     Words(usize),
