@@ -30,7 +30,8 @@ foundAt row m part = record { answer = record { found = true; row = row; m = m }
 abbrev pub tested : Line → ℕ → ℕ → ℕ → ℕ → Bool
 tested line s best one i = candidateTest (line .threshold) s best one (line .back) i
 
-module _ (line : Line) (to i m before : ℕ) (part : List ℕ) (s one greatest best : ℕ) (h : i < to) (at : AtCell line i m before part s one greatest best) where
+module _ (line : Line) (to i m before : ℕ) (part : List ℕ) (s one greatest best : ℕ) (h : i < to)
+    (at : AtCell line i m before part s one greatest best) where
   pub best-with : bestWith part i before (lineScore line m (getD part i 0)) ≡ best
   unfolding bestWith
   best-with = sym (at .best-is ∙ ap (max before) (at .greatest-is ∙ ap (max (getD part (4096 + i) 0)) (at .score)))

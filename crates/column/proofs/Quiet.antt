@@ -23,7 +23,8 @@ use Rattle.column.proofs.Passing.{AtCell, left-suc, foundAt, tested, be
 abbrev pausedAt : ℕ → ℕ → ℕ → ℕ → ℕ → List ℕ → Pause
 pausedAt i m best s reach part = record { answer = record { row = i; m = m; best = best; score = s; reach = reach }; part = part }
 
-module _ (line : Line) (to i m before : ℕ) (part : List ℕ) (s one greatest best : ℕ) (h : i < to) (at : AtCell line i m before part s one greatest best) where
+module _ (line : Line) (to i m before : ℕ) (part : List ℕ) (s one greatest best : ℕ) (h : i < to)
+    (at : AtCell line i m before part s one greatest best) where
   unrolled : quietRows line (to - i) i m before part
       ≡ cond (leb (line .threshold) s) (pausedAt (suc i) (lowered m one) best s (getD part (2048 + i) 0) (set part (4096 + i) best))
       (quietRows line (to - (i + 1)) (suc i) (lowered m one) best (set part (4096 + i) best))

@@ -42,7 +42,8 @@ pub kept-short : (bytes : List ℕ) (at : ℕ) (old : List ℕ) → length old -
 kept-short bytes at old h = kept bytes at old (fitting-none (length old - at) bytes h)
 
 -- all is written
-pub wrote : (bytes : List ℕ) (at : ℕ) (old : List ℕ) → at + length bytes ≤ length old → Written bytes at old (overFrom at bytes old) (at + length bytes)
+pub wrote : (bytes : List ℕ) (at : ℕ) (old : List ℕ) → at + length bytes ≤ length old
+    → Written bytes at old (overFrom at bytes old) (at + length bytes)
 wrote bytes at old h =
     let e : fitting (length old - at) bytes ≡ bytes = fitting-all (length old - at) bytes (omega arith) in
     record { index = rw e; buffer = rw e }
@@ -87,7 +88,8 @@ module _ (at : ℕ) (old : List ℕ) where
       ∙ ap (λ (l : List ℕ). l ++ drop (at + length (a ++ b)) old) (append-assoc (take at old) a b)
 
 -- two writers one after the other, with room for both, are one
-pub joined : {a b : List ℕ} {at : ℕ} {s t u : List ℕ} {n k : ℕ} → Written a at s t n → Written b n t u k → at + length (a ++ b) ≤ length s → Written (a ++ b) at s u k
+pub joined : {a b : List ℕ} {at : ℕ} {s t u : List ℕ} {n k : ℕ} → Written a at s t n → Written b n t u k → at + length (a ++ b) ≤ length s
+    → Written (a ++ b) at s u k
 joined {a} {b} {at} {s} {t} {u} {n} {k} first second room =
     let both : length (a ++ b) ≡ length a + length b = length-append a b in
     let e : n ≡ at + length a = written-index first (omega arith) in
@@ -107,7 +109,8 @@ same-bytes {at} {s} {t} {n} e w = subst (λ (l : List ℕ). Written l at s t n) 
 
 -- one byte between two fields
 pub joined-by : {a b : List ℕ} {between at : ℕ} {s t u v : List ℕ} {n k l : ℕ}
-    → Written a at s t n → Written (between ∷ []) n t u k → Written b k u v l → at + (length a + suc (length b)) ≤ length s → Written (a ++ between ∷ b) at s v l
+    → Written a at s t n → Written (between ∷ []) n t u k → Written b k u v l → at + (length a + suc (length b)) ≤ length s
+    → Written (a ++ between ∷ b) at s v l
 joined-by {a} {b} {between} first middle second room =
     let e : length (a ++ between ∷ []) ≡ length a + 1 = length-append a (between ∷ []) in
     let f : length ((a ++ between ∷ []) ++ b) ≡ length (a ++ between ∷ []) + length b = length-append (a ++ between ∷ []) b in

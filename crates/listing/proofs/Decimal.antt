@@ -18,7 +18,8 @@ use Rattle.listing.specs.Line.{digit, digitsBefore, decimal, signed, lin
 pub digits-last : (places n : ℕ) (rest : List ℕ) → n < 10 → digitsBefore (suc places) n rest ≡ digit n ∷ rest
 digits-last places n rest h = rw (lt-ltb n 10 h)
 
-pub digits-more : (places n : ℕ) (rest : List ℕ) → 10 ≤ n → digitsBefore (suc places) n rest ≡ digitsBefore places (n / 10) (digit (n % 10) ∷ rest)
+pub digits-more : (places n : ℕ) (rest : List ℕ) → 10 ≤ n
+    → digitsBefore (suc places) n rest ≡ digitsBefore places (n / 10) (digit (n % 10) ∷ rest)
 digits-more places n rest h = rw (le-ltb n 10 h)
 
 -- a number of one place more has a tenth of one place less
@@ -35,7 +36,8 @@ pub digits-by : (P : ℕ → List ℕ → List ℕ → Type 0)
 digits-by P last more zero n rest h = rw (digits-last zero n rest h) (last n rest h)
 digits-by P last more (suc places) n rest h = go (λ k. digits-by P last more places (n / 10) (digit (n % 10) ∷ rest) k) (ltb n 10) refl
   where
-    go : (n / 10 < 10 ^ suc places → P (n / 10) (digit (n % 10) ∷ rest) (digitsBefore (suc places) (n / 10) (digit (n % 10) ∷ rest))) → (b : Bool) → ltb n 10 ≡ b → P n rest (digitsBefore (suc (suc places)) n rest)
+    go : (n / 10 < 10 ^ suc places → P (n / 10) (digit (n % 10) ∷ rest) (digitsBefore (suc places) (n / 10) (digit (n % 10) ∷ rest))) → (b : Bool)
+        → ltb n 10 ≡ b → P n rest (digitsBefore (suc (suc places)) n rest)
     go rec true e = subst (λ (l : List ℕ). P n rest l) (sym (digits-last (suc places) n rest (ltb-true n 10 e))) (last n rest (ltb-true n 10 e))
     go rec false e =
         let large : 10 ≤ n = ltb-false n 10 e in
@@ -47,7 +49,8 @@ length-digits : (places n : ℕ) (rest : List ℕ) → length (digitsBefore plac
 length-digits zero n rest = omega arith
 length-digits (suc places) n rest = go (length-digits places (n / 10) (digit (n % 10) ∷ rest)) (ltb n 10) refl
   where
-    go : length (digitsBefore places (n / 10) (digit (n % 10) ∷ rest)) ≤ places + suc (length rest) → (b : Bool) → ltb n 10 ≡ b → length (digitsBefore (suc places) n rest) ≤ suc places + length rest
+    go : length (digitsBefore places (n / 10) (digit (n % 10) ∷ rest)) ≤ places + suc (length rest) → (b : Bool) → ltb n 10 ≡ b
+        → length (digitsBefore (suc places) n rest) ≤ suc places + length rest
     go rec true e = rw e (omega arith)
     go rec false e = rw e (omega arith)
 

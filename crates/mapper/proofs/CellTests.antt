@@ -48,16 +48,19 @@ reordered false b c d = refl
 
 -- ---- the score word
 
-shifted : (gained left right both : ℕ) → both ≡ left + right → both ≤ 2147483648 → gained + left + (lift - both) ≡ 2 ^ 44 + (gained + 2147483648 - right)
+shifted : (gained left right both : ℕ) → both ≡ left + right → both ≤ 2147483648
+    → gained + left + (lift - both) ≡ 2 ^ 44 + (gained + 2147483648 - right)
 shifted gained left right both e l = omega arith
 
 -- gain·m + v·x + base, where base has the column's part and 2^44 added: the remainder is the biased score
-word-is : (u v size m x y : ℕ) → x ≤ y → v * (y + 1 + size) ≤ 2147483648 → biased u v size m (suc y - x) < 4294967296 → ((u + 2 * v) * m + v * x + (lift - v * (y + 1 + size)) % 4294967296) % 4294967296 ≡ biased u v size m (suc y - x)
+word-is : (u v size m x y : ℕ) → x ≤ y → v * (y + 1 + size) ≤ 2147483648 → biased u v size m (suc y - x) < 4294967296
+    → ((u + 2 * v) * m + v * x + (lift - v * (y + 1 + size)) % 4294967296) % 4294967296 ≡ biased u v size m (suc y - x)
 unfolding biased
 word-is u v size m x y a b d =
     let e : y + 1 + size ≡ x + (suc y - x + size) = omega arith in
     let f : v * (y + 1 + size) ≡ v * x + v * (suc y - x + size) = ap (λ (n : ℕ). v * n) e ∙ mul-add v x (suc y - x + size) in
-    let g : (u + 2 * v) * m + v * x + (lift - v * (y + 1 + size)) ≡ 4096 * 4294967296 + ((u + 2 * v) * m + 2147483648 - v * (suc y - x + size)) = shifted ((u + 2 * v) * m) (v * x) (v * (suc y - x + size)) (v * (y + 1 + size)) f b in
+    let g : (u + 2 * v) * m + v * x + (lift - v * (y + 1 + size)) ≡ 4096 * 4294967296 + ((u + 2 * v) * m + 2147483648 - v * (suc y - x + size)) =
+    shifted ((u + 2 * v) * m) (v * x) (v * (suc y - x + size)) (v * (y + 1 + size)) f b in
     add-mod-mod ((u + 2 * v) * m + v * x) (lift - v * (y + 1 + size)) 4294967296
     ∙ ap (λ (n : ℕ). n % 4294967296) g
     ∙ digits-mod 4096 d
@@ -71,48 +74,64 @@ abbrev pub termsOf : Task → Terms
 termsOf task = record { u = task .u; v = task .v; size = length (task .pattern); threshold = biasedZ (task .threshold) }
 
 module _ (task : Task) (limited : Limited task) (threshold-fits : mag (task .threshold) < bias) where
-  pub score-word : (i j : ℕ) → i ≤ j → j < hitCount task → ((task .u + 2 * task .v) * sharedAt task i j + task .v * getD (hits task) i 0 + (lift - task .v * (getD (hits task) j 0 + 1 + length (task .pattern))) % 4294967296) % 4294967296 ≡ scoreAt task i j
+  pub score-word : (i j : ℕ) → i ≤ j → j < hitCount task
+      → ((task .u + 2 * task .v) * sharedAt task i j + task .v * getD (hits task) i 0 +
+      (lift - task .v * (getD (hits task) j 0 + 1 + length (task .pattern))) % 4294967296) % 4294967296 ≡ scoreAt task i j
   unfolding scoreAt biasedOf lengthOf
   score-word i j a l =
       let inside : getD (hits task) j 0 < length (task .text) = hit-within task j l in
       let long : getD (hits task) j 0 + 1 + length (task .pattern) ≤ 69631 = omega (arith, limited .short-text, limited .short-pattern) in
       let small : task .v * (getD (hits task) j 0 + 1 + length (task .pattern)) ≤ 1000 * 69631 = mul-le-mul (limited .small-v) long in
       let w = biased-within task limited (getD (hits task) i 0) (getD (hits task) j 0) inside in
-      rw (← cell-shared task i j a l) (word-is (task .u) (task .v) (length (task .pattern)) (sharedOf task (getD (hits task) i 0) (getD (hits task) j 0)) (getD (hits task) i 0) (getD (hits task) j 0) (hit-at-most task i j a l) (omega arith) (w .1))
+      rw (← cell-shared task i j a l)
+      (word-is (task .u) (task .v) (length (task .pattern)) (sharedOf task (getD (hits task) i 0) (getD (hits task) j 0)) (getD (hits task) i 0)
+      (getD (hits task) j 0) (hit-at-most task i j a l) (omega arith) (w .1))
 
   -- m of one row further
-  pub shared-next : (i j : ℕ) → i ≤ j → j < hitCount task → lowered (sharedAt task i j) (bit (ltb j (reach (task .pattern) (hitCodes task) i))) ≡ sharedAt task (suc i) j
+  pub shared-next : (i j : ℕ) → i ≤ j → j < hitCount task
+      → lowered (sharedAt task i j) (bit (ltb j (reach (task .pattern) (hitCodes task) i))) ≡ sharedAt task (suc i) j
   shared-next i j a l =
       let k : j < length (hitCodes task) = subst (λ (n : ℕ). j < n) (sym (length-hitCodes task)) l in
       let e : sharedAt task i j ≡ bit (ltb j (reach (task .pattern) (hitCodes task) i)) + sharedAt task (suc i) j =
       shared-left-end (task .pattern) (hitCodes task) i j a k ∙ rw (← reach-test (task .pattern) (hitCodes task) i j a k)
       in
-      let small : sharedAt task i j ≤ 4096 = subst (λ (n : ℕ). n ≤ 4096) (cell-shared task i j a l) (le-trans (shared-le-size task (getD (hits task) i 0) (getD (hits task) j 0)) (limited .short-pattern)) in
+      let small : sharedAt task i j ≤ 4096 =
+      subst (λ (n : ℕ). n ≤ 4096) (cell-shared task i j a l)
+      (le-trans (shared-le-size task (getD (hits task) i 0) (getD (hits task) j 0)) (limited .short-pattern)) in
       less (bit (ltb j (reach (task .pattern) (hitCodes task) i))) (sharedAt task i j) (sharedAt task (suc i) j) e small
     where
       less : (one m n : ℕ) → m ≡ one + n → m ≤ 4096 → (m + 4294967296 - one) % 4294967296 ≡ n
-      less one m n e l = let f : m + 4294967296 - one ≡ 1 * 4294967296 + n = omega arith in ap (λ (k : ℕ). k % 4294967296) f ∙ digits-mod 1 (let g : n < 4294967296 = omega arith in g)
+      less one m n e l =
+          let f : m + 4294967296 - one ≡ 1 * 4294967296 + n = omega arith in ap (λ (k : ℕ). k % 4294967296) f
+          ∙ digits-mod 1 (let g : n < 4294967296 = omega arith in g)
 
-  threshold-is : (i j : ℕ) → j < hitCount task → leZ (task .threshold) (scoreOf task (getD (hits task) i 0) (getD (hits task) j 0)) ≡ leb (biasedZ (task .threshold)) (scoreAt task i j)
+  threshold-is : (i j : ℕ) → j < hitCount task
+      → leZ (task .threshold) (scoreOf task (getD (hits task) i 0) (getD (hits task) j 0)) ≡ leb (biasedZ (task .threshold)) (scoreAt task i j)
   unfolding scoreAt
   threshold-is i j l = threshold-order task limited threshold-fits (getD (hits task) i 0) (getD (hits task) j 0) (hit-within task j l)
 
   -- the score word is the greatest so far exactly where no cell that contains this one scores more
-  greatest : (i j before own : ℕ) → i ≤ j → j < hitCount task → TopBefore task before i j → Top task own i (suc j) → eqb (scoreAt task i j) (max before (max own (scoreAt task i j))) ≡ true → MaximalCell task i j
+  greatest : (i j before own : ℕ) → i ≤ j → j < hitCount task → TopBefore task before i j → Top task own i (suc j)
+      → eqb (scoreAt task i j) (max before (max own (scoreAt task i j))) ≡ true → MaximalCell task i j
   unfolding AtMost scoreAt
   greatest i j before own a l t o e i′ j′ p q r =
       let top = top-cell task i j before own l t o in
       let s : scoreAt task i′ j′ ≤ max before (max own (scoreAt task i j)) = top .bounds i′ j′ p q r in
       let f : scoreAt task i j ≡ max before (max own (scoreAt task i j)) = eqb-true (scoreAt task i j) (max before (max own (scoreAt task i j))) e in
-      scores-order task limited (getD (hits task) i′ 0) (getD (hits task) j′ 0) (getD (hits task) i 0) (getD (hits task) j 0) (hit-within task j′ r) (hit-within task j l)
+      scores-order task limited (getD (hits task) i′ 0) (getD (hits task) j′ 0) (getD (hits task) i 0) (getD (hits task) j 0) (hit-within task j′ r)
+      (hit-within task j l)
       ∙ le-leb (scoreAt task i′ j′) (scoreAt task i j) (subst (λ (n : ℕ). scoreAt task i′ j′ ≤ n) (sym f) s)
 
-  greatest′ : (i j before own : ℕ) → i ≤ j → j < hitCount task → TopBefore task before i j → Top task own i (suc j) → MaximalCell task i j → eqb (scoreAt task i j) (max before (max own (scoreAt task i j))) ≡ true
+  greatest′ : (i j before own : ℕ) → i ≤ j → j < hitCount task → TopBefore task before i j → Top task own i (suc j) → MaximalCell task i j
+      → eqb (scoreAt task i j) (max before (max own (scoreAt task i j))) ≡ true
   unfolding AtMost scoreAt
   greatest′ i j before own a l t o m =
       let top = top-cell task i j before own l t o in
       let s : max before (max own (scoreAt task i j)) ≤ scoreAt task i j =
-      top .least (scoreAt task i j) (λ r c p q k. leb-true (scoreAt task r c) (scoreAt task i j) (sym (scores-order task limited (getD (hits task) r 0) (getD (hits task) c 0) (getD (hits task) i 0) (getD (hits task) j 0) (hit-within task c k) (hit-within task j l)) ∙ m r c p q k))
+      top .least (scoreAt task i j)
+      (λ r c p q k. leb-true (scoreAt task r c) (scoreAt task i j)
+      (sym (scores-order task limited (getD (hits task) r 0) (getD (hits task) c 0) (getD (hits task) i 0) (getD (hits task) j 0) (hit-within task c k)
+      (hit-within task j l)) ∙ m r c p q k))
       in
       eq-eqb (scoreAt task i j) (max before (max own (scoreAt task i j))) (omega arith)
 
@@ -130,7 +149,8 @@ module _ (task : Task) (limited : Limited task) (threshold-fits : mag (task .thr
       let top = eqb (scoreAt task i j) (max before (max own (scoreAt task i j))) in
       let enough : leZ (task .threshold) (scoreOf task x y) ≡ leb (biasedZ (task .threshold)) (scoreAt task i j) = threshold-is i j l in
       let left : isReasonable task x y x ≡ eqb reasonable 1 =
-      cell-reasonable task i j i a l (omega arith) ∙ sym (reach-test (task .pattern) (hitCodes task) i j a k) ∙ sym (one-is (ltb j (reach (task .pattern) (hitCodes task) i)))
+      cell-reasonable task i j i a l (omega arith) ∙ sym (reach-test (task .pattern) (hitCodes task) i j a k)
+      ∙ sym (one-is (ltb j (reach (task .pattern) (hitCodes task) i)))
       in
       let right : isReasonable task x y y ≡ leb (back (task .pattern) (hitCodes task) j) i =
       cell-reasonable task i j j a l l ∙ sym (back-test (task .pattern) (hitCodes task) (hit-codes-in task) i j a k)

@@ -61,8 +61,14 @@ module _ (task : Task) (limited : Limited task) (threshold-fits : mag (task .thr
 
   -- what passing n cells from (i, j) on comes to, where q cells have been passed
   pub data Chunk (j i n q : ℕ) (part : List ℕ) (update : Update) : Type 0 where
-    all-passed : update .answer .found ≡ false → update .answer .row ≡ i + n → update .answer .m ≡ sharedAt task (i + n) j → PartHolds (q + n) (update .part) → SameOutside part (update .part) → ((B : ℕ) → ruleAnswer task q (n + B) ≡ moreCells n (ruleAnswer task (q + n) B)) → Chunk j i n q part update
-    one-found : (k : ℕ) → suc k ≤ n → update .answer .found ≡ true → update .answer .row ≡ suc (i + k) → update .answer .m ≡ sharedAt task (i + k) j → isFinalCell task (cellAt (i + k) j) ≡ true → lowered (sharedAt task (i + k) j) 1 ≡ sharedAt task (suc (i + k)) j → PartHolds (q + suc k) (update .part) → SameOutside part (update .part) → ((B : ℕ) → ruleAnswer task q (suc k + B) ≡ found (mappingOf task (cellAt (i + k) j)) (suc k)) → Chunk j i n q part update
+    all-passed : update .answer .found ≡ false → update .answer .row ≡ i + n → update .answer .m ≡ sharedAt task (i + n) j
+        → PartHolds (q + n) (update .part) → SameOutside part (update .part)
+        → ((B : ℕ) → ruleAnswer task q (n + B) ≡ moreCells n (ruleAnswer task (q + n) B)) → Chunk j i n q part update
+    one-found : (k : ℕ) → suc k ≤ n → update .answer .found ≡ true → update .answer .row ≡ suc (i + k)
+        → update .answer .m ≡ sharedAt task (i + k) j → isFinalCell task (cellAt (i + k) j) ≡ true
+        → lowered (sharedAt task (i + k) j) 1 ≡ sharedAt task (suc (i + k)) j → PartHolds (q + suc k) (update .part)
+        → SameOutside part (update .part) → ((B : ℕ) → ruleAnswer task q (suc k + B) ≡ found (mappingOf task (cellAt (i + k) j)) (suc k))
+        → Chunk j i n q part update
 
   -- ---- one cell
 
@@ -70,127 +76,152 @@ module _ (task : Task) (limited : Limited task) (threshold-fits : mag (task .thr
   unfoldable pub topAt : ℕ → ℕ → ℕ → ℕ
   topAt q i j = max (bestBefore (bestAfter task q) i) (max (getD (bestAfter task q) i 0) (scoreAt task i j))
 
-  best-next : (i j q : ℕ) → i ≤ j → j < hitCount task → place (hitCount task) i j ≡ q → bestAfter task (suc q) ≡ set (bestAfter task q) i (topAt q i j)
+  best-next : (i j q : ℕ) → i ≤ j → j < hitCount task → place (hitCount task) i j ≡ q
+      → bestAfter task (suc q) ≡ set (bestAfter task q) i (topAt q i j)
   unfolding topAt withCell leftEnd rightEnd scoreAt
   best-next i j q a l e =
       ap (λ (n : ℕ). bestAfter task (suc n)) (sym e)
       ∙ best-suc task i j a l
       ∙ ap (λ (n : ℕ). withCell task (bestAfter task n) (cellAt i j)) e
 
-  module _ (j i q m before : ℕ) (part : List ℕ) (a : i ≤ j) (l : j < hitCount task) (small : hitCount task ≤ 2048) (at : place (hitCount task) i j ≡ q) (em : m ≡ sharedAt task i j) (eb : before ≡ bestBefore (bestAfter task q) i) (holds : PartHolds q part) where
-    row-in : i < hitCount task
-    row-in = omega arith
+  module _ (j i q m before : ℕ) (part : List ℕ) (a : i ≤ j) (l : j < hitCount task) (small : hitCount task ≤ 2048)
+      (at : place (hitCount task) i j ≡ q) (em : m ≡ sharedAt task i j) (eb : before ≡ bestBefore (bestAfter task q) i) (holds : PartHolds q part)
+    where
+      row-in : i < hitCount task
+      row-in = omega arith
 
-    score-is : lineScore (sessionLine j) m (getD part i 0) ≡ scoreAt task i j
-    unfolding lineScore
-    score-is = rw (em, holds .index-word i row-in) (score-word task limited threshold-fits i j a l)
+      score-is : lineScore (sessionLine j) m (getD part i 0) ≡ scoreAt task i j
+      unfolding lineScore
+      score-is = rw (em, holds .index-word i row-in) (score-word task limited threshold-fits i j a l)
 
-    best-is : bestWith part i before (lineScore (sessionLine j) m (getD part i 0)) ≡ topAt q i j
-    unfolding bestWith topAt
-    best-is = rw (eb, holds .best-word i row-in, score-is)
+      best-is : bestWith part i before (lineScore (sessionLine j) m (getD part i 0)) ≡ topAt q i j
+      unfolding bestWith topAt
+      best-is = rw (eb, holds .best-word i row-in, score-is)
 
-    one-is : inReach (sessionLine j) part i ≡ bit (ltb j (reach (task .pattern) (hitCodes task) i))
-    unfolding inReach
-    one-is = rw (holds .reach-word i row-in)
+      one-is : inReach (sessionLine j) part i ≡ bit (ltb j (reach (task .pattern) (hitCodes task) i))
+      unfolding inReach
+      one-is = rw (holds .reach-word i row-in)
 
-    m-next : lowered m (inReach (sessionLine j) part i) ≡ sharedAt task (suc i) j
-    m-next = rw (em, one-is) (shared-next task limited threshold-fits i j a l)
+      m-next : lowered m (inReach (sessionLine j) part i) ≡ sharedAt task (suc i) j
+      m-next = rw (em, one-is) (shared-next task limited threshold-fits i j a l)
 
-    -- the cell's tests
-    abbrev s : ℕ
-    s = lineScore (sessionLine j) m (getD part i 0)
+      -- the cell's tests
+      abbrev s : ℕ
+      s = lineScore (sessionLine j) m (getD part i 0)
 
-    test-is : tested (sessionLine j) s (bestWith part i before s) (inReach (sessionLine j) part i) i ≡ isFinalCell task (cellAt i j)
-    unfolding topAt
-    test-is =
-        let b : BestAt task (bestAfter task q) i j = best-at task q i j a l at in
-        rw (best-is, score-is, one-is)
-        (final-test task limited threshold-fits i j (bestBefore (bestAfter task q) i) (getD (bestAfter task q) i 0) a l (before-top task (bestAfter task q) i j a b) (b .other-rows i (le-refl i) a))
+      test-is : tested (sessionLine j) s (bestWith part i before s) (inReach (sessionLine j) part i) i ≡ isFinalCell task (cellAt i j)
+      unfolding topAt
+      test-is =
+          let b : BestAt task (bestAfter task q) i j = best-at task q i j a l at in
+          rw (best-is, score-is, one-is)
+          (final-test task limited threshold-fits i j (bestBefore (bestAfter task q) i) (getD (bestAfter task q) i 0) a l
+          (before-top task (bestAfter task q) i j a b) (b .other-rows i (le-refl i) a))
 
-    -- the left end of a final cell is reasonable, so that m falls by one behind it
-    lower-by-one : isFinalCell task (cellAt i j) ≡ true → lowered (sharedAt task i j) 1 ≡ sharedAt task (suc i) j
-    lower-by-one f =
-        let one = inReach (sessionLine j) part i in
-        let e : one ≡ 1 = candidate-one (sessionLine j) s (bestWith part i before s) one i (test-is ∙ f) in
-        ap (λ (n : ℕ). lowered (sharedAt task i j) n) (sym e) ∙ ap (λ (n : ℕ). lowered n one) (sym em) ∙ m-next
+      -- the left end of a final cell is reasonable, so that m falls by one behind it
+      lower-by-one : isFinalCell task (cellAt i j) ≡ true → lowered (sharedAt task i j) 1 ≡ sharedAt task (suc i) j
+      lower-by-one f =
+          let one = inReach (sessionLine j) part i in
+          let e : one ≡ 1 = candidate-one (sessionLine j) s (bestWith part i before s) one i (test-is ∙ f) in
+          ap (λ (n : ℕ). lowered (sharedAt task i j) n) (sym e) ∙ ap (λ (n : ℕ). lowered n one) (sym em) ∙ m-next
 
-    next : drop q (cellsOf task) ≡ cellAt i j ∷ drop (suc q) (cellsOf task)
-    unfolding cellsOf
-    next = subst (λ (n : ℕ). drop n (cellsOf task) ≡ cellAt i j ∷ drop (suc n) (cellsOf task)) at (drop-cells (hitCount task) i j a l)
+      next : drop q (cellsOf task) ≡ cellAt i j ∷ drop (suc q) (cellsOf task)
+      unfolding cellsOf
+      next = subst (λ (n : ℕ). drop n (cellsOf task) ≡ cellAt i j ∷ drop (suc n) (cellsOf task)) at (drop-cells (hitCount task) i j a l)
 
-    next-holds : (best : ℕ) → best ≡ topAt q i j → PartHolds (suc q) (set part (4096 + i) best)
-    next-holds best e = record {
-      number = length-set part (4096 + i) best ∙ holds .number;
-      index-word = λ r k. getD-set-other part (4096 + i) r best 0 (λ f. omega arith) ∙ holds .index-word r k;
-      reach-word = λ r k. getD-set-other part (4096 + i) (2048 + r) best 0 (λ f. omega arith) ∙ holds .reach-word r k;
-      best-word = λ r k. rw (best-next i j q a l at) (go r k (eq-or-ne r i));
-    }
-      where
-        go : (r : ℕ) → r < hitCount task → (r ≡ i) ⊎ (r ≡ i → ⊥) → getD (set part (4096 + i) best) (4096 + r) 0 ≡ getD (set (bestAfter task q) i (topAt q i j)) r 0
-        go r k (inl f) =
-            ap (λ (n : ℕ). getD (set part (4096 + i) best) (4096 + n) 0) f
-            ∙ getD-set-same part (4096 + i) best 0 (rw (holds .number) (omega arith))
-            ∙ e
-            ∙ sym (ap (λ (n : ℕ). getD (set (bestAfter task q) i (topAt q i j)) n 0) f ∙ getD-set-same (bestAfter task q) i (topAt q i j) 0 (rw (length-bestAfter task q) row-in))
-        go r k (inr n) =
-            getD-set-other part (4096 + i) (4096 + r) best 0 (λ f. n (omega arith))
-            ∙ holds .best-word r k
-            ∙ sym (getD-set-other (bestAfter task q) i r (topAt q i j) 0 n)
+      next-holds : (best : ℕ) → best ≡ topAt q i j → PartHolds (suc q) (set part (4096 + i) best)
+      next-holds best e = record {
+        number = length-set part (4096 + i) best ∙ holds .number;
+        index-word = λ r k. getD-set-other part (4096 + i) r best 0 (λ f. omega arith) ∙ holds .index-word r k;
+        reach-word = λ r k. getD-set-other part (4096 + i) (2048 + r) best 0 (λ f. omega arith) ∙ holds .reach-word r k;
+        best-word = λ r k. rw (best-next i j q a l at) (go r k (eq-or-ne r i));
+      }
+        where
+          go : (r : ℕ) → r < hitCount task → (r ≡ i) ⊎ (r ≡ i → ⊥)
+              → getD (set part (4096 + i) best) (4096 + r) 0 ≡ getD (set (bestAfter task q) i (topAt q i j)) r 0
+          go r k (inl f) =
+              ap (λ (n : ℕ). getD (set part (4096 + i) best) (4096 + n) 0) f
+              ∙ getD-set-same part (4096 + i) best 0 (rw (holds .number) (omega arith))
+              ∙ e
+              ∙ sym (ap (λ (n : ℕ). getD (set (bestAfter task q) i (topAt q i j)) n 0) f
+              ∙ getD-set-same (bestAfter task q) i (topAt q i j) 0 (rw (length-bestAfter task q) row-in))
+          go r k (inr n) =
+              getD-set-other part (4096 + i) (4096 + r) best 0 (λ f. n (omega arith))
+              ∙ holds .best-word r k
+              ∙ sym (getD-set-other (bestAfter task q) i r (topAt q i j) 0 n)
 
-    next-same : (best : ℕ) → SameOutside part (set part (4096 + i) best)
-    next-same best n (inl o) = getD-set-other part (4096 + i) n best 0 (λ f. omega arith)
-    next-same best n (inr o) = getD-set-other part (4096 + i) n best 0 (λ f. omega arith)
+      next-same : (best : ℕ) → SameOutside part (set part (4096 + i) best)
+      next-same best n (inl o) = getD-set-other part (4096 + i) n best 0 (λ f. omega arith)
+      next-same best n (inr o) = getD-set-other part (4096 + i) n best 0 (λ f. omega arith)
 
-    before-next : topAt q i j ≡ bestBefore (bestAfter task (suc q)) (suc i)
-    before-next = rw (best-next i j q a l at) (sym (getD-set-same (bestAfter task q) i (topAt q i j) 0 (rw (length-bestAfter task q) row-in)))
+      before-next : topAt q i j ≡ bestBefore (bestAfter task (suc q)) (suc i)
+      before-next = rw (best-next i j q a l at) (sym (getD-set-same (bestAfter task q) i (topAt q i j) 0 (rw (length-bestAfter task q) row-in)))
 
   -- ---- n cells
 
   module _ (j : ℕ) (l : j < hitCount task) (small : hitCount task ≤ 2048) where
-    no-cells : (i q m before : ℕ) (part : List ℕ) → m ≡ sharedAt task i j → PartHolds q part → Chunk j i 0 q part (passRows (sessionLine j) 0 i m before part)
+    no-cells : (i q m before : ℕ) (part : List ℕ) → m ≡ sharedAt task i j → PartHolds q part
+        → Chunk j i 0 q part (passRows (sessionLine j) 0 i m before part)
     no-cells i q m before part em holds =
         let e : i + 0 ≡ i = omega arith in
         let f : q + 0 ≡ q = omega arith in
-        all-passed refl (sym e) (rw e em) (rw f holds) (λ n o. refl) (λ B. (let g : 0 + B ≡ B = omega arith in rw (f, g) (sym (more-none (ruleAnswer task q B)))))
+        all-passed refl (sym e) (rw e em) (rw f holds) (λ n o. refl)
+        (λ B. (let g : 0 + B ≡ B = omega arith in rw (f, g) (sym (more-none (ruleAnswer task q B)))))
 
     -- a cell that is not final, and then the others
-    more-cell : (i n q : ℕ) (part part′ : List ℕ) (update : Update) → SameOutside part part′ → ((B : ℕ) → ruleAnswer task q (suc B) ≡ moreCells 1 (ruleAnswer task (suc q) B)) → Chunk j (suc i) n (suc q) part′ update → Chunk j i (suc n) q part update
+    more-cell : (i n q : ℕ) (part part′ : List ℕ) (update : Update) → SameOutside part part′
+        → ((B : ℕ) → ruleAnswer task q (suc B) ≡ moreCells 1 (ruleAnswer task (suc q) B)) → Chunk j (suc i) n (suc q) part′ update
+        → Chunk j i (suc n) q part update
     more-cell i n q part part′ update same pass (all-passed f r em holds out rule) =
         let e : suc i + n ≡ i + suc n = omega arith in
         let g : suc q + n ≡ q + suc n = omega arith in
         all-passed f (r ∙ e) (em ∙ ap (λ (k : ℕ). sharedAt task k j) e) (rw g at holds) (λ k o. out k o ∙ same k o)
         (λ B. (let s : suc n + B ≡ suc (n + B) = omega arith in
         let t : 1 + n ≡ suc n = omega arith in
-        ap (ruleAnswer task q) s ∙ pass (n + B) ∙ ap (moreCells 1) (rule B) ∙ more-cells 1 n (ruleAnswer task (suc q + n) B) ∙ ap (λ (k : ℕ). moreCells k (ruleAnswer task (suc q + n) B)) t ∙ ap (λ (k : ℕ). moreCells (suc n) (ruleAnswer task k B)) g))
+        ap (ruleAnswer task q) s ∙ pass (n + B) ∙ ap (moreCells 1) (rule B) ∙ more-cells 1 n (ruleAnswer task (suc q + n) B)
+        ∙ ap (λ (k : ℕ). moreCells k (ruleAnswer task (suc q + n) B)) t ∙ ap (λ (k : ℕ). moreCells (suc n) (ruleAnswer task k B)) g))
     more-cell i n q part part′ update same pass (one-found k within f r em final lower holds out rule) =
         let e : suc i + k ≡ i + suc k = omega arith in
         let g : suc q + suc k ≡ q + suc (suc k) = omega arith in
-        one-found (suc k) (suc-le-suc within) f (r ∙ ap suc e) (em ∙ ap (λ (n : ℕ). sharedAt task n j) e) (rw e at final) (rw e at lower) (rw g at holds) (λ k o. out k o ∙ same k o)
+        one-found (suc k) (suc-le-suc within) f (r ∙ ap suc e) (em ∙ ap (λ (n : ℕ). sharedAt task n j) e) (rw e at final) (rw e at lower)
+        (rw g at holds) (λ k o. out k o ∙ same k o)
         (λ B. (let s : suc (suc k) + B ≡ suc (suc k + B) = omega arith in
         let t : 1 + suc k ≡ suc (suc k) = omega arith in
-        ap (ruleAnswer task q) s ∙ pass (suc k + B) ∙ ap (moreCells 1) (rule B) ∙ ap (found (mappingOf task (cellAt (suc i + k) j))) t ∙ ap (λ (n : ℕ). found (mappingOf task (cellAt n j)) (suc (suc k))) e))
+        ap (ruleAnswer task q) s ∙ pass (suc k + B) ∙ ap (moreCells 1) (rule B) ∙ ap (found (mappingOf task (cellAt (suc i + k) j))) t
+        ∙ ap (λ (n : ℕ). found (mappingOf task (cellAt n j)) (suc (suc k))) e))
 
-    pub chunk : (n i q m before : ℕ) (part : List ℕ) → i + n ≤ suc j → place (hitCount task) i j ≡ q → m ≡ sharedAt task i j → before ≡ bestBefore (bestAfter task q) i → PartHolds q part → Chunk j i n q part (passRows (sessionLine j) n i m before part)
+    pub chunk : (n i q m before : ℕ) (part : List ℕ) → i + n ≤ suc j → place (hitCount task) i j ≡ q → m ≡ sharedAt task i j
+        → before ≡ bestBefore (bestAfter task q) i → PartHolds q part → Chunk j i n q part (passRows (sessionLine j) n i m before part)
     chunk zero i q m before part fits at em eb holds = no-cells i q m before part em holds
     chunk (suc n) i q m before part fits at em eb holds =
         let a : i ≤ j = omega arith in
         go (isFinalCell task (cellAt i j)) refl a
-        (chunk n (suc i) (suc q) (lowered m (inReach (sessionLine j) part i)) (bestWith part i before (lineScore (sessionLine j) m (getD part i 0))) (set part (4096 + i) (bestWith part i before (lineScore (sessionLine j) m (getD part i 0)))) (omega arith)
+        (chunk n (suc i) (suc q) (lowered m (inReach (sessionLine j) part i)) (bestWith part i before (lineScore (sessionLine j) m (getD part i 0)))
+        (set part (4096 + i) (bestWith part i before (lineScore (sessionLine j) m (getD part i 0)))) (omega arith)
         (place-row (hitCount task) i j ∙ ap suc at)
         (m-next j i q m before part a l small at em eb holds)
         (best-is j i q m before part a l small at em eb holds ∙ before-next j i q m before part a l small at em eb holds)
-        (next-holds j i q m before part a l small at em eb holds (bestWith part i before (lineScore (sessionLine j) m (getD part i 0))) (best-is j i q m before part a l small at em eb holds)))
+        (next-holds j i q m before part a l small at em eb holds (bestWith part i before (lineScore (sessionLine j) m (getD part i 0)))
+        (best-is j i q m before part a l small at em eb holds)))
       where
         best : ℕ
         best = bestWith part i before (lineScore (sessionLine j) m (getD part i 0))
 
-        go : (b : Bool) → isFinalCell task (cellAt i j) ≡ b → i ≤ j → Chunk j (suc i) n (suc q) (set part (4096 + i) best) (passRows (sessionLine j) n (suc i) (lowered m (inReach (sessionLine j) part i)) best (set part (4096 + i) best)) → Chunk j i (suc n) q part (passRows (sessionLine j) (suc n) i m before part)
+        go : (b : Bool) → isFinalCell task (cellAt i j) ≡ b → i ≤ j
+            → Chunk j (suc i) n (suc q) (set part (4096 + i) best)
+            (passRows (sessionLine j) n (suc i) (lowered m (inReach (sessionLine j) part i)) best (set part (4096 + i) best))
+            → Chunk j i (suc n) q part (passRows (sessionLine j) (suc n) i m before part)
         go true e a rest =
             let h : i + 0 ≡ i = omega arith in
             let g : q + 1 ≡ suc q = omega arith in
             rw (test-is j i q m before part a l small at em eb holds ∙ e)
-            (one-found 0 (suc-le-suc zero-le) refl (ap suc (sym h)) (rw h em) (rw h e) (rw h (lower-by-one j i q m before part a l small at em eb holds e)) (rw g (next-holds j i q m before part a l small at em eb holds best (best-is j i q m before part a l small at em eb holds))) (next-same j i q m before part a l small at em eb holds best)
-            (λ B. (let s : 1 + B ≡ suc B = omega arith in rw (s, h) (rule-found task q (cellAt i j) (next j i q m before part a l small at em eb holds) B e))))
+            (one-found 0 (suc-le-suc zero-le) refl (ap suc (sym h)) (rw h em) (rw h e) (rw h (lower-by-one j i q m before part a l small at em eb holds e))
+            (rw g (next-holds j i q m before part a l small at em eb holds best (best-is j i q m before part a l small at em eb holds)))
+            (next-same j i q m before part a l small at em eb holds best)
+            (λ B. (let s : 1 + B ≡ suc B = omega arith in rw (s, h)
+            (rule-found task q (cellAt i j) (next j i q m before part a l small at em eb holds) B e))))
         go false e a rest =
             rw (test-is j i q m before part a l small at em eb holds ∙ e)
-            (more-cell i n q part (set part (4096 + i) best) (passRows (sessionLine j) n (suc i) (lowered m (inReach (sessionLine j) part i)) best (set part (4096 + i) best)) (next-same j i q m before part a l small at em eb holds best) (λ B. rule-pass task q (cellAt i j) (next j i q m before part a l small at em eb holds) B e) rest)
+            (more-cell i n q part (set part (4096 + i) best)
+            (passRows (sessionLine j) n (suc i) (lowered m (inReach (sessionLine j) part i)) best (set part (4096 + i) best))
+            (next-same j i q m before part a l small at em eb holds best)
+            (λ B. rule-pass task q (cellAt i j) (next j i q m before part a l small at em eb holds) B e) rest)

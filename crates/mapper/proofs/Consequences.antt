@@ -90,7 +90,8 @@ module _ (task : Task) (before : List ℕ) (a : Accepts task before) where
 
   -- a session after q cells, and any words of which the first 16,384 are a copy of its own, however many they are and whatever stands
   -- behind
-  pub copied : (q : ℕ) {words copy : List ℕ} {states states′ : List (List ℕ)} {steps : List Step} {one other : List Answer} → q ≤ cellCount (hitCount task)
+  pub copied : (q : ℕ) {words copy : List ℕ} {states states′ : List (List ℕ)} {steps : List Step} {one other : List Answer}
+      → q ≤ cellCount (hitCount task)
       → words ≡ sessionWords task before q → workWords ≤ length copy → take workWords copy ≡ take workWords words
       → Ran words steps one states → Ran copy steps other states′ → Continues q words copy steps one other states states′
   copied q {words} {copy} {states} {states′} {steps} {one} {other} k e long same run run′ =
@@ -100,8 +101,10 @@ module _ (task : Task) (before : List ℕ) (a : Accepts task before) where
       let at : (n : ℕ) → n ≤ length steps → wordsAfter copy states′ n ≡ sessionWords task (begun copy long) (q + passedBefore one n) =
       λ n l. r′ .1 n l ∙ ap (λ (answers : List Answer). sessionWords task (begun copy long) (q + passedBefore answers n)) (sym same-answers)
       in
-      let holds : (n : ℕ) → Holds task before (q + passedBefore one n) (sessionWords task before (q + passedBefore one n)) = λ n. words-hold task before (q + passedBefore one n) (limits .few-hits) (limits .many-words) in
-      let copy-holds : (n : ℕ) → Holds task (begun copy long) (q + passedBefore one n) (sessionWords task (begun copy long) (q + passedBefore one n)) = λ n. words-hold task (begun copy long) (q + passedBefore one n) (limits .few-hits) (begun-long copy long) in
+      let holds : (n : ℕ) → Holds task before (q + passedBefore one n) (sessionWords task before (q + passedBefore one n)) =
+      λ n. words-hold task before (q + passedBefore one n) (limits .few-hits) (limits .many-words) in
+      let copy-holds : (n : ℕ) → Holds task (begun copy long) (q + passedBefore one n) (sessionWords task (begun copy long) (q + passedBefore one n)) =
+      λ n. words-hold task (begun copy long) (q + passedBefore one n) (limits .few-hits) (begun-long copy long) in
       record {
         same-answers = same-answers;
         original-q = λ n l. ap (λ (w : List ℕ). getD w 3 0) (r .1 n l) ∙ holds n .passed-word;
@@ -128,7 +131,8 @@ module _ (task : Task) (before : List ℕ) (a : Accepts task before) where
       copied (passed heard) (demanded .within) (s .1 (length first) (le-refl (length first)) ∙ ap (sessionWords task before) q) long same run run′
 
   -- two lists of steps that reach the same q
-  pub same-mappings : {states states′ : List (List ℕ)} {steps others : List Step} {heard heard′ : List Answer} → Ran (startWords task before) steps heard states
+  pub same-mappings : {states states′ : List (List ℕ)} {steps others : List Step} {heard heard′ : List Answer}
+      → Ran (startWords task before) steps heard states
       → Ran (startWords task before) others heard′ states′ → passed heard ≡ passed heard′ → handedOut heard ≡ handedOut heard′
   same-mappings run run′ e =
       demanded-same task (demand3-codes task before a run .demanded) (demand3-codes task before a run′ .demanded) e

@@ -32,7 +32,8 @@ use Rattle.mapper.specs.declared.answer.Stepped.{Stepped}
 use Rattle.mapper.specs.Answers.{answerOf}
 use Rattle.mapper.specs.Step.{tooFewWords}
 use Rattle.mapper.specs.Promise.{Accepts, StepPromise}
-use Rattle.mapper.specs.Sessions.{Ran, none, then, wordsAfter, Lent, textCodes, textPositions, readCodes, struckCodes, startTask, AllAccept, FirstWords, Demand3}
+use Rattle.mapper.specs.Sessions.{Ran, none, then, wordsAfter, Lent, textCodes, textPositions, readCodes, struckCodes, startTask, AllAccept}
+use Rattle.mapper.specs.Sessions.{FirstWords, Demand3}
 use Rattle.mapper.proofs.Accepted.{Admitted, admitted}
 
 -- ---- one step of a list
@@ -48,40 +49,54 @@ module _ (task : Task) (before : List ℕ) (a : Accepts task before) where
   pub accepts-in : (other : List ℕ) → 16384 ≤ length other → Accepts task other
   unfolding startReply
   accepts-in other l =
-      let e : ltb (length other) 16384 ≡ ltb (length before) 16384 = le-ltb (length other) 16384 l ∙ sym (le-ltb (length before) 16384 (limits .many-words)) in
+      let e : ltb (length other) 16384 ≡ ltb (length before) 16384 =
+      le-ltb (length other) 16384 l ∙ sym (le-ltb (length before) 16384 (limits .many-words)) in
       record { accepts = rw e (a .accepts); threshold-fits = a .threshold-fits }
 
   -- what a step of a list answers and leaves, where q cells have been passed
   abbrev StepsOn : ℕ → Step → Answer → List ℕ → Type 0
   StepsOn q step answer words = (answer ≡ stepAnswer task q step) × (words ≡ sessionWords task before (q + reported (stepAnswer task q step)))
 
-  module _ (q : ℕ) (step : Step) (answer : Stepped) (words : List ℕ) (promise : StepPromise (take (step .lent) (sessionWords task before q)) (step .budget) answer words) where
+  module _ (q : ℕ) (step : Step) (answer : Stepped) (words : List ℕ)
+      (promise : StepPromise (take (step .lent) (sessionWords task before q)) (step .budget) answer words) where
     refused-step : step .lent < 16384 → StepsOn q step (answerOf answer) (words ++ drop (step .lent) (sessionWords task before q))
     unfolding stepAnswer isAccepted tooFewWords
     refused-step l =
         let few : length (take (step .lent) (sessionWords task before q)) < 16384 = rw (length-take (step .lent) (sessionWords task before q)) (omega arith) in
         let p = promise .few (lt-ltb (length (take (step .lent) (sessionWords task before q))) 16384 few) in
         let z : q ≡ q + 0 = omega arith in
-        rw (lt-ltb (step .lent) 16384 l)
-        (p .0, ap (λ (xs : List ℕ). xs ++ drop (step .lent) (sessionWords task before q)) (p .1) ∙ take-append-drop (step .lent) (sessionWords task before q) ∙ ap (sessionWords task before) z)
+        rw (lt-ltb (step .lent) 16384 l) (
+          p .0,
+          ap (λ (xs : List ℕ). xs ++ drop (step .lent) (sessionWords task before q)) (p .1)
+              ∙ take-append-drop (step .lent) (sessionWords task before q) ∙ ap (sessionWords task before) z,
+        )
 
-    accepted-step : 16384 ≤ step .lent → q ≤ cellCount (hitCount task) → StepsOn q step (answerOf answer) (words ++ drop (step .lent) (sessionWords task before q))
+    accepted-step : 16384 ≤ step .lent → q ≤ cellCount (hitCount task)
+        → StepsOn q step (answerOf answer) (words ++ drop (step .lent) (sessionWords task before q))
     unfolding stepAnswer isAccepted
     accepted-step l k = rw (le-ltb (step .lent) 16384 l) (go (ltb (length before) (step .lent)) refl)
       where
         q′ : ℕ
         q′ = q + reported (ruleAnswer task q (step .budget))
 
-        go : (b : Bool) → ltb (length before) (step .lent) ≡ b → (answerOf answer ≡ ruleAnswer task q (step .budget)) × (words ++ drop (step .lent) (sessionWords task before q) ≡ sessionWords task before q′)
+        go : (b : Bool) → ltb (length before) (step .lent) ≡ b
+            → (answerOf answer ≡ ruleAnswer task q (step .budget))
+            × (words ++ drop (step .lent) (sessionWords task before q) ≡ sessionWords task before q′)
         go true e =
             let whole : length (sessionWords task before q) ≤ step .lent = rw (number q) (omega (arith, ltb-true (length before) (step .lent) e)) in
-            let p = promise .session task before q a k (take-all (step .lent) (sessionWords task before q) whole) in
-            (p .0, ap₂ (λ (xs ys : List ℕ). xs ++ ys) (p .1) (drop-of-length-le (sessionWords task before q) whole) ∙ append-nil (sessionWords task before q′))
+            let p = promise .session task before q a k (take-all (step .lent) (sessionWords task before q) whole) in (
+              p .0,
+              ap₂ (λ (xs ys : List ℕ). xs ++ ys) (p .1) (drop-of-length-le (sessionWords task before q) whole)
+                  ∙ append-nil (sessionWords task before q′),
+            )
         go false e =
             let m : step .lent ≤ length before = ltb-false (length before) (step .lent) e in
-            let p = promise .session task (take (step .lent) before) q (accepts-in (take (step .lent) before) (rw (length-take-le (step .lent) before m) l)) k (take-session task (limits .few-hits) before (step .lent) l m q) in (
+            let p =
+            promise .session task (take (step .lent) before) q (accepts-in (take (step .lent) before) (rw (length-take-le (step .lent) before m) l)) k
+            (take-session task (limits .few-hits) before (step .lent) l m q) in (
               p .0,
-              ap₂ (λ (xs ys : List ℕ). xs ++ ys) (p .1 ∙ sym (take-session task (limits .few-hits) before (step .lent) l m q′)) (drop-session task (limits .few-hits) before (step .lent) l m q q′)
+              ap₂ (λ (xs ys : List ℕ). xs ++ ys) (p .1 ∙ sym (take-session task (limits .few-hits) before (step .lent) l m q′))
+                  (drop-session task (limits .few-hits) before (step .lent) l m q q′)
                   ∙ take-append-drop (step .lent) (sessionWords task before q′),
             )
 
@@ -104,7 +119,8 @@ module _ (task : Task) (before : List ℕ) (a : Accepts task before) where
   -- a list of steps, from the words after q cells on: the rule's answers, and after each step the words of the session
   pub ran-on : (q : ℕ) {work : List ℕ} {states : List (List ℕ)} {steps : List Step} {heard : List Answer} → q ≤ cellCount (hitCount task)
       → work ≡ sessionWords task before q → Ran work steps heard states
-      → (heard ≡ answers task q steps) × ((n : ℕ) → n ≤ length steps → wordsAfter work states n ≡ sessionWords task before (q + passedBefore heard n))
+      → (heard ≡ answers task q steps)
+      × ((n : ℕ) → n ≤ length steps → wordsAfter work states n ≡ sessionWords task before (q + passedBefore heard n))
   unfolding answers
   ran-on q {work} k e none = (refl, at)
     where
@@ -123,12 +139,14 @@ module _ (task : Task) (before : List ℕ) (a : Accepts task before) where
       (ap₂ (λ (x : Answer) (xs : List Answer). x ∷ xs) (one .0) (others .0), at (one .0) (others .1))
     where
       at : answerOf answer ≡ stepAnswer task q step
-          → ((n : ℕ) → n ≤ length steps → wordsAfter (after ++ drop (step .lent) work) states n ≡ sessionWords task before (q + reported (stepAnswer task q step) + passedBefore heard n))
+          → ((n : ℕ) → n ≤ length steps → wordsAfter (after ++ drop (step .lent) work) states n
+          ≡ sessionWords task before (q + reported (stepAnswer task q step) + passedBefore heard n))
           → (n : ℕ) → n ≤ suc (length steps)
           → wordsAfter work ((after ++ drop (step .lent) work) ∷ states) n ≡ sessionWords task before (q + passedBefore (answerOf answer ∷ heard) n)
       at f further zero l = e ∙ (let z : q ≡ q + 0 = omega arith in ap (sessionWords task before) z)
       at f further (suc n) l =
-          let count : q + reported (stepAnswer task q step) + passedBefore heard n ≡ q + (reported (answerOf answer) + passedBefore heard n) = rw f (omega arith) in
+          let count : q + reported (stepAnswer task q step) + passedBefore heard n ≡ q + (reported (answerOf answer) + passedBefore heard n) =
+          rw f (omega arith) in
           further n (le-of-suc-le-suc l) ∙ ap (sessionWords task before) count
 
   -- beyond the first 16,384 a session's words are those before start
@@ -182,7 +200,8 @@ module _ (settings : Settings) (text read : List ℕ) (lent : Lent) (n m s h : �
   struck-codes-are : struckCodes settings text read lent n m s ≡ codes (textOf settings text)
   unfolding struckCodes textCodes textPositions textOf
   struck-codes-are =
-      strike-wrote (textCodes settings text read lent n m s) (textPositions settings text read lent n m s) (settings .c) (lent .struck-codes) (lent .struck-positions) s (all .strike) .codes-are
+      strike-wrote (textCodes settings text read lent n m s) (textPositions settings text read lent n m s) (settings .c) (lent .struck-codes)
+      (lent .struck-positions) s (all .strike) .codes-are
       ∙ ap (λ (es : List Entry). codes (struck (settings .c) es)) (of-text .paired)
 
   read-codes-are : readCodes settings text read lent n m s ≡ codes (patternOf settings read)
@@ -209,5 +228,6 @@ module _ (settings : Settings) (text read : List ℕ) (lent : Lent) (n m s h : �
       → Ran (startWords (startTask settings text read lent n m s) (lent .work)) steps heard states
       → Demand3 (taskOf settings text read) (startWords (startTask settings text read lent n m s) (lent .work)) steps heard states
   demand3 {states} {steps} {heard} =
-      subst (λ (task : Task). Ran (startWords task (lent .work)) steps heard states → Demand3 (taskOf settings text read) (startWords task (lent .work)) steps heard states)
+      subst (λ (task : Task). Ran (startWords task (lent .work)) steps heard states
+      → Demand3 (taskOf settings text read) (startWords task (lent .work)) steps heard states)
       (sym start-task-is) (demand3-codes (taskOf settings text read) (lent .work) accepts-task)

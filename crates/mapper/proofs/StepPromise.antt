@@ -38,7 +38,8 @@ pub record InSession (task : Task) (before : List ℕ) (q : ℕ) (work : List �
   pub held : Holds task before q work
   pub number : 16384 ≤ length work
 
-pub in-session : (task : Task) (before : List ℕ) (q : ℕ) (work : List ℕ) → Accepts task before → work ≡ sessionWords task before q → InSession task before q work
+pub in-session : (task : Task) (before : List ℕ) (q : ℕ) (work : List ℕ) → Accepts task before → work ≡ sessionWords task before q
+    → InSession task before q work
 in-session task before q work a e =
     let l = admitted task (length before) (hitCount task ∷ []) (a .accepts) in
     let h = words-hold task before q (l .few-hits) (l .many-words) in
@@ -61,15 +62,19 @@ row-within : (h q : ℕ) → nextRow h q ≤ columnsLeft h q
 row-within zero q = le-refl 0
 row-within (suc j) q = go (ltb q (suc j)) refl (row-within j (q - suc j))
   where
-    go : (b : Bool) → ltb q (suc j) ≡ b → nextRow j (q - suc j) ≤ columnsLeft j (q - suc j) → cond b q (nextRow j (q - suc j)) ≤ cond b (suc j) (columnsLeft j (q - suc j))
+    go : (b : Bool) → ltb q (suc j) ≡ b → nextRow j (q - suc j) ≤ columnsLeft j (q - suc j)
+        → cond b q (nextRow j (q - suc j)) ≤ cond b (suc j) (columnsLeft j (q - suc j))
     go true e l = let k : q < suc j = ltb-true q (suc j) e in omega arith
     go false e l = l
 
 -- the place after q cells
-placed : (task : Task) (q : ℕ) → q ≤ cellCount (hitCount task) → PlaceAt task q (columnsLeft (hitCount task) q) (nextRow (hitCount task) q) (nextShared task (columnsLeft (hitCount task) q) (nextRow (hitCount task) q))
+placed : (task : Task) (q : ℕ) → q ≤ cellCount (hitCount task)
+    → PlaceAt task q (columnsLeft (hitCount task) q) (nextRow (hitCount task) q) (nextShared task (columnsLeft (hitCount task) q) (nextRow (hitCount task) q))
 placed task q l = go (eq-or-ne q (cellCount (hitCount task)))
   where
-    go : (q ≡ cellCount (hitCount task)) ⊎ (q ≡ cellCount (hitCount task) → ⊥) → PlaceAt task q (columnsLeft (hitCount task) q) (nextRow (hitCount task) q) (nextShared task (columnsLeft (hitCount task) q) (nextRow (hitCount task) q))
+    go : (q ≡ cellCount (hitCount task)) ⊎ (q ≡ cellCount (hitCount task) → ⊥)
+        → PlaceAt task q (columnsLeft (hitCount task) q) (nextRow (hitCount task) q)
+        (nextShared task (columnsLeft (hitCount task) q) (nextRow (hitCount task) q))
     go (inl e) =
         let at = at-end (hitCount task) in
         let c : columnsLeft (hitCount task) q ≡ 0 = ap (columnsLeft (hitCount task)) e ∙ at .columns-are in
@@ -84,12 +89,23 @@ placed task q l = go (eq-or-ne q (cellCount (hitCount task)))
         rw (c, r) (s .within, s .ordered, s .number, cell-shared task (cell .row) (cell .column) (s .ordered) (s .within))
 
 -- a session's words are not bad
-good-session : (task : Task) (before : List ℕ) (q : ℕ) (work : List ℕ) → InSession task before q work → q ≤ cellCount (hitCount task) → badWords work ≡ false
+good-session : (task : Task) (before : List ℕ) (q : ℕ) (work : List ℕ) → InSession task before q work → q ≤ cellCount (hitCount task)
+    → badWords work ≡ false
 unfolding badWords badWeights
 good-session task before q work s l =
     let b = s .held .held in
     let m = s .limits in
-    rw (b .h-word, b .u-word, b .v-word, s .held .passed-word, le-ltb 2048 (hitCount task) (m .few-hits), le-ltb (task .u) 1 (m .lowest-u), le-ltb 1000 (task .u) (m .limited .small-u), le-ltb (task .v) 1 (m .lowest-v), le-ltb 1000 (task .v) (m .limited .small-v))
+    rw (
+      b .h-word,
+      b .u-word,
+      b .v-word,
+      s .held .passed-word,
+      le-ltb 2048 (hitCount task) (m .few-hits),
+      le-ltb (task .u) 1 (m .lowest-u),
+      le-ltb 1000 (task .u) (m .limited .small-u),
+      le-ltb (task .v) 1 (m .lowest-v),
+      le-ltb 1000 (task .v) (m .limited .small-v),
+    )
     (le-ltb (cellCount (hitCount task)) q l)
 
 -- ---- the ways
@@ -128,7 +144,8 @@ module _ (work : List ℕ) (budget : ℕ) where
         beyond = refl;
       }
         where
-          lost : (task : Task) (before : List ℕ) (q : ℕ) → InSession task before q work → (getD work 0 0 < getD work 7 0) ⊎ (getD work 7 0 < getD work 8 0) → ⊥
+          lost : (task : Task) (before : List ℕ) (q : ℕ) → InSession task before q work
+              → (getD work 0 0 < getD work 7 0) ⊎ (getD work 7 0 < getD work 8 0) → ⊥
           lost task before q s (inl o) =
               omega (arith, s .held .held .h-word, s .held .columns-word, columns-within (hitCount task) q)
           lost task before q s (inr o) =
@@ -157,14 +174,19 @@ module _ (work : List ℕ) (budget : ℕ) where
               λ i. record { u = held .u-word i; v = held .v-word i; size = held .size-word i; threshold = held .threshold-word i }
 
           ruled : (task : Task) (before : List ℕ) (q : ℕ) → Accepts task before → q ≤ cellCount (hitCount task) → InSession task before q work
-              → (answerOf (walked .answer) ≡ ruleAnswer task q budget) × (walked .words ≡ sessionWords task before (q + reported (ruleAnswer task q budget)))
+              → (answerOf (walked .answer) ≡ ruleAnswer task q budget)
+              × (walked .words ≡ sessionWords task before (q + reported (ruleAnswer task q budget)))
           ruled task before q a k s =
               let m = s .limits in
               let held = s .held .held in
               let none : budget - budget ≡ 0 = omega arith in
-              let at : PlaceAt task q (getD work 7 0) (getD work 8 0) (getD work 9 0) = rw (s .held .columns-word, s .held .row-word, s .held .shared-word) (placed task q k) in
+              let at : PlaceAt task q (getD work 7 0) (getD work 8 0) (getD work 9 0) =
+              rw (s .held .columns-word, s .held .row-word, s .held .shared-word) (placed task q k) in
               let r : Ruled task (m .limited) (a .threshold-fits) (m .few-hits) before (m .many-words) q budget q budget walked =
-              rw (terms-are task before q s) (walk-rule task (m .limited) (a .threshold-fits) (m .few-hits) before (m .many-words) q budget (getD work 7 0) q (getD work 8 0) (getD work 9 0) budget work held (s .held .passed-word) (omega arith) (le-refl budget) at)
+              rw (terms-are task before q s)
+              (walk-rule task (m .limited) (a .threshold-fits) (m .few-hits) before (m .many-words) q budget (getD work 7 0) q (getD work 8 0)
+              (getD work 9 0) budget work held (s .held .passed-word) (omega arith) (le-refl budget) at)
               in
-              let answer : answerOf (walked .answer) ≡ ruleAnswer task q budget = r .answer-is ∙ ap (λ (n : ℕ). moreCells n (ruleAnswer task q budget)) none ∙ more-none (ruleAnswer task q budget) in
+              let answer : answerOf (walked .answer) ≡ ruleAnswer task q budget =
+              r .answer-is ∙ ap (λ (n : ℕ). moreCells n (ruleAnswer task q budget)) none ∙ more-none (ruleAnswer task q budget) in
               (answer, r .words-are ∙ ap (λ (x : Answer). sessionWords task before (q + reported x)) answer)

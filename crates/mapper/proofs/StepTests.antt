@@ -1,4 +1,5 @@
 -- The tests of words 0 to 3 in the code's order, against 15 as document 01 states it; and the test for a step of one cell.
+-- Assumes nothing.
 use Prim.Native.Nat.{ℕ, _+_, _*_, _/_, _≤_, _<_}
 use native.Mathlib.Nat.{mul-le-mul}
 use native.Mathlib.Numerals.{add-one}

@@ -84,32 +84,38 @@ before-suc j = omega arith
 more-passed : (budget left n rest : ℕ) → rest ≡ left - n → n ≤ left → left ≤ budget → budget - rest ≡ budget - left + n
 more-passed budget left n rest e a b = omega arith
 
-passed-from : (q₀ budget left n rest q : ℕ) → rest ≡ left - n → n ≤ left → left ≤ budget → q₀ + (budget - left) ≡ q → q₀ + (budget - rest) ≡ q + n
+passed-from : (q₀ budget left n rest q : ℕ) → rest ≡ left - n → n ≤ left → left ≤ budget → q₀ + (budget - left) ≡ q
+    → q₀ + (budget - rest) ≡ q + n
 passed-from q₀ budget left n rest q e a b f = omega arith
 
-module _ (task : Task) (limited : Limited task) (threshold-fits : mag (task .threshold) < bias) (small : hitCount task ≤ 2048) (before : List ℕ) (many : 16384 ≤ length before) where
+module _ (task : Task) (limited : Limited task) (threshold-fits : mag (task .threshold) < bias) (small : hitCount task ≤ 2048) (before : List ℕ)
+    (many : 16384 ≤ length before) where
   -- the number of cells is far below 2^32
   few-cells : (q : ℕ) → q ≤ cellCount (hitCount task) → q < 4294967296
   unfolding cellCount
   few-cells q l = let m : cellCount (hitCount task) ≤ 2098176 = cellCount-mono (hitCount task) 2048 small in omega arith
 
   -- the line of a column, read from the words
-  line-is : (q j : ℕ) (work : List ℕ) → j < hitCount task → HoldsBlocks task before q work → lineOf work (termsOf task) j ≡ sessionLine task limited threshold-fits j
+  line-is : (q j : ℕ) (work : List ℕ) → j < hitCount task → HoldsBlocks task before q work
+      → lineOf work (termsOf task) j ≡ sessionLine task limited threshold-fits j
   unfolding lineOf
   line-is q j work l h = rw (h .index-word j l, h .back-word j l)
 
   -- behind the last row of a column: the next one's first cell, or the end
-  next-column : (q j : ℕ) (words : List ℕ) → j < hitCount task → place (hitCount task) (suc j) j ≡ q → HoldsBlocks task before q words → PlaceAt task q j 0 (topShared words j)
+  next-column : (q j : ℕ) (words : List ℕ) → j < hitCount task → place (hitCount task) (suc j) j ≡ q → HoldsBlocks task before q words
+      → PlaceAt task q j 0 (topShared words j)
   unfolding whole
   next-column q zero words l e h = (sym e ∙ place-row (hitCount task) 0 0 ∙ place-last (hitCount task) l, refl, refl)
   next-column q (suc j) words l e h =
       (omega arith, zero-le, place-column (hitCount task) j l ∙ sym (place-row (hitCount task) (suc j) (suc j)) ∙ e, h .whole-word j (omega arith))
 
   -- the words with the place of q saved are those of the session after q cells
-  saved-is : (q cells : ℕ) (work : List ℕ) (p : Place) → HoldsBlocks task before q work → q ≤ cellCount (hitCount task) → getD work 3 0 + cells ≡ q → PlaceAt task q (p .columns) (p .row) (p .m) → saved work p cells ≡ sessionWords task before q
+  saved-is : (q cells : ℕ) (work : List ℕ) (p : Place) → HoldsBlocks task before q work → q ≤ cellCount (hitCount task)
+      → getD work 3 0 + cells ≡ q → PlaceAt task q (p .columns) (p .row) (p .m) → saved work p cells ≡ sessionWords task before q
   saved-is q cells work p h l e at =
       let w = place-words task q (p .columns) (p .row) (p .m) at in
-      hold-words task before q small many (saved work p cells) (place-saved task limited threshold-fits small before many q work h p cells (few-cells q l) e (w .columns-are) (w .row-is) (w .shared-is))
+      hold-words task before q small many (saved work p cells)
+      (place-saved task limited threshold-fits small before many q work h p cells (few-cells q l) e (w .columns-are) (w .row-is) (w .shared-is))
 
   module _ (q₀ budget : ℕ) where
     -- a walk with this much left answers as the rule from q on, with what it passed before added
@@ -117,28 +123,39 @@ module _ (task : Task) (limited : Limited task) (threshold-fits : mag (task .thr
       pub answer-is : answerOf (walk .answer) ≡ moreCells (budget - left) (ruleAnswer task q left)
       pub words-are : walk .words ≡ sessionWords task before (q₀ + reported (answerOf (walk .answer)))
 
-    no-column : (q row m left : ℕ) (work : List ℕ) → HoldsBlocks task before q work → getD work 3 0 ≡ q₀ → q₀ + (budget - left) ≡ q → PlaceAt task q 0 row m → Ruled q left (finishedWalk work (record { columns = 0; row = row; m = m }) (budget - left))
+    no-column : (q row m left : ℕ) (work : List ℕ) → HoldsBlocks task before q work → getD work 3 0 ≡ q₀ → q₀ + (budget - left) ≡ q
+        → PlaceAt task q 0 row m → Ruled q left (finishedWalk work (record { columns = 0; row = row; m = m }) (budget - left))
     unfolding finishedWalk
     no-column q row m left work h e₀ e at =
         let none : ruleAnswer task q left ≡ finished 0 = rule-none-left task q left (at .0) in
         let z : budget - left ≡ budget - left + 0 = omega arith in
         record {
           answer-is = ap finished z ∙ sym (ap (moreCells (budget - left)) none);
-          words-are = saved-is q (budget - left) work (record { columns = 0; row = row; m = m }) h (omega (arith, at .0)) (rw e₀ e) at ∙ ap (sessionWords task before) (sym e);
+          words-are =
+              saved-is q (budget - left) work (record { columns = 0; row = row; m = m }) h (omega (arith, at .0)) (rw e₀ e) at
+              ∙ ap (sessionWords task before) (sym e);
         }
 
     -- the budget ends at a cell
-    at-budget : (q j row m cells : ℕ) (work : List ℕ) → HoldsBlocks task before q work → getD work 3 0 ≡ q₀ → q₀ + cells ≡ q → PlaceAt task q (suc j) row m → (answerOf (spentWalk work (record { columns = suc j; row = row; m = m }) cells .answer) ≡ moreCells cells (ruleAnswer task q 0)) × (spentWalk work (record { columns = suc j; row = row; m = m }) cells .words ≡ sessionWords task before (q₀ + cells))
+    at-budget : (q j row m cells : ℕ) (work : List ℕ) → HoldsBlocks task before q work → getD work 3 0 ≡ q₀ → q₀ + cells ≡ q
+        → PlaceAt task q (suc j) row m
+        → (answerOf (spentWalk work (record { columns = suc j; row = row; m = m }) cells .answer) ≡ moreCells cells (ruleAnswer task q 0))
+        × (spentWalk work (record { columns = suc j; row = row; m = m }) cells .words ≡ sessionWords task before (q₀ + cells))
     unfolding spentWalk
     at-budget q j row m cells work h e₀ e at =
         let inside : place (hitCount task) row j < cellCount (hitCount task) = place-within (hitCount task) row j (at .1) (at .0) in
         let l : q < cellCount (hitCount task) = subst (λ (n : ℕ). n < cellCount (hitCount task)) (at .2) inside in
         let none : ruleAnswer task q 0 ≡ spent 0 = rule-no-budget task q ∙ rw (ne-eqb q (cellCount (hitCount task)) (λ f. omega arith)) in
-        let z : cells ≡ cells + 0 = omega arith in
-        (ap spent z ∙ sym (ap (moreCells cells) none), saved-is q cells work (record { columns = suc j; row = row; m = m }) h (omega arith) (rw e₀ e) at ∙ ap (sessionWords task before) (sym e))
+        let z : cells ≡ cells + 0 = omega arith in (
+          ap spent z ∙ sym (ap (moreCells cells) none),
+          saved-is q cells work (record { columns = suc j; row = row; m = m }) h (omega arith) (rw e₀ e) at
+              ∙ ap (sessionWords task before) (sym e),
+        )
 
     -- so does a walk that began at q and passed the cells up to there
-    spent-ruled : (q left q′ passed j row m cells : ℕ) (work : List ℕ) → HoldsBlocks task before q′ work → getD work 3 0 ≡ q₀ → q₀ + cells ≡ q′ → PlaceAt task q′ (suc j) row m → ruleAnswer task q left ≡ moreCells passed (ruleAnswer task q′ 0) → cells ≡ budget - left + passed → Ruled q left (spentWalk work (record { columns = suc j; row = row; m = m }) cells)
+    spent-ruled : (q left q′ passed j row m cells : ℕ) (work : List ℕ) → HoldsBlocks task before q′ work → getD work 3 0 ≡ q₀
+        → q₀ + cells ≡ q′ → PlaceAt task q′ (suc j) row m → ruleAnswer task q left ≡ moreCells passed (ruleAnswer task q′ 0)
+        → cells ≡ budget - left + passed → Ruled q left (spentWalk work (record { columns = suc j; row = row; m = m }) cells)
     unfolding spentWalk
     spent-ruled q left q′ passed j row m cells work h e₀ e at rule count =
         let b = at-budget q′ j row m cells work h e₀ e at in
@@ -152,7 +169,10 @@ module _ (task : Task) (limited : Limited task) (threshold-fits : mag (task .thr
         }
 
     -- the place behind cell (row, j), in its column or at the top of the next
-    settled-at : (q j row m : ℕ) (words : List ℕ) → j < hitCount task → row ≤ j → place (hitCount task) (suc row) j ≡ q → lowered m 1 ≡ sharedAt task (suc row) j → HoldsBlocks task before q words → PlaceAt task q (settled words (suc j) (suc row) (lowered m 1) .columns) (settled words (suc j) (suc row) (lowered m 1) .row) (settled words (suc j) (suc row) (lowered m 1) .m)
+    settled-at : (q j row m : ℕ) (words : List ℕ) → j < hitCount task → row ≤ j → place (hitCount task) (suc row) j ≡ q
+        → lowered m 1 ≡ sharedAt task (suc row) j → HoldsBlocks task before q words
+        → PlaceAt task q (settled words (suc j) (suc row) (lowered m 1) .columns) (settled words (suc j) (suc row) (lowered m 1) .row)
+        (settled words (suc j) (suc row) (lowered m 1) .m)
     unfolding settled
     settled-at q j row m words l a e em h = go (ltb (suc row) (suc j)) refl
       where
@@ -165,67 +185,88 @@ module _ (task : Task) (limited : Limited task) (threshold-fits : mag (task .thr
             let k : suc j ≤ suc row = ltb-false (suc row) (suc j) t in
             let f : row ≡ j = omega arith in
             let g : suc j - 1 ≡ j = omega arith in
-            subst (λ (n : ℕ). PlaceAt task q n 0 (topShared words n)) (sym g) (next-column q j words l (ap (λ (n : ℕ). place (hitCount task) (suc n) j) (sym f) ∙ e) h)
+            subst (λ (n : ℕ). PlaceAt task q n 0 (topShared words n)) (sym g)
+            (next-column q j words l (ap (λ (n : ℕ). place (hitCount task) (suc n) j) (sym f) ∙ e) h)
 
     -- a final cell of the column
-    at-final : (q j row k m left : ℕ) (work : List ℕ) (update : Update) → HoldsBlocks task before q work → getD work 3 0 ≡ q₀ → q₀ + (budget - left) ≡ q → left ≤ budget → suc k ≤ left → j < hitCount task → row + k ≤ j → place (hitCount task) row j ≡ q
-        → update .answer .row ≡ suc (row + k) → update .answer .m ≡ sharedAt task (row + k) j → isFinalCell task (cellAt (row + k) j) ≡ true → lowered (sharedAt task (row + k) j) 1 ≡ sharedAt task (suc (row + k)) j
-        → HoldsBlocks task before (q + suc k) (withPart work (update .part)) → ((B : ℕ) → ruleAnswer task q (suc k + B) ≡ found (mappingOf task (cellAt (row + k) j)) (suc k))
+    at-final : (q j row k m left : ℕ) (work : List ℕ) (update : Update) → HoldsBlocks task before q work → getD work 3 0 ≡ q₀
+        → q₀ + (budget - left) ≡ q → left ≤ budget → suc k ≤ left → j < hitCount task → row + k ≤ j
+        → place (hitCount task) row j ≡ q
+        → update .answer .row ≡ suc (row + k) → update .answer .m ≡ sharedAt task (row + k) j → isFinalCell task (cellAt (row + k) j) ≡ true
+        → lowered (sharedAt task (row + k) j) 1 ≡ sharedAt task (suc (row + k)) j
+        → HoldsBlocks task before (q + suc k) (withPart work (update .part))
+        → ((B : ℕ) → ruleAnswer task q (suc k + B) ≡ found (mappingOf task (cellAt (row + k) j)) (suc k))
         → Ruled q left (foundWalk (termsOf task) (withPart work (update .part)) (suc j) (update .answer) (budget - (left - (update .answer .row - row))))
     unfolding foundWalk mappingOf leftEnd rightEnd
     at-final q j row k m left work update h e₀ e fits spends l inside at er em final lower h′ rule =
         let words = withPart work (update .part) in
         let cells : budget - (left - (update .answer .row - row)) ≡ budget - left + suc k = rw er (omega arith) in
         let whole-budget : left ≡ suc k + (left - suc k) = omega arith in
-        let answer : ruleAnswer task q left ≡ found (mappingOf task (cellAt (row + k) j)) (suc k) = ap (ruleAnswer task q) whole-budget ∙ rule (left - suc k) in
+        let answer : ruleAnswer task q left ≡ found (mappingOf task (cellAt (row + k) j)) (suc k) =
+        ap (ruleAnswer task q) whole-budget ∙ rule (left - suc k) in
         let row-in : row + k < hitCount task = omega arith in
         let left-end : getD words (4096 + update .answer .row - 1) 0 ≡ getD (hits task) (row + k) 0 =
-        (let f : 4096 + suc (row + k) - 1 ≡ 4096 + (row + k) = omega arith in ap (λ (n : ℕ). getD words (4096 + n - 1) 0) er ∙ ap (λ (n : ℕ). getD words n 0) f ∙ h′ .index-word (row + k) row-in)
+        (let f : 4096 + suc (row + k) - 1 ≡ 4096 + (row + k) = omega arith in ap (λ (n : ℕ). getD words (4096 + n - 1) 0) er
+        ∙ ap (λ (n : ℕ). getD words n 0) f ∙ h′ .index-word (row + k) row-in)
         in
         let right-end : getD words (4096 + suc j - 1) 0 ≡ getD (hits task) j 0 =
         (let f : 4096 + suc j - 1 ≡ 4096 + j = omega arith in ap (λ (n : ℕ). getD words n 0) f ∙ h′ .index-word j l)
         in
-        let shares : sharedAt task (row + k) j ≡ sharedOf task (getD (hits task) (row + k) 0) (getD (hits task) j 0) = sym (cell-shared task (row + k) j inside l) in
+        let shares : sharedAt task (row + k) j ≡ sharedOf task (getD (hits task) (row + k) 0) (getD (hits task) j 0) =
+        sym (cell-shared task (row + k) j inside l) in
         let passed = budget - (left - (update .answer .row - row)) in
         let decides : decided (termsOf task) (getD words (4096 + update .answer .row - 1) 0) (getD words (4096 + suc j - 1) 0) (update .answer .m) passed
-        ≡ Found (getD (hits task) (row + k) 0) (getD (hits task) j 0) (scoreOf task (getD (hits task) (row + k) 0) (getD (hits task) j 0)) (sharedAt task (row + k) j) passed =
+        ≡ Found (getD (hits task) (row + k) 0) (getD (hits task) j 0) (scoreOf task (getD (hits task) (row + k) 0) (getD (hits task) j 0))
+        (sharedAt task (row + k) j) passed =
         rw (left-end, right-end, em) (final-decided task limited threshold-fits (row + k) j inside l final passed)
         in
         let further : place (hitCount task) (suc (row + k)) j ≡ q + suc k = place-further (hitCount task) row (suc k) j (suc (row + k)) q at (omega arith) in
         let within : place (hitCount task) (row + k) j < cellCount (hitCount task) = place-within (hitCount task) (row + k) j inside l in
         let next : suc (place (hitCount task) (row + k) j) ≡ q + suc k = sym (place-row (hitCount task) (row + k) j) ∙ further in
         let lower′ : lowered (update .answer .m) 1 ≡ sharedAt task (suc (row + k)) j = ap (λ (n : ℕ). lowered n 1) em ∙ lower in
-        let settles : PlaceAt task (q + suc k) (settled words (suc j) (update .answer .row) (lowered (update .answer .m) 1) .columns) (settled words (suc j) (update .answer .row) (lowered (update .answer .m) 1) .row) (settled words (suc j) (update .answer .row) (lowered (update .answer .m) 1) .m) =
+        let settles : PlaceAt task (q + suc k) (settled words (suc j) (update .answer .row) (lowered (update .answer .m) 1) .columns)
+        (settled words (suc j) (update .answer .row) (lowered (update .answer .m) 1) .row)
+        (settled words (suc j) (update .answer .row) (lowered (update .answer .m) 1) .m) =
         rw er (settled-at (q + suc k) j (row + k) (update .answer .m) words l inside further lower′ h′)
         in
-        let count : getD words 3 0 + (budget - (left - (update .answer .row - row))) ≡ q + suc k = rw (passed-back task limited threshold-fits small before many q work (update .part) h, e₀, cells) (omega arith) in
+        let count : getD words 3 0 + (budget - (left - (update .answer .row - row))) ≡ q + suc k =
+        rw (passed-back task limited threshold-fits small before many q work (update .part) h, e₀, cells) (omega arith) in
         let total : q + suc k ≡ q₀ + (budget - (left - (update .answer .row - row))) = rw cells (omega arith) in
         record {
           answer-is = ap answerOf decides ∙ rw (shares, cells, answer);
           words-are =
-              saved-is (q + suc k) (budget - (left - (update .answer .row - row))) words (settled words (suc j) (update .answer .row) (lowered (update .answer .m) 1)) h′ (omega arith) count settles
+              saved-is (q + suc k) (budget - (left - (update .answer .row - row))) words
+              (settled words (suc j) (update .answer .row) (lowered (update .answer .m) 1)) h′ (omega arith) count settles
               ∙ ap (sessionWords task before) (total ∙ ap (λ (answer : Stepped). q₀ + reported (answerOf answer)) (sym decides));
         }
 
     -- the update of a column in the words of a session
-    column-chunk : (q j row m left : ℕ) (work : List ℕ) → HoldsBlocks task before q work → j < hitCount task → row ≤ j → place (hitCount task) row j ≡ q → m ≡ sharedAt task row j → Chunk task limited threshold-fits j row (min left (suc j - row)) q (partOf work) (columnUpdate (termsOf task) j row m left work)
+    column-chunk : (q j row m left : ℕ) (work : List ℕ) → HoldsBlocks task before q work → j < hitCount task → row ≤ j
+        → place (hitCount task) row j ≡ q → m ≡ sharedAt task row j
+        → Chunk task limited threshold-fits j row (min left (suc j - row)) q (partOf work) (columnUpdate (termsOf task) j row m left work)
     unfolding columnUpdate
     column-chunk q j row m left work h l a e em =
         let p = blocks-part task limited threshold-fits small before many q work h in
         rw (line-is q j work l h)
-        (chunk task limited threshold-fits j l small (min left (suc j - row)) row q m (seenBefore (partOf work) row) (partOf work) (omega arith) e em (seen row (omega arith) p) p)
+        (chunk task limited threshold-fits j l small (min left (suc j - row)) row q m (seenBefore (partOf work) row) (partOf work) (omega arith) e em
+        (seen row (omega arith) p) p)
       where
-        seen : (row : ℕ) → row ≤ hitCount task → PartHolds task limited threshold-fits q (partOf work) → seenBefore (partOf work) row ≡ bestBefore (bestAfter task q) row
+        seen : (row : ℕ) → row ≤ hitCount task → PartHolds task limited threshold-fits q (partOf work)
+            → seenBefore (partOf work) row ≡ bestBefore (bestAfter task q) row
         seen zero l p = refl
         seen (suc i) l p = p .best-word i l
 
     -- the other cells of the column are passed, and the budget ends there or the next column begins
-    pub walk-rule : (columns q row m left : ℕ) (work : List ℕ) → HoldsBlocks task before q work → getD work 3 0 ≡ q₀ → q₀ + (budget - left) ≡ q → left ≤ budget → PlaceAt task q columns row m → Ruled q left (walkOn (termsOf task) budget columns row m left work)
+    pub walk-rule : (columns q row m left : ℕ) (work : List ℕ) → HoldsBlocks task before q work → getD work 3 0 ≡ q₀
+        → q₀ + (budget - left) ≡ q → left ≤ budget → PlaceAt task q columns row m
+        → Ruled q left (walkOn (termsOf task) budget columns row m left work)
     walk-rule zero q row m left work h e₀ e fits at = no-column q row m left work h e₀ e at
     walk-rule (suc j) q row m left work h e₀ e fits at =
         let update = columnUpdate (termsOf task) j row m left work in
         go (eq-or-ne left 0) (column-chunk q j row m left work h (at .0) (at .1) (at .2) (at .3))
-        (λ q′ h′ e′ at′. walk-rule j q′ 0 (topShared (withPart work (update .part)) j) (left - (update .answer .row - row)) (withPart work (update .part)) h′ (passed-back task limited threshold-fits small before many q work (update .part) h ∙ e₀) e′ (omega arith) at′)
+        (λ q′ h′ e′ at′. walk-rule j q′ 0 (topShared (withPart work (update .part)) j) (left - (update .answer .row - row))
+        (withPart work (update .part)) h′ (passed-back task limited threshold-fits small before many q work (update .part) h ∙ e₀) e′
+        (omega arith) at′)
       where
         update : Update
         update = columnUpdate (termsOf task) j row m left work
@@ -245,14 +286,21 @@ module _ (task : Task) (limited : Limited task) (threshold-fits : mag (task .thr
         same-words : withPart work (update .part) ≡ withPart work (columnUpdate (termsOf task) (suc j - 1) row m left work .part)
         same-words = ap (λ (u : Update). withPart work (u .part)) (sym same-column)
 
-        go : (left ≡ 0) ⊎ (left ≡ 0 → ⊥) → Chunk task limited threshold-fits j row (min left (suc j - row)) q (partOf work) update → ((q′ : ℕ) → HoldsBlocks task before q′ words → q₀ + (budget - (left - (update .answer .row - row))) ≡ q′ → PlaceAt task q′ j 0 (topShared words j) → Ruled q′ (left - (update .answer .row - row)) (walkOn (termsOf task) budget j 0 (topShared words j) (left - (update .answer .row - row)) words)) → Ruled q left (walkOn (termsOf task) budget (suc j) row m left work)
+        go : (left ≡ 0) ⊎ (left ≡ 0 → ⊥) → Chunk task limited threshold-fits j row (min left (suc j - row)) q (partOf work) update
+            → ((q′ : ℕ) → HoldsBlocks task before q′ words → q₀ + (budget - (left - (update .answer .row - row))) ≡ q′
+            → PlaceAt task q′ j 0 (topShared words j)
+            → Ruled q′ (left - (update .answer .row - row))
+            (walkOn (termsOf task) budget j 0 (topShared words j) (left - (update .answer .row - row)) words))
+            → Ruled q left (walkOn (termsOf task) budget (suc j) row m left work)
         go (inl z) c rec =
             by (walk-spent (termsOf task) budget (suc j) row m left work (suc-le-suc zero-le) z)
             (spent-ruled q left q 0 j row m budget work h e₀ (omega arith) at (rw z (sym (more-none (ruleAnswer task q 0)))) (omega arith))
         go (inr n) (one-found k within f r em final lower p same rule) rec =
             let inside : row + k ≤ j = omega (arith, at .1) in
-            by (walk-found (termsOf task) budget (suc j) row m left work (suc-le-suc zero-le) n (update .answer) (withPart work (update .part)) same-answer same-words f)
-            (at-final q j row k m left work update h e₀ e fits (omega arith) (at .0) inside (at .2) r em final lower (part-blocks task limited threshold-fits small before many q (q + suc k) work (update .part) h p same) rule)
+            by (walk-found (termsOf task) budget (suc j) row m left work (suc-le-suc zero-le) n (update .answer)
+            (withPart work (update .part)) same-answer same-words f)
+            (at-final q j row k m left work update h e₀ e fits (omega arith) (at .0) inside (at .2) r em final lower
+            (part-blocks task limited threshold-fits small before many q (q + suc k) work (update .part) h p same) rule)
         go (inr n) (all-passed f r em p same rule) rec = ends (ltb (update .answer .row) (suc j)) refl
           where
             passed : ℕ
@@ -280,16 +328,23 @@ module _ (task : Task) (limited : Limited task) (threshold-fits : mag (task .thr
             ends true t =
                 let l : update .answer .row < suc j = ltb-true (update .answer .row) (suc j) t in
                 let all : passed ≡ left = all-of left j row (update .answer .row) r l in
-                by (walk-part (termsOf task) budget (suc j) row m left work (suc-le-suc zero-le) n (update .answer) (withPart work (update .part)) same-answer same-words f l)
-                (spent-ruled q left (q + passed) passed j (update .answer .row) (update .answer .m) (budget - rest) words held (passed-back task limited threshold-fits small before many q work (update .part) h ∙ e₀) counted (at .0, omega arith, further, em ∙ ap (λ (i : ℕ). sharedAt task i j) (sym r)) (let z : left ≡ passed + 0 = omega arith in ap (ruleAnswer task q) z ∙ rule 0) (more-passed budget left passed rest rest-is few fits))
+                by (walk-part (termsOf task) budget (suc j) row m left work (suc-le-suc zero-le) n (update .answer)
+                (withPart work (update .part)) same-answer same-words f l)
+                (spent-ruled q left (q + passed) passed j (update .answer .row) (update .answer .m) (budget - rest) words held
+                (passed-back task limited threshold-fits small before many q work (update .part) h ∙ e₀) counted
+                (at .0, omega arith, further, em ∙ ap (λ (i : ℕ). sharedAt task i j) (sym r))
+                (let z : left ≡ passed + 0 = omega arith in ap (ruleAnswer task q) z ∙ rule 0) (more-passed budget left passed rest rest-is few fits))
             ends false t =
                 let l : suc j ≤ update .answer .row = ltb-false (update .answer .row) (suc j) t in
                 let column-end : update .answer .row ≡ suc j = ends-at left j row (update .answer .row) (at .1) r l in
-                let later = rec (q + passed) held counted (next-column (q + passed) j words (at .0) (ap (λ (i : ℕ). place (hitCount task) i j) (sym column-end) ∙ further) held) in
+                let later =
+                rec (q + passed) held counted
+                (next-column (q + passed) j words (at .0) (ap (λ (i : ℕ). place (hitCount task) i j) (sym column-end) ∙ further) held) in
                 let whole-budget : left ≡ passed + rest = rest-of left passed rest rest-is few in
                 let count : budget - rest ≡ budget - left + passed = more-passed budget left passed rest rest-is few fits in
                 let one-less : suc j - 1 ≡ j = before-suc j in
-                by (walk-next (termsOf task) budget (suc j) row m left work (suc-le-suc zero-le) n (update .answer) (withPart work (update .part)) same-answer same-words f l)
+                by (walk-next (termsOf task) budget (suc j) row m left work (suc-le-suc zero-le) n (update .answer)
+                (withPart work (update .part)) same-answer same-words f l)
                 (rw one-less
                 (record {
                   answer-is =

@@ -51,17 +51,24 @@ module _ (terms : Terms) (budget columns row m left : ℕ) (work : List ℕ) (h 
   walk-spent e = rw (suc-pred columns h, e)
 
   -- with what the column's update has answered, and the words with its part back
-  module _ (l : left ≢ 0) (p : Passed) (words : List ℕ) (ep : p ≡ columnUpdate terms (columns - 1) row m left work .answer) (ew : words ≡ withPart work (columnUpdate terms (columns - 1) row m left work .part)) where
-    unrolled : walkOn terms budget columns row m left work ≡ cond (p .found) (foundWalk terms words columns p (budget - (left - (p .row - row)))) (cond (ltb (p .row) columns) (spentWalk words (record { columns = columns; row = p .row; m = p .m }) (budget - (left - (p .row - row)))) (walkOn terms budget (columns - 1) 0 (topShared words (columns - 1)) (left - (p .row - row)) words))
+  module _ (l : left ≢ 0) (p : Passed) (words : List ℕ) (ep : p ≡ columnUpdate terms (columns - 1) row m left work .answer)
+      (ew : words ≡ withPart work (columnUpdate terms (columns - 1) row m left work .part)) where
+    unrolled : walkOn terms budget columns row m left work
+        ≡ cond (p .found) (foundWalk terms words columns p (budget - (left - (p .row - row))))
+        (cond (ltb (p .row) columns) (spentWalk words (record { columns = columns; row = p .row; m = p .m }) (budget - (left - (p .row - row))))
+        (walkOn terms budget (columns - 1) 0 (topShared words (columns - 1)) (left - (p .row - row)) words))
     unrolled = rw (ep, ew) (ap (λ (n : ℕ). walkOn terms budget n row m left work) (suc-pred columns h) ∙ simp (ne-eqb left 0 l, ← suc-pred columns h))
 
     pub walk-found : p .found ≡ true → walkOn terms budget columns row m left work ≡ foundWalk terms words columns p (budget - (left - (p .row - row)))
     walk-found f = unrolled ∙ rw f
 
-    pub walk-part : p .found ≡ false → p .row < columns → walkOn terms budget columns row m left work ≡ spentWalk words (record { columns = columns; row = p .row; m = p .m }) (budget - (left - (p .row - row)))
+    pub walk-part : p .found ≡ false → p .row < columns
+        → walkOn terms budget columns row m left work
+        ≡ spentWalk words (record { columns = columns; row = p .row; m = p .m }) (budget - (left - (p .row - row)))
     walk-part f r = unrolled ∙ rw (f, lt-ltb (p .row) columns r)
 
-    pub walk-next : p .found ≡ false → columns ≤ p .row → walkOn terms budget columns row m left work ≡ walkOn terms budget (columns - 1) 0 (topShared words (columns - 1)) (left - (p .row - row)) words
+    pub walk-next : p .found ≡ false → columns ≤ p .row
+        → walkOn terms budget columns row m left work ≡ walkOn terms budget (columns - 1) 0 (topShared words (columns - 1)) (left - (p .row - row)) words
     walk-next f r = unrolled ∙ rw (f, le-ltb (p .row) columns r)
 
 -- ---- where a column's update stops
@@ -73,7 +80,8 @@ pub record Stops (columns row left : ℕ) (p : Passed) : Type 0 where
   pub moved : p .found ≡ true → suc row ≤ p .row
   pub whole : p .found ≡ false → p .row ≡ row + min left (columns - row)
 
-pub update-stops : (terms : Terms) (columns row m left : ℕ) (work : List ℕ) (p : Passed) → 0 < columns → row ≤ columns → p ≡ columnUpdate terms (columns - 1) row m left work .answer → Stops columns row left p
+pub update-stops : (terms : Terms) (columns row m left : ℕ) (work : List ℕ) (p : Passed) → 0 < columns → row ≤ columns
+    → p ≡ columnUpdate terms (columns - 1) row m left work .answer → Stops columns row left p
 unfolding columnUpdate
 update-stops terms columns row m left work p h r e =
     let b = bounded (lineOf work terms (columns - 1)) (min left (suc (columns - 1) - row)) row m (seenBefore (partOf work) row) (partOf work) in
@@ -107,7 +115,8 @@ module _ (terms : Terms) (columns row m left : ℕ) (work : List ℕ) (line : Li
 
 -- ---- the place saved: no other word changes
 
-pub saved-other : (work : List ℕ) (place : Place) (cells n : ℕ) → (n ≡ 3 → ⊥) → (n ≡ 7 → ⊥) → (n ≡ 8 → ⊥) → (n ≡ 9 → ⊥) → getD (saved work place cells) n 0 ≡ getD work n 0
+pub saved-other : (work : List ℕ) (place : Place) (cells n : ℕ) → (n ≡ 3 → ⊥) → (n ≡ 7 → ⊥) → (n ≡ 8 → ⊥) → (n ≡ 9 → ⊥)
+    → getD (saved work place cells) n 0 ≡ getD work n 0
 unfolding saved
 saved-other work place cells n a b c d =
     let saved₃ = set work 3 ((getD work 3 0 + cells) % 4294967296) in
@@ -124,7 +133,8 @@ saved-behind work place cells n l = saved-other work place cells n (λ e. omega 
 -- ---- the walk of one cell, in a column that has a further row
 
 module _ (terms : Terms) (columns row m : ℕ) (work : List ℕ) (p : Passed) (words : List ℕ) (h : row + 1 < columns)
-    (ep : p ≡ columnUpdate terms (columns - 1) row m 1 work .answer) (ew : words ≡ withPart work (columnUpdate terms (columns - 1) row m 1 work .part)) where
+    (ep : p ≡ columnUpdate terms (columns - 1) row m 1 work .answer)
+    (ew : words ≡ withPart work (columnUpdate terms (columns - 1) row m 1 work .part)) where
   some : _≢_ {A = ℕ} 1 0
   some e = omega arith
 

@@ -72,7 +72,8 @@ all-accept = record {
 promise-kept : (work : List ℕ) (budget : ℕ) → (answer : Stepped) × (after : List ℕ) × StepPromise work budget answer after
 promise-kept work budget = number (ltb (length work) workWords) refl
   where
-    words : (b : Bool) → badWords work ≡ b → workWords ≤ length work → (answer : Stepped) × (after : List ℕ) × StepPromise work budget answer after
+    words : (b : Bool) → badWords work ≡ b → workWords ≤ length work
+        → (answer : Stepped) × (after : List ℕ) × StepPromise work budget answer after
     words true e l = (BadWords, work, bad-promise work budget l e)
     words false e l = (_, _, walk-promise work budget l e)
 

@@ -14,7 +14,8 @@ use Rattle.mappings.specs.Rule.{Answer, reported, Step, stepAnswer, answ
 use Rattle.mappings.specs.Demand.{Found, Finished, stepAt, answerAt, passedBefore, Demanded}
 use Rattle.mappings.proofs.Cells.{length-cells}
 use Rattle.mappings.proofs.Rule.{total, finalsOf}
-use Rattle.mappings.proofs.Steps.{accepted-answer, refused-answer, step-refused, step-finished, answers-list, answers-within, length-answers, take-answers, answer-at, passed-suc, answers-end}
+use Rattle.mappings.proofs.Steps.{accepted-answer, refused-answer, step-refused, step-finished, answers-list, answers-within, length-answers}
+use Rattle.mappings.proofs.Steps.{take-answers, answer-at, passed-suc, answers-end}
 use Rattle.mappings.proofs.Finals.{finals-among, finals-once, final-among}
 
 -- all cells
@@ -37,10 +38,13 @@ module _ (task : Task) (steps : List Step) where
   fresh-answer n h = answer-at task 0 n steps h ∙ ap (λ (k : ℕ). stepAnswer task k (stepAt steps n)) (zero-add (passedBefore given n))
 
   -- the q after step n
-  fresh-suc : (n : ℕ) → n < length steps → passedBefore given (suc n) ≡ passedBefore given n + reported (stepAnswer task (passedBefore given n) (stepAt steps n))
-  fresh-suc n h = passed-suc given n (rw (length-answers task 0 steps) h) ∙ ap (λ (answer : Answer). passedBefore given n + reported answer) (fresh-answer n h)
+  fresh-suc : (n : ℕ) → n < length steps
+      → passedBefore given (suc n) ≡ passedBefore given n + reported (stepAnswer task (passedBefore given n) (stepAt steps n))
+  fresh-suc n h =
+      passed-suc given n (rw (length-answers task 0 steps) h) ∙ ap (λ (answer : Answer). passedBefore given n + reported answer) (fresh-answer n h)
 
-  fresh-finished : (n : ℕ) → n < length steps → Finished (answerAt given n) ↔ ((workWords ≤ stepAt steps n .lent) × (¬ Found (answerAt given n)) × (passedBefore given (suc n) ≡ total task))
+  fresh-finished : (n : ℕ) → n < length steps
+      → Finished (answerAt given n) ↔ ((workWords ≤ stepAt steps n .lent) × (¬ Found (answerAt given n)) × (passedBefore given (suc n) ≡ total task))
   fresh-finished n h = rw (fresh-answer n h, fresh-suc n h) (step-finished task (passedBefore given n) (fresh-within n) (stepAt steps n))
 
   pub demand : Demanded task steps (answers task 0 steps)
@@ -51,7 +55,8 @@ module _ (task : Task) (steps : List Step) where
     once = rw (answers-list task 0 steps zero-le) (finals-once task (passed given));
     refusals = λ n h. rw (fresh-answer n h) (step-refused task (passedBefore given n) (fresh-within n) (stepAt steps n));
     unmoved = λ n h l.
-        (let none : reported (stepAnswer task (passedBefore given n) (stepAt steps n)) ≡ 0 = ap reported (refused-answer task (passedBefore given n) (stepAt steps n) (omega arith)) in
+        (let none : reported (stepAnswer task (passedBefore given n) (stepAt steps n))
+        ≡ 0 = ap reported (refused-answer task (passedBefore given n) (stepAt steps n) (omega arith)) in
         omega (arith, fresh-suc n h));
     by-rule = λ n h l. fresh-answer n h ∙ accepted-answer task (passedBefore given n) (stepAt steps n) l;
     finishes = fresh-finished;

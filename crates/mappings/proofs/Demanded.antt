@@ -12,7 +12,8 @@ use Rattle.mappings.specs.Score.{Task}
 use Rattle.mappings.specs.Definition1.{Final}
 use Rattle.mappings.specs.Cells.{Cell, Mapping, mappingOf, cells, cellsOf, hitCount}
 use Rattle.mappings.specs.Rule.{Answer, found, finished, spent, refused, reported, Step, isAccepted, stepAnswer, answers, passed, handedOut}
-use Rattle.mappings.specs.Demand.{FinalsAmong, no-cells, with-final, without, EachOnce, Found, Finished, HasFinished, Among, stepAt, answerAt, passedBefore, isAmple, Demanded}
+use Rattle.mappings.specs.Demand.{FinalsAmong, no-cells, with-final, without, EachOnce, Found, Finished, HasFinished, Among, stepAt, answerAt}
+use Rattle.mappings.specs.Demand.{passedBefore, isAmple, Demanded}
 use Rattle.mappings.proofs.Cells.{length-cells}
 use Rattle.mappings.proofs.Rule.{total, finalsOf}
 use Rattle.mappings.proofs.Steps.{Lent, enough, too-few, lent, accepted-answer, refused-answer, passed-suc}
@@ -46,7 +47,8 @@ handed-append (spent n ∷ rest) other = handed-append rest other
 handed-append (refused n ∷ rest) other = handed-append rest other
 
 -- a mapping of these has the ends of no later one
-once-apart : (one other : List Mapping) → EachOnce (one ++ other) → (mapping : Mapping) → List·Memᴰ mapping other → ¬ Among one (mapping .a) (mapping .b)
+once-apart : (one other : List Mapping) → EachOnce (one ++ other) → (mapping : Mapping) → List·Memᴰ mapping other
+    → ¬ Among one (mapping .a) (mapping .b)
 once-apart [] other once mapping m (x, in-one, ea, eb) = elim in-one [ ]
 once-apart (first ∷ rest) other once mapping m (x, List·Memᴰ·head e, ea, eb) =
     once .0 mapping (Memᴰ·append-right rest m) (ap (λ (y : Mapping). y .a) (sym e) ∙ ea, ap (λ (y : Mapping). y .b) (sym e) ∙ eb)
@@ -69,7 +71,8 @@ once-at default (mapping ∷ rest) once zero (suc j) l h = once .0 (mappingAt de
 once-at default (mapping ∷ rest) once (suc i) (suc j) l h = once-at default rest (once .1) i j (le-of-suc-le-suc l) (le-of-suc-le-suc h)
 
 -- each of the final mappings among these cells is final
-among-final : (task : Task) {cells : List Cell} {mappings : List Mapping} → FinalsAmong task cells mappings → (mapping : Mapping) → List·Memᴰ mapping mappings
+among-final : (task : Task) {cells : List Cell} {mappings : List Mapping} → FinalsAmong task cells mappings → (mapping : Mapping)
+    → List·Memᴰ mapping mappings
     → Final task (mapping .a) (mapping .b)
 unfolding mappingOf
 among-final task no-cells mapping m = elim m [ ]
@@ -101,7 +104,8 @@ module _ (task : Task) {steps : List Step} {given : List Answer} (demanded : Dem
   pub demanded-answers : given ≡ answers task 0 steps
   demanded-answers =
       by-steps task 0 steps given (demanded .answered)
-      (λ n h. (let none : passedBefore given n ≡ 0 + passedBefore given n = omega arith in answer-is n h ∙ ap (λ (k : ℕ). stepAnswer task k (stepAt steps n)) none))
+      (λ n h. (let none : passedBefore given n ≡ 0 + passedBefore given n = omega arith in answer-is n h
+      ∙ ap (λ (k : ℕ). stepAnswer task k (stepAt steps n)) none))
 
   -- the q after a step: a refused one leaves it as it was
   pub demanded-next : (n : ℕ) → n < length steps
@@ -130,7 +134,8 @@ module _ (task : Task) {steps : List Step} {given : List Answer} (demanded : Dem
   demanded-all e = demanded-list ∙ rw (e, take-all-cells task)
 
   -- lists of steps that come to the same q have handed out the same
-  pub demanded-same : {others : List Step} {given′ : List Answer} → Demanded task others given′ → passed given ≡ passed given′ → handedOut given ≡ handedOut given′
+  pub demanded-same : {others : List Step} {given′ : List Answer} → Demanded task others given′ → passed given ≡ passed given′
+      → handedOut given ≡ handedOut given′
   demanded-same demanded′ e = demanded-list ∙ rw e (sym (finals-list task (demanded′ .exact)))
 
   -- no two of them have the same ends
@@ -143,7 +148,8 @@ module _ (task : Task) {steps : List Step} {given : List Answer} (demanded : Dem
   pub demanded-last : (n : ℕ) → n < length steps → Finished (answerAt given n) → passedBefore given (suc n) ≡ total task
   demanded-last n h f = demanded .finishes n h .0 f .2
 
-  pub demanded-finished : (n : ℕ) → n < length steps → workWords ≤ stepAt steps n .lent → ¬ Found (answerAt given n) → passedBefore given (suc n) ≡ total task
+  pub demanded-finished : (n : ℕ) → n < length steps → workWords ≤ stepAt steps n .lent → ¬ Found (answerAt given n)
+      → passedBefore given (suc n) ≡ total task
       → Finished (answerAt given n)
   demanded-finished n h l f e = demanded .finishes n h .1 (l, f, e)
 
@@ -157,8 +163,10 @@ module _ (task : Task) {steps : List Step} {given : List Answer} (demanded : Dem
       go : (later : List Mapping) → handedOut (drop (suc n) given) ≡ later → later ≡ []
       go [] e = refl
       go (mapping ∷ rest) e =
-          let is : handedOut given ≡ handedOut (take (suc n) given) ++ (mapping ∷ rest) = parts ∙ ap (λ (l : List Mapping). handedOut (take (suc n) given) ++ l) e in
-          let m : List·Memᴰ mapping (handedOut given) = subst (List·Memᴰ mapping) (sym is) (Memᴰ·append-right (handedOut (take (suc n) given)) (List·Memᴰ·head refl)) in
+          let is : handedOut given ≡ handedOut (take (suc n) given) ++ (mapping ∷ rest) =
+          parts ∙ ap (λ (l : List Mapping). handedOut (take (suc n) given) ++ l) e in
+          let m : List·Memᴰ mapping (handedOut given) =
+          subst (List·Memᴰ mapping) (sym is) (Memᴰ·append-right (handedOut (take (suc n) given)) (List·Memᴰ·head refl)) in
           let once : EachOnce (handedOut (take (suc n) given) ++ (mapping ∷ rest)) = subst EachOnce is (demanded .once) in
           absurd
           (once-apart (handedOut (take (suc n) given)) (mapping ∷ rest) once mapping (List·Memᴰ·head refl)

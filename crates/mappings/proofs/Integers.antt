@@ -90,10 +90,13 @@ unbiased-order x y = differences-order x bias y bias ∙ leb-same (x + bias) (y 
 
 pub linear-biased : (u v size m len : ℕ) → 2 * m ≤ len + size → v * (len + size) ≤ bias → linear u v size m len ≡ unbiased (biased u v size m len)
 unfolding unbiased biased
-linear-biased u v size m len h k = linear-naturals u v size m len h ∙ differences-same ((u + 2 * v) * m) (v * (len + size)) ((u + 2 * v) * m + bias - v * (len + size)) bias (omega arith)
+linear-biased u v size m len h k =
+    linear-naturals u v size m len h ∙ differences-same ((u + 2 * v) * m) (v * (len + size)) ((u + 2 * v) * m + bias - v * (len + size)) bias (omega arith)
 
 -- scores order as their words do
-pub biased-order : (u v size m len m′ len′ : ℕ) → 2 * m ≤ len + size → v * (len + size) ≤ bias → 2 * m′ ≤ len′ + size → v * (len′ + size) ≤ bias → leZ (linear u v size m len) (linear u v size m′ len′) ≡ leb (biased u v size m len) (biased u v size m′ len′)
+pub biased-order : (u v size m len m′ len′ : ℕ) → 2 * m ≤ len + size → v * (len + size) ≤ bias → 2 * m′ ≤ len′ + size
+    → v * (len′ + size) ≤ bias
+    → leZ (linear u v size m len) (linear u v size m′ len′) ≡ leb (biased u v size m len) (biased u v size m′ len′)
 biased-order u v size m len m′ len′ h k h′ k′ =
     ap₂ leZ (linear-biased u v size m len h k) (linear-biased u v size m′ len′ h′ k′)
     ∙ unbiased-order (biased u v size m len) (biased u v size m′ len′)

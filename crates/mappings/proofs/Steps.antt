@@ -82,15 +82,19 @@ handed-cons (spent n) given = refl
 handed-cons (refused n) given = refl
 
 -- the final mappings among the next n + k cells
-finals-add : (task : Task) (q n k : ℕ) → finalsOf task (take (n + k) (drop q (cellsOf task))) ≡ finalsOf task (take n (drop q (cellsOf task))) ++ finalsOf task (take k (drop (q + n) (cellsOf task)))
+finals-add : (task : Task) (q n k : ℕ)
+    → finalsOf task (take (n + k) (drop q (cellsOf task)))
+    ≡ finalsOf task (take n (drop q (cellsOf task))) ++ finalsOf task (take k (drop (q + n) (cellsOf task)))
 finals-add task q n k =
     ap (finalsOf task) (take-add n k (drop q (cellsOf task)))
     ∙ ap (map (mappingOf task)) (keep-append (isFinalCell task) (take n (drop q (cellsOf task))) (take k (drop n (drop q (cellsOf task)))))
-    ∙ map-append (mappingOf task) (keep (isFinalCell task) (take n (drop q (cellsOf task)))) (keep (isFinalCell task) (take k (drop n (drop q (cellsOf task)))))
+    ∙ map-append (mappingOf task) (keep (isFinalCell task) (take n (drop q (cellsOf task))))
+    (keep (isFinalCell task) (take k (drop n (drop q (cellsOf task)))))
     ∙ ap (λ (l : List Cell). finalsOf task (take n (drop q (cellsOf task))) ++ finalsOf task (take k l)) (drop-drop n q (cellsOf task))
 
 -- they hand out the final mappings among the next cells, as many as they report
-pub answers-list : (task : Task) (q : ℕ) (steps : List Step) → q ≤ total task → handedOut (answers task q steps) ≡ finalsOf task (take (passed (answers task q steps)) (drop q (cellsOf task)))
+pub answers-list : (task : Task) (q : ℕ) (steps : List Step) → q ≤ total task
+    → handedOut (answers task q steps) ≡ finalsOf task (take (passed (answers task q steps)) (drop q (cellsOf task)))
 unfolding answers
 answers-list task q [] h = refl
 answers-list task q (step ∷ steps) h =
@@ -119,10 +123,12 @@ pub take-answers : (task : Task) (q n : ℕ) (steps : List Step) → take n (ans
 unfolding answers
 take-answers task q zero steps = refl
 take-answers task q (suc n) [] = refl
-take-answers task q (suc n) (step ∷ steps) = ap (λ (l : List Answer). stepAnswer task q step ∷ l) (take-answers task (q + reported (stepAnswer task q step)) n steps)
+take-answers task q (suc n) (step ∷ steps) =
+    ap (λ (l : List Answer). stepAnswer task q step ∷ l) (take-answers task (q + reported (stepAnswer task q step)) n steps)
 
 -- each answer is the step's, from the q before it
-pub answer-at : (task : Task) (q n : ℕ) (steps : List Step) → n < length steps → answerAt (answers task q steps) n ≡ stepAnswer task (q + passedBefore (answers task q steps) n) (stepAt steps n)
+pub answer-at : (task : Task) (q n : ℕ) (steps : List Step) → n < length steps
+    → answerAt (answers task q steps) n ≡ stepAnswer task (q + passedBefore (answers task q steps) n) (stepAt steps n)
 unfolding answers
 answer-at task q n [] h = absurd (not-suc-le-zero h)
 answer-at task q zero (step ∷ steps) h = ap (λ (k : ℕ). stepAnswer task k step) (omega arith)
@@ -135,7 +141,8 @@ answer-at task q (suc n) (step ∷ steps) h =
 pub passed-suc : (given : List Answer) (n : ℕ) → n < length given → passedBefore given (suc n) ≡ passedBefore given n + reported (answerAt given n)
 passed-suc [] n h = absurd (not-suc-le-zero h)
 passed-suc (answer ∷ given) zero h = omega arith
-passed-suc (answer ∷ given) (suc n) h = let r : passedBefore given (suc n) ≡ passedBefore given n + reported (answerAt given n) = passed-suc given n (le-of-suc-le-suc h) in omega arith
+passed-suc (answer ∷ given) (suc n) h =
+    let r : passedBefore given (suc n) ≡ passedBefore given n + reported (answerAt given n) = passed-suc given n (le-of-suc-le-suc h) in omega arith
 
 -- ---- finished
 
@@ -153,7 +160,8 @@ finished-then task (as-found mapping n p h k) g = absurd (never-both (found mapp
 finished-then task (as-finished n h e) g = e
 finished-then task (as-spent n e h) g = absurd (not-finished-spent n g)
 
-then-finished : (task : Task) {q B : ℕ} {answer : Answer} → Outcome task q B answer → ¬ Found answer → q + reported answer ≡ total task → Finished answer
+then-finished : (task : Task) {q B : ℕ} {answer : Answer} → Outcome task q B answer → ¬ Found answer → q + reported answer ≡ total task
+    → Finished answer
 then-finished task (as-found mapping n p h k) f e = absurd (f (mapping, n, refl))
 then-finished task (as-finished n h e′) f e = (n, refl)
 then-finished task (as-spent n e′ h) f e = absurd (ne-of-lt h e)
@@ -171,13 +179,15 @@ module _ (task : Task) (q : ℕ) (h : q ≤ total task) (step : Step) where
       go e (too-few l) = l
 
   -- finished exactly when accepted, nothing found and no cell left
-  pub step-finished : Finished (stepAnswer task q step) ↔ ((workWords ≤ step .lent) × (¬ Found (stepAnswer task q step)) × (q + reported (stepAnswer task q step) ≡ total task))
+  pub step-finished : Finished (stepAnswer task q step) ↔
+      ((workWords ≤ step .lent) × (¬ Found (stepAnswer task q step)) × (q + reported (stepAnswer task q step) ≡ total task))
   step-finished = (
     λ f. go f (lent step),
     λ all. then-finished task (outcome task (accepted-passing task q h step (all .0))) (all .1) (all .2),
   )
     where
-      go : Finished (stepAnswer task q step) → Lent step → (workWords ≤ step .lent) × (¬ Found (stepAnswer task q step)) × (q + reported (stepAnswer task q step) ≡ total task)
+      go : Finished (stepAnswer task q step) → Lent step
+          → (workWords ≤ step .lent) × (¬ Found (stepAnswer task q step)) × (q + reported (stepAnswer task q step) ≡ total task)
       go f (enough l) = (l, λ g. never-both (stepAnswer task q step) g f, finished-then task (outcome task (accepted-passing task q h step l)) f)
       go f (too-few l) = absurd (not-finished-refused 10 (rw (refused-answer task q step l) at f))
 
@@ -187,18 +197,21 @@ progress task l (as-found mapping n p h k) = inr p
 progress task l (as-finished n h e) = inl (n, refl)
 progress task l (as-spent n e h) = inr (omega arith)
 
-step-progress : (task : Task) (q : ℕ) → q ≤ total task → (step : Step) (steps : List Step) → Finished (stepAnswer task q step) ⊎ (length (keep isAmple (step ∷ steps)) ≤ reported (stepAnswer task q step) + length (keep isAmple steps))
+step-progress : (task : Task) (q : ℕ) → q ≤ total task → (step : Step) (steps : List Step)
+    → Finished (stepAnswer task q step) ⊎ (length (keep isAmple (step ∷ steps)) ≤ reported (stepAnswer task q step) + length (keep isAmple steps))
 unfolding isAmple
 step-progress task q h step steps = go (decided (isAmple step))
   where
     counted : {b : Bool} → b ≡ true → length (addIf b step (keep isAmple steps)) ≡ suc (length (keep isAmple steps))
     counted e = rw e
 
-    ample : Finished (stepAnswer task q step) ⊎ (0 < reported (stepAnswer task q step)) → isAmple step ≡ true → Finished (stepAnswer task q step) ⊎ (length (keep isAmple (step ∷ steps)) ≤ reported (stepAnswer task q step) + length (keep isAmple steps))
+    ample : Finished (stepAnswer task q step) ⊎ (0 < reported (stepAnswer task q step)) → isAmple step ≡ true
+        → Finished (stepAnswer task q step) ⊎ (length (keep isAmple (step ∷ steps)) ≤ reported (stepAnswer task q step) + length (keep isAmple steps))
     ample (inl f) e = inl f
     ample (inr l) e = inr (omega (arith, counted e))
 
-    go : (isAmple step ≡ true) ⊎ (isAmple step ≡ false) → Finished (stepAnswer task q step) ⊎ (length (keep isAmple (step ∷ steps)) ≤ reported (stepAnswer task q step) + length (keep isAmple steps))
+    go : (isAmple step ≡ true) ⊎ (isAmple step ≡ false)
+        → Finished (stepAnswer task q step) ⊎ (length (keep isAmple (step ∷ steps)) ≤ reported (stepAnswer task q step) + length (keep isAmple steps))
     go (inl e) =
         let accepted : isAccepted step ≡ true = and-left (isAccepted step) (ltb 0 (step .budget)) e in
         let budgeted : 0 < step .budget = ltb-true 0 (step .budget) (and-right (isAccepted step) (ltb 0 (step .budget)) e) in
@@ -206,14 +219,18 @@ step-progress task q h step steps = go (decided (isAmple step))
     go (inr e) = inr (rw e (le-add-left (length (keep isAmple steps)) (reported (stepAnswer task q step))))
 
 -- after more such steps than cells remain, finished has been answered
-pub answers-end : (task : Task) (q : ℕ) (steps : List Step) → q ≤ total task → total task < q + length (keep isAmple steps) → HasFinished steps (answers task q steps)
+pub answers-end : (task : Task) (q : ℕ) (steps : List Step) → q ≤ total task → total task < q + length (keep isAmple steps)
+    → HasFinished steps (answers task q steps)
 unfolding answers
 answers-end task q [] h l = absurd (omega arith)
-answers-end task q (step ∷ steps) h l = go (step-progress task q h step steps) (answers-end task (q + reported (stepAnswer task q step)) steps (step-within task q h step))
+answers-end task q (step ∷ steps) h l =
+    go (step-progress task q h step steps) (answers-end task (q + reported (stepAnswer task q step)) steps (step-within task q h step))
   where
     later : ℕ
     later = q + reported (stepAnswer task q step)
 
-    go : Finished (stepAnswer task q step) ⊎ (length (keep isAmple (step ∷ steps)) ≤ reported (stepAnswer task q step) + length (keep isAmple steps)) → (total task < later + length (keep isAmple steps) → HasFinished steps (answers task later steps)) → HasFinished (step ∷ steps) (answers task q (step ∷ steps))
+    go : Finished (stepAnswer task q step) ⊎ (length (keep isAmple (step ∷ steps)) ≤ reported (stepAnswer task q step) + length (keep isAmple steps))
+        → (total task < later + length (keep isAmple steps) → HasFinished steps (answers task later steps))
+        → HasFinished (step ∷ steps) (answers task q (step ∷ steps))
     go (inl f) rec = (0, zero-lt-suc (length steps), f)
     go (inr k) rec = let r = rec (omega arith) in (suc (r .0), suc-le-suc (r .1), r .2)

@@ -27,14 +27,27 @@ pub record SketchExamples : Type 0 where
   -- U, u, R, @, [, `, {, 0 and 255 are outside the eight, the neighbours of the letters' two ranges among them
   pub outside-eight : codes (sketch 1 1 (85 ∷ 117 ∷ 82 ∷ 64 ∷ 91 ∷ 96 ∷ 123 ∷ 0 ∷ 255 ∷ [])) ≡ []
   -- and each of them ends a run: A stands between any two
-  pub each-ends : positions (sketch 2 1 (65 ∷ 85 ∷ 65 ∷ 117 ∷ 65 ∷ 82 ∷ 65 ∷ 64 ∷ 65 ∷ 91 ∷ 65 ∷ 96 ∷ 65 ∷ 123 ∷ 65 ∷ 0 ∷ 65 ∷ 255 ∷ 65 ∷ [])) ≡ []
+  pub each-ends : positions
+      (sketch 2 1 (65 ∷ 85 ∷ 65 ∷ 117 ∷ 65 ∷ 82 ∷ 65 ∷ 64 ∷ 65 ∷ 91 ∷ 65 ∷ 96 ∷ 65 ∷ 123 ∷ 65 ∷ 0 ∷ 65 ∷ 255 ∷ 65 ∷
+      [])) ≡ []
   -- the rank of code 1
   pub rank-of-1 : rank 1 ≡ 506952113
   -- GT, w 5: the k-mers of a short run form one window, which picks one of them
   pub short-run : positions (sketch 1 5 (71 ∷ 84 ∷ [])) ≡ 1 ∷ []
   -- CGCAGCAAATGATGTC, k 15, w 2: the multiplier 2,654,435,769 in the place of 01's picks the other k-mer
-  pub multiplied : positions (sketch 15 2 (67 ∷ 71 ∷ 67 ∷ 65 ∷ 71 ∷ 67 ∷ 65 ∷ 65 ∷ 65 ∷ 84 ∷ 71 ∷ 65 ∷ 84 ∷ 71 ∷ 84 ∷ 67 ∷ [])) ≡ 0 ∷ []
+  pub multiplied : positions
+      (sketch 15 2 (67 ∷ 71 ∷ 67 ∷ 65 ∷ 71 ∷ 67 ∷ 65 ∷ 65 ∷ 65 ∷ 84 ∷ 71 ∷ 65 ∷ 84 ∷ 71 ∷ 84 ∷ 67 ∷ [])) ≡ 0 ∷ []
 
 pub sketch-examples : SketchExamples
 unfolding minimizers-compute
-sketch-examples = record { first-highest = refl; foreign-ends = refl; lower-case = refl; outside-eight = refl; each-ends = refl; rank-of-1 = refl; short-run = refl; multiplied = refl }
+sketch-examples =
+    record {
+      first-highest = refl;
+      foreign-ends = refl;
+      lower-case = refl;
+      outside-eight = refl;
+      each-ends = refl;
+      rank-of-1 = refl;
+      short-run = refl;
+      multiplied = refl;
+    }

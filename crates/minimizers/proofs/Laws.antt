@@ -7,7 +7,8 @@ use native.Mathlib.Omega.{arith}
 use mathlib.Core.Path.{_≡_, refl, sym, ap, _∙_, subst}
 use mathlib.Core.Logic.{_⊎_, inl, inr}
 use mathlib.Core.Bool.{Bool, true, false}
-use mathlib.Core.List.{List, [], _∷_, _++_, map, List·Memᴰ, List·Memᴰ·head, List·Memᴰ·tail, List·Memᴰ·append-cases, List·Memᴰ·cases-cons, List·Memᴰ·not-nil}
+use mathlib.Core.List.{List, [], _∷_, _++_, map, List·Memᴰ, List·Memᴰ·head, List·Memᴰ·tail, List·Memᴰ·append-cases}
+use mathlib.Core.List.{List·Memᴰ·cases-cons, List·Memᴰ·not-nil}
 use lib.ListN.{length, getD, take, drop, length-map}
 use Rattle.counts.specs.Lists.{keep, addIf, range, any}
 use Rattle.counts.proofs.Lists.{keep-mem, map-append}
@@ -61,7 +62,8 @@ rising-keep f low high (e ∷ es) r = go (f e) (rising-keep f (suc (e .position)
     go true s = (r .0, s)
     go false s = rising-from (suc (e .position)) low high (positions (keep f es)) (le-trans (r .0) (le-suc (e .position))) s
 
-rising-range : (k : ℕ) (letters : List ℕ) (from n high : ℕ) → from + n ≤ high → Rising from high (positions (map (entryAt k letters) (range from n)))
+rising-range : (k : ℕ) (letters : List ℕ) (from n high : ℕ) → from + n ≤ high
+    → Rising from high (positions (map (entryAt k letters) (range from n)))
 rising-range k letters from zero high h = omega arith
 rising-range k letters from (suc n) high h = (le-refl from, rising-range k letters (suc from) n high (omega arith))
 
@@ -94,11 +96,13 @@ module _ (k w : ℕ) (letters : List ℕ) (some : 1 ≤ k) where
       end : (at : ℕ) → length letters ≤ at → P at []
       end at h low i j = j
 
-      run : (at : ℕ) → at ≤ length letters → (es : List Entry) → P (suc (runEnd letters at)) es → P at (spanSketch k w letters at (suc (runEnd letters at) - k) ++ es)
+      run : (at : ℕ) → at ≤ length letters → (es : List Entry) → P (suc (runEnd letters at)) es
+          → P at (spanSketch k w letters at (suc (runEnd letters at) - k) ++ es)
       run at h es rest low i j =
           let in-letters : (at ≤ runEnd letters at) × (runEnd letters at ≤ length letters) = runEnd-within letters at h in
           let to : ℕ = suc (runEnd letters at) - k in
-          let first : Rising at (runEnd letters at) (positions (span k letters at to)) = rising-range k letters at (to - at) (runEnd letters at) (omega arith) in
+          let first : Rising at (runEnd letters at) (positions (span k letters at to)) =
+          rising-range k letters at (to - at) (runEnd letters at) (omega arith) in
           let picked : Rising at (runEnd letters at) (positions (spanSketch k w letters at to)) =
           rising-keep (λ (e : Entry). any (picks (e .position)) (windows w (span k letters at to))) at (runEnd letters at) (span k letters at to) first in
           let behind : Rising (runEnd letters at) (length letters) (positions es) = rest (runEnd letters at) (le-suc (runEnd letters at)) (in-letters .1) in
@@ -112,7 +116,8 @@ module _ (k w : ℕ) (letters : List ℕ) (some : 1 ≤ k) where
       subst (λ (n : ℕ). n ≤ length letters) (length-map (sketch k w letters) (λ (e : Entry). e .position))
       (omega (arith, rising-length 0 (length letters) (positions (sketch k w letters)) positions-rise))
 
-  pub positions-strictly : (i j : ℕ) → i < j → j < length (positions (sketch k w letters)) → getD (positions (sketch k w letters)) i 0 < getD (positions (sketch k w letters)) j 0
+  pub positions-strictly : (i j : ℕ) → i < j → j < length (positions (sketch k w letters))
+      → getD (positions (sketch k w letters)) i 0 < getD (positions (sketch k w letters)) j 0
   positions-strictly i j h l = rising-strictly 0 (length letters) (positions (sketch k w letters)) positions-rise i j h l
 
   pub positions-below : (i : ℕ) → i < length (positions (sketch k w letters)) → getD (positions (sketch k w letters)) i 0 < length letters
@@ -130,7 +135,8 @@ span-kmer : (k : ℕ) (letters : List ℕ) (at from n : ℕ) → at ≤ from →
     → {e : Entry} → List·Memᴰ e (map (entryAt k letters) (range from n)) → IsKmer k letters e
 unfolding codeAt
 span-kmer k letters at from zero h i l m = absurd (List·Memᴰ·not-nil m)
-span-kmer k letters at from (suc n) h i l {e} m = go (λ m′. span-kmer k letters at (suc from) n (omega arith) i (omega arith) m′) (List·Memᴰ·cases-cons m)
+span-kmer k letters at from (suc n) h i l {e} m =
+    go (λ m′. span-kmer k letters at (suc from) n (omega arith) i (omega arith) m′) (List·Memᴰ·cases-cons m)
   where
     first : IsKmer k letters (entryAt k letters from)
     first = record {
@@ -139,7 +145,8 @@ span-kmer k letters at from (suc n) h i l {e} m = go (λ m′. span-kmer k lette
       code-there = refl;
     }
 
-    go : (List·Memᴰ e (map (entryAt k letters) (range (suc from) n)) → IsKmer k letters e) → (e ≡ entryAt k letters from) ⊎ List·Memᴰ e (map (entryAt k letters) (range (suc from) n)) → IsKmer k letters e
+    go : (List·Memᴰ e (map (entryAt k letters) (range (suc from) n)) → IsKmer k letters e)
+        → (e ≡ entryAt k letters from) ⊎ List·Memᴰ e (map (entryAt k letters) (range (suc from) n)) → IsKmer k letters e
     go rec (inl p) = subst (λ (x : Entry). IsKmer k letters x) (sym p) first
     go rec (inr m′) = rec m′
 
@@ -151,14 +158,17 @@ sketch-kmer k w letters some {e} m = by-runs k w letters some P (λ at h m′. a
     P : ℕ → List Entry → Type 0
     P at es = List·Memᴰ e es → IsKmer k letters e
 
-    run : (at : ℕ) → at ≤ length letters → (es : List Entry) → P (suc (runEnd letters at)) es → P at (spanSketch k w letters at (suc (runEnd letters at) - k) ++ es)
+    run : (at : ℕ) → at ≤ length letters → (es : List Entry) → P (suc (runEnd letters at)) es
+        → P at (spanSketch k w letters at (suc (runEnd letters at) - k) ++ es)
     run at h es rest m′ = go (List·Memᴰ·append-cases (spanSketch k w letters at to) m′)
       where
         to : ℕ
         to = suc (runEnd letters at) - k
 
         go : List·Memᴰ e (spanSketch k w letters at to) ⊎ List·Memᴰ e es → IsKmer k letters e
-        go (inl a) = span-kmer k letters at at (to - at) (le-refl at) h (le-refl (to - at)) (keep-mem (λ (x : Entry). any (picks (x .position)) (windows w (span k letters at to))) (span k letters at to) a .0)
+        go (inl a) =
+            span-kmer k letters at at (to - at) (le-refl at) h (le-refl (to - at))
+            (keep-mem (λ (x : Entry). any (picks (x .position)) (windows w (span k letters at to))) (span k letters at to) a .0)
         go (inr b) = rest b
 
 -- the code of a k-mer is below 4^k

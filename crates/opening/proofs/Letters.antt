@@ -27,7 +27,9 @@ use Rattle.opening.proofs.Replies.{refused-opened, refused-after, refus
 
 -- ---- one sketch in two buffers of 4,096 words, and its answer as numbers
 
-module _ (k w : ℕ) (letters codes₀ places₀ codes₁ places₁ : List ℕ) (r : Sketched) (made : Sketches k w letters codes₀ places₀ r codes₁ places₁) (long : length codes₀ ≡ 4096) (long′ : length places₀ ≡ 4096) (n m : ℕ) (number : n ≡ numberOf (replyOf r)) (count : m ≡ valueOf (replyOf r)) where
+module _ (k w : ℕ) (letters codes₀ places₀ codes₁ places₁ : List ℕ) (r : Sketched)
+    (made : Sketches k w letters codes₀ places₀ r codes₁ places₁) (long : length codes₀ ≡ 4096) (long′ : length places₀ ≡ 4096)
+    (n m : ℕ) (number : n ≡ numberOf (replyOf r)) (count : m ≡ valueOf (replyOf r)) where
   abbrev reply : Reply
   reply = sketchReply k w letters 4096 4096
 
@@ -39,7 +41,8 @@ module _ (k w : ℕ) (letters codes₀ places₀ codes₁ places₁ : List ℕ) 
 
   module _ (zero : n ≡ 0) where
     pub sketch-accepts : reply ≡ accepted (m ∷ [])
-    sketch-accepts = sketch-tells k w letters 4096 4096 .tells (sym sketch-number ∙ zero) ∙ ap (λ (i : ℕ). accepted (i ∷ [])) (sym (count ∙ ap valueOf replied))
+    sketch-accepts =
+        sketch-tells k w letters 4096 4096 .tells (sym sketch-number ∙ zero) ∙ ap (λ (i : ℕ). accepted (i ∷ [])) (sym (count ∙ ap valueOf replied))
 
     held : Held (length (sketch k w letters)) 4096 4096 m
     held = sketch-held k w letters 4096 4096 m sketch-accepts
@@ -75,7 +78,8 @@ module _ (s : Settings) (text read places work : List ℕ) where
   of-read = sketchReply (s .k) (s .w) read 4096 4096
 
   -- a call before start refuses
-  before-start : (n : ℕ) → n ≡ numberOf (strikingReply s text read (length places)) → n ≢ 0 → Opens (given s text read) places work (Refused n) places work
+  before-start : (n : ℕ) → n ≡ numberOf (strikingReply s text read (length places)) → n ≢ 0
+      → Opens (given s text read) places work (Refused n) places work
   unfolding openedOf positionsAfter workAfter callsReply
   before-start n e h =
       let calls = strikingReply s text read (length places) in
@@ -104,14 +108,20 @@ module _ (s : Settings) (text read places work : List ℕ) where
         before-start n (e ∙ ap numberOf (sym (ap (λ (a : Reply). andThen a strikes) first ∙ and-refused of-read strikes not-zero))) h
 
     module _ (j : ℕ) (read-accepts : of-read ≡ accepted (j ∷ [])) where
-      striking : (room : ℕ) → strikingReply s text read room ≡ strikeReply (codes (sketch (s .k) (s .w) text)) (positions (sketch (s .k) (s .w) text)) (s .c) 4096 room
+      striking : (room : ℕ)
+          → strikingReply s text read room ≡ strikeReply (codes (sketch (s .k) (s .w) text)) (positions (sketch (s .k) (s .w) text)) (s .c) 4096 room
       unfolding strikingReply sketchesReply
       striking room =
-          ap (λ (a : Reply). andThen (andThen a of-read) (strikeReply (codes (sketch (s .k) (s .w) text)) (positions (sketch (s .k) (s .w) text)) (s .c) 4096 room)) text-accepts
-          ∙ ap (λ (a : Reply). andThen a (strikeReply (codes (sketch (s .k) (s .w) text)) (positions (sketch (s .k) (s .w) text)) (s .c) 4096 room)) read-accepts
+          ap (λ (a : Reply). andThen (andThen a of-read)
+          (strikeReply (codes (sketch (s .k) (s .w) text)) (positions (sketch (s .k) (s .w) text)) (s .c) 4096 room)) text-accepts
+          ∙ ap (λ (a : Reply). andThen a (strikeReply (codes (sketch (s .k) (s .w) text)) (positions (sketch (s .k) (s .w) text)) (s .c) 4096 room))
+          read-accepts
 
       -- both sketches are accepted: the rest is strike's and start's
-      opens-sketches : (r : Opened) (places′ work′ : List ℕ) → OpensSketches (codes (sketch (s .k) (s .w) text)) (positions (sketch (s .k) (s .w) text)) (codes (sketch (s .k) (s .w) read)) (s .k) (s .c) (s .u) (s .v) (s .threshold) places work r places′ work′ → Opens (given s text read) places work r places′ work′
+      opens-sketches : (r : Opened) (places′ work′ : List ℕ)
+          → OpensSketches (codes (sketch (s .k) (s .w) text)) (positions (sketch (s .k) (s .w) text)) (codes (sketch (s .k) (s .w) read)) (s .k) (s .c)
+          (s .u) (s .v) (s .threshold) places work r places′ work′
+          → Opens (given s text read) places work r places′ work′
       unfolding openedOf positionsAfter workAfter callsReply taskOf textOf patternOf
       opens-sketches r places′ work′ o =
           let es : List Entry = sketch (s .k) (s .w) text in
@@ -126,5 +136,8 @@ module _ (s : Settings) (text read places work : List ℕ) where
             work-after = rw calls (rw same at (o .work-after));
           }
 
-      pub opens-fronts : (cs ps pattern : List ℕ) → cs ≡ codes (sketch (s .k) (s .w) text) → ps ≡ positions (sketch (s .k) (s .w) text) → pattern ≡ codes (sketch (s .k) (s .w) read) → (r : Opened) (places′ work′ : List ℕ) → OpensSketches cs ps pattern (s .k) (s .c) (s .u) (s .v) (s .threshold) places work r places′ work′ → Opens (given s text read) places work r places′ work′
+      pub opens-fronts : (cs ps pattern : List ℕ) → cs ≡ codes (sketch (s .k) (s .w) text) → ps ≡ positions (sketch (s .k) (s .w) text)
+          → pattern ≡ codes (sketch (s .k) (s .w) read) → (r : Opened) (places′ work′ : List ℕ)
+          → OpensSketches cs ps pattern (s .k) (s .c) (s .u) (s .v) (s .threshold) places work r places′ work′
+          → Opens (given s text read) places work r places′ work′
       opens-fronts cs ps pattern e f g r places′ work′ o = opens-sketches r places′ work′ (rw (e, f, g) at o)

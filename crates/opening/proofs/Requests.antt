@@ -22,12 +22,16 @@ module _ (bytes : List ℕ) (answer : Request) (read : answer ≡ requestOf byte
       let input : malformed ≡ inputOf bytes = subst (λ (a : Request). requestInput a bytes ≡ inputOf bytes) e stands-for in
       subst (λ (i : Input). Opens i places work Malformed places work) input (record { answer = refl; positions-after = refl; work-after = refl })
 
-  module _ (k w c u v : ℕ) (threshold : ℤ) (text text-end line line-end : ℕ) (e : answer ≡ request k w c u v threshold text text-end line line-end) where
-    pub lines-inside : LinesInside text text-end line line-end bytes
-    lines-inside = subst (λ (a : Request). Inside a bytes) e (subst (λ (a : Request). Inside a bytes) (sym read) (request-inside bytes))
+  module _ (k w c u v : ℕ) (threshold : ℤ) (text text-end line line-end : ℕ) (e : answer ≡ request k w c u v threshold text text-end line line-end)
+    where
+      pub lines-inside : LinesInside text text-end line line-end bytes
+      lines-inside = subst (λ (a : Request). Inside a bytes) e (subst (λ (a : Request). Inside a bytes) (sym read) (request-inside bytes))
 
-    pub opens-given : (z : ℤ) → z ≡ threshold → (places work : List ℕ) (r : Opened) (places′ work′ : List ℕ) → Opens (given (settings k w c u v z) (part text text-end bytes) (part line line-end bytes)) places work r places′ work′ → Opens (inputOf bytes) places work r places′ work′
-    opens-given z same places work r places′ work′ o =
-        let input : given (settings k w c u v threshold) (part text text-end bytes) (part line line-end bytes) ≡ inputOf bytes =
-        subst (λ (a : Request). requestInput a bytes ≡ inputOf bytes) e stands-for in
-        subst (λ (i : Input). Opens i places work r places′ work′) (ap (λ (t : ℤ). given (settings k w c u v t) (part text text-end bytes) (part line line-end bytes)) same ∙ input) o
+      pub opens-given : (z : ℤ) → z ≡ threshold → (places work : List ℕ) (r : Opened) (places′ work′ : List ℕ)
+          → Opens (given (settings k w c u v z) (part text text-end bytes) (part line line-end bytes)) places work r places′ work′
+          → Opens (inputOf bytes) places work r places′ work′
+      opens-given z same places work r places′ work′ o =
+          let input : given (settings k w c u v threshold) (part text text-end bytes) (part line line-end bytes) ≡ inputOf bytes =
+          subst (λ (a : Request). requestInput a bytes ≡ inputOf bytes) e stands-for in
+          subst (λ (i : Input). Opens i places work r places′ work′)
+          (ap (λ (t : ℤ). given (settings k w c u v t) (part text text-end bytes) (part line line-end bytes)) same ∙ input) o

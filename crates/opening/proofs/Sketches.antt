@@ -35,7 +35,9 @@ module _ (cs ps pattern places room : List ℕ) (k c u v : ℕ) (threshold : ℤ
   abbrev task : Task
   task = taskWith (codes (struck c (entries cs ps))) pattern u v threshold
 
-  module _ (r : Struck) (answer : struckReply r ≡ strikeReply cs ps c (length room) (length places)) (written places′ : List ℕ) (codes-are : written ≡ strikeCodes cs ps c room places) (positions-are : places′ ≡ strikePositions cs ps c room places) (n m : ℕ) (number : n ≡ numberOf (struckReply r)) (count : m ≡ valueOf (struckReply r)) where
+  module _ (r : Struck) (answer : struckReply r ≡ strikeReply cs ps c (length room) (length places)) (written places′ : List ℕ)
+      (codes-are : written ≡ strikeCodes cs ps c room places) (positions-are : places′ ≡ strikePositions cs ps c room places) (n m : ℕ)
+      (number : n ≡ numberOf (struckReply r)) (count : m ≡ valueOf (struckReply r)) where
     replied : struckReply r ≡ reply
     replied = rw long at answer
 
@@ -57,14 +59,18 @@ module _ (cs ps pattern places room : List ℕ) (k c u v : ℕ) (threshold : ℤ
 
     module _ (zero : n ≡ 0) where
       accepts : reply ≡ accepted (m ∷ [])
-      accepts = strike-tells cs ps c 4096 (length places) .tells (sym numbered ∙ zero) ∙ ap (λ (i : ℕ). accepted (i ∷ [])) (sym (count ∙ ap valueOf replied))
+      accepts =
+          strike-tells cs ps c 4096 (length places) .tells (sym numbered ∙ zero)
+          ∙ ap (λ (i : ℕ). accepted (i ∷ [])) (sym (count ∙ ap valueOf replied))
 
       held : Held (length (struck c (entries cs ps))) 4096 (length places) m
       held = strike-held cs ps c 4096 (length places) m accepts
 
       written-is : written ≡ over (codes (struck c (entries cs ps))) room
       unfolding strikeCodes
-      written-is = let e : written ≡ after reply (codes (struck c (entries cs ps))) room = rw long at codes-are in e ∙ ap (λ (a : Reply). after a (codes (struck c (entries cs ps))) room) accepts
+      written-is =
+          let e : written ≡ after reply (codes (struck c (entries cs ps))) room = rw long at codes-are in e
+          ∙ ap (λ (a : Reply). after a (codes (struck c (entries cs ps))) room) accepts
 
       front : take m written ≡ codes (struck c (entries cs ps))
       front = ap (take m) written-is ∙ front-over (codes (struck c (entries cs ps))) room m (held .number ∙ sym (length-codes (struck c (entries cs ps))))
@@ -73,12 +79,16 @@ module _ (cs ps pattern places room : List ℕ) (k c u v : ℕ) (threshold : ℤ
       pub inside : m ≤ 4096
       inside = held .in-codes
 
-      module _ (s : Started) (work′ : List ℕ) (started : startedReply s ≡ startReply (taskWith (take m written) pattern u v threshold) (length work)) (words : work′ ≡ startWords (taskWith (take m written) pattern u v threshold) work) (n′ : ℕ) (number′ : n′ ≡ numberOf (startedReply s)) where
+      module _ (s : Started) (work′ : List ℕ) (started : startedReply s ≡ startReply (taskWith (take m written) pattern u v threshold) (length work))
+          (words : work′ ≡ startWords (taskWith (take m written) pattern u v threshold) work) (n′ : ℕ)
+          (number′ : n′ ≡ numberOf (startedReply s)) where
         starts : startedReply s ≡ startReply task (length work)
         starts = started ∙ ap (λ (l : List ℕ). startReply (taskWith l pattern u v threshold) (length work)) front
 
         work-is : work′ ≡ whereAccepted reply (startWords task work) work
-        work-is = words ∙ ap (λ (l : List ℕ). startWords (taskWith l pattern u v threshold) work) front ∙ sym (ap (λ (a : Reply). whereAccepted a (startWords task work) work) accepts)
+        work-is =
+            words ∙ ap (λ (l : List ℕ). startWords (taskWith l pattern u v threshold) work) front
+            ∙ sym (ap (λ (a : Reply). whereAccepted a (startWords task work) work) accepts)
 
         opened : openedBy (startReply task (length work)) k (length pattern) ≡ openedBy (andThen reply (startReply task (length work))) k (length pattern)
         opened = sym (ap (λ (a : Reply). openedBy (andThen a (startReply task (length work))) k (length pattern)) accepts)
@@ -94,7 +104,8 @@ module _ (cs ps pattern places room : List ℕ) (k c u v : ℕ) (threshold : ℤ
 
         pub start-accepted : n′ ≡ 0 → OpensSketches cs ps pattern k c u v threshold places work (Session k (length pattern)) places′ work′
         start-accepted z =
-            let e : startReply task (length work) ≡ accepted (valueOf (startReply task (length work)) ∷ []) = start-tells task (length work) .tells (sym (number′ ∙ ap numberOf starts) ∙ z) in
+            let e : startReply task (length work) ≡ accepted (valueOf (startReply task (length work)) ∷ []) =
+            start-tells task (length work) .tells (sym (number′ ∙ ap numberOf starts) ∙ z) in
             record {
               answer = sym (ap (λ (a : Reply). openedBy a k (length pattern)) e) ∙ opened;
               positions-after = left;

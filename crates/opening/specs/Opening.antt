@@ -51,7 +51,12 @@ pub record Opens (input : Input) (places work : List ℕ) (r : Opened) (places�
   pub work-after : work′ ≡ workAfter input (length places) work
 
 -- the same from strike on, given the sketches
-pub record OpensSketches (cs ps pattern : List ℕ) (k c u v : ℕ) (threshold : ℤ) (places work : List ℕ) (r : Opened) (places′ work′ : List ℕ) : Type 0 where
-  pub answer : r ≡ openedBy (andThen (strikeReply cs ps c lineLimit (length places)) (startReply (taskWith (codes (struck c (entries cs ps))) pattern u v threshold) (length work))) k (length pattern)
+pub record OpensSketches (cs ps pattern : List ℕ) (k c u v : ℕ) (threshold : ℤ) (places work : List ℕ) (r : Opened)
+    (places′ work′ : List ℕ) : Type 0 where
+  pub answer : r ≡ openedBy
+      (andThen (strikeReply cs ps c lineLimit (length places))
+      (startReply (taskWith (codes (struck c (entries cs ps))) pattern u v threshold) (length work))) k (length pattern)
   pub positions-after : places′ ≡ after (strikeReply cs ps c lineLimit (length places)) (positions (struck c (entries cs ps))) places
-  pub work-after : work′ ≡ whereAccepted (strikeReply cs ps c lineLimit (length places)) (startWords (taskWith (codes (struck c (entries cs ps))) pattern u v threshold) work) work
+  pub work-after : work′
+      ≡ whereAccepted (strikeReply cs ps c lineLimit (length places))
+      (startWords (taskWith (codes (struck c (entries cs ps))) pattern u v threshold) work) work

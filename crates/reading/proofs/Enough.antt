@@ -34,7 +34,8 @@ first-of-take b zero l = refl
 first-of-take b (suc n) [] = refl
 first-of-take b (suc n) (x ∷ l) = go (first-of-take b n l) (eqb x b) refl
   where
-    go : firstPart b (take n l) ≡ take n (firstPart b l) → (t : Bool) → eqb x b ≡ t → firstPart b (x ∷ take n l) ≡ take (suc n) (firstPart b (x ∷ l))
+    go : firstPart b (take n l) ≡ take n (firstPart b l) → (t : Bool) → eqb x b ≡ t
+        → firstPart b (x ∷ take n l) ≡ take (suc n) (firstPart b (x ∷ l))
     go rec true e = first-at b x (take n l) e ∙ ap (take (suc n)) (sym (first-at b x l e))
     go rec false e = first-more b x (take n l) e ∙ ap (λ (r : List ℕ). x ∷ r) rec ∙ ap (take (suc n)) (sym (first-more b x l e))
 
@@ -71,7 +72,8 @@ module _ (b n : ℕ) (l : List ℕ) where
 -- ---- three lines among the first n bytes
 
 -- what follows them is ignored
-three-decide : (a b c : List ℕ) (ps qs : List (List ℕ)) → 1 ≤ length ps → 1 ≤ length qs → inputFrom (a ∷ b ∷ c ∷ ps) ≡ inputFrom (a ∷ b ∷ c ∷ qs)
+three-decide : (a b c : List ℕ) (ps qs : List (List ℕ)) → 1 ≤ length ps → 1 ≤ length qs
+    → inputFrom (a ∷ b ∷ c ∷ ps) ≡ inputFrom (a ∷ b ∷ c ∷ qs)
 unfolding isWellFormed
 three-decide a b c ps qs h k = rw (le-leb 4 (length (a ∷ b ∷ c ∷ ps)) (omega arith), le-leb 4 (length (a ∷ b ∷ c ∷ qs)) (omega arith))
 
@@ -97,7 +99,8 @@ module _ (n : ℕ) (bytes : List ℕ) where
   abbrev Cuts : Type 0
   Cuts = Cut lineFeed n bytes × Cut lineFeed n₁ rest₁ × Cut lineFeed n₂ rest₂
 
-  lines-of-take : Cuts → lines (take n bytes) ≡ firstPart lineFeed bytes ∷ firstPart lineFeed rest₁ ∷ firstPart lineFeed rest₂ ∷ parts lineFeed (take n₃ rest₃)
+  lines-of-take : Cuts
+      → lines (take n bytes) ≡ firstPart lineFeed bytes ∷ firstPart lineFeed rest₁ ∷ firstPart lineFeed rest₂ ∷ parts lineFeed (take n₃ rest₃)
   unfolding lines
   lines-of-take c =
       cut-take lineFeed n bytes (c .0)
@@ -126,14 +129,17 @@ module _ (n : ℕ) (bytes : List ℕ) where
       let c₁ : Cut lineFeed n bytes = cut-of-take lineFeed n bytes (omega arith) in
       let e₁ : length (parts lineFeed (take n bytes)) ≡ suc (length (parts lineFeed (take n₁ rest₁))) = ap length (cut-take lineFeed n bytes c₁) in
       let c₂ : Cut lineFeed n₁ rest₁ = cut-of-take lineFeed n₁ rest₁ (omega arith) in
-      let e₂ : length (parts lineFeed (take n₁ rest₁)) ≡ suc (length (parts lineFeed (take n₂ rest₂))) = ap length (cut-take lineFeed n₁ rest₁ c₂) in
+      let e₂ : length (parts lineFeed (take n₁ rest₁)) ≡ suc (length (parts lineFeed (take n₂ rest₂))) =
+      ap length (cut-take lineFeed n₁ rest₁ c₂) in
       (c₁, c₂, cut-of-take lineFeed n₂ rest₂ (omega arith))
 
   -- all bytes have them, and early enough
-  cuts-of-all : 4 ≤ length (lines bytes) → length (getD (lines bytes) 0 []) ≤ 66 → length (getD (lines bytes) 1 []) ≤ lineLimit → length (getD (lines bytes) 2 []) ≤ lineLimit → inputLimit ≤ n → Cuts
+  cuts-of-all : 4 ≤ length (lines bytes) → length (getD (lines bytes) 0 []) ≤ 66 → length (getD (lines bytes) 1 []) ≤ lineLimit
+      → length (getD (lines bytes) 2 []) ≤ lineLimit → inputLimit ≤ n → Cuts
   cuts-of-all h a b d room =
       let t = three-lines bytes h in
-      let e : (i : ℕ) → length (getD (lines bytes) i []) ≡ length (getD (first bytes ∷ second bytes ∷ third bytes ∷ parts lineFeed (behind₃ bytes)) i []) =
+      let e : (i : ℕ) → length (getD (lines bytes) i [])
+      ≡ length (getD (first bytes ∷ second bytes ∷ third bytes ∷ parts lineFeed (behind₃ bytes)) i []) =
       λ i. ap (λ (ls : List (List ℕ)). length (getD ls i [])) (t .these)
       in
       ((t .one, omega (arith, e 0)), (t .two, omega (arith, e 0, e 1)), (t .three, omega (arith, e 0, e 1, e 2)))
@@ -178,7 +184,8 @@ length-threshold : (l : List ℕ) → isSigned l ≡ true → length l ≤ 11
 length-threshold [] e = omega arith
 length-threshold (b ∷ l) e = go (signed-tests b l e)
   where
-    go : ((b ≡ minus) × (isDecimal l ≡ true) × (decimalValue 0 l ≤ signedLimit)) ⊎ ((isDecimal (b ∷ l) ≡ true) × (decimalValue 0 (b ∷ l) < signedLimit))
+    go : ((b ≡ minus) × (isDecimal l ≡ true) × (decimalValue 0 l ≤ signedLimit))
+        ⊎ ((isDecimal (b ∷ l) ≡ true) × (decimalValue 0 (b ∷ l) < signedLimit))
         → suc (length l) ≤ 11
     go (inl t) = let v : decimalValue 0 l ≤ signedLimit = t .2 in let k : length l ≤ 10 = length-number l (t .1) (omega arith) in omega arith
     go (inr t) =
@@ -227,12 +234,15 @@ total-fields (a ∷ b ∷ c ∷ d ∷ f ∷ g ∷ []) e =
     let g₁ : length g ≤ 11 = length-threshold g (and-right (isUnsigned a && isUnsigned b && isUnsigned c && isUnsigned d && isUnsigned f) (isSigned g) e) in
     omega arith
 total-fields (a ∷ b ∷ c ∷ d ∷ f ∷ g ∷ h ∷ fs) e =
-    let six : eqb (length (a ∷ b ∷ c ∷ d ∷ f ∷ g ∷ h ∷ fs)) 6 ≡ false = ne-eqb (length (a ∷ b ∷ c ∷ d ∷ f ∷ g ∷ h ∷ fs)) 6 (λ q. omega arith) in
+    let six : eqb (length (a ∷ b ∷ c ∷ d ∷ f ∷ g ∷ h ∷ fs)) 6 ≡ false =
+    ne-eqb (length (a ∷ b ∷ c ∷ d ∷ f ∷ g ∷ h ∷ fs)) 6 (λ q. omega arith) in
     absurd (false≢true (rw six at e))
 
 length-first-line : (l : List ℕ) → isFirstLine (fields l) ≡ true → length l ≤ 66
 unfolding fields
-length-first-line l e = let t : suc (length l) ≡ total (parts space l) = total-parts space l in let h : total (parts space l) ≤ 67 = total-fields (parts space l) e in omega arith
+length-first-line l e =
+    let t : suc (length l)
+    ≡ total (parts space l) = total-parts space l in let h : total (parts space l) ≤ 67 = total-fields (parts space l) e in omega arith
 
 -- ---- all together
 
@@ -243,7 +253,8 @@ bad bytes e = input-from bytes ∙ rw e
 pub enough-bytes : (n : ℕ) (bytes : List ℕ) → inputLimit ≤ n → inputOf (take n bytes) ≡ inputOf bytes
 enough-bytes n bytes room = go (isWellFormed (lines (take n bytes))) refl (isWellFormed (lines bytes)) refl
   where
-    go : (s : Bool) → isWellFormed (lines (take n bytes)) ≡ s → (t : Bool) → isWellFormed (lines bytes) ≡ t → inputOf (take n bytes) ≡ inputOf bytes
+    go : (s : Bool) → isWellFormed (lines (take n bytes)) ≡ s → (t : Bool) → isWellFormed (lines bytes) ≡ t
+        → inputOf (take n bytes) ≡ inputOf bytes
     go true p t q = same-input n bytes (cuts-of-take n bytes (well-formed-lines (lines (take n bytes)) p .0))
     go false p true q =
         let w = well-formed-lines (lines bytes) q in

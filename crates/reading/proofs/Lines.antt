@@ -54,7 +54,8 @@ module _ (ls : List (List ℕ)) where
       let fs : List (List ℕ) = fields (getD ls 0 []) in
       simp (le-leb 4 (length ls) enough, le-leb (length (getD ls 1 [])) lineLimit text, le-leb (length (getD ls 2 [])) lineLimit read, and-true)
       (sym
-      (after-cond (λ (a : FirstLine). asRequest a (length (getD ls 0 [])) (length (getD ls 1 [])) (length (getD ls 2 []))) (isFirstLine fs) (answerOf (settingsOf fs))
+      (after-cond (λ (a : FirstLine). asRequest a (length (getD ls 0 [])) (length (getD ls 1 [])) (length (getD ls 2 []))) (isFirstLine fs)
+      (answerOf (settingsOf fs))
       noFirstLine))
 
 -- what a well-formed input has

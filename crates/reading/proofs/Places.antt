@@ -44,18 +44,21 @@ module _ (bytes : List ℕ) (w : isWellFormed (lines bytes) ≡ true) where
   text-line : part text (text + length (getD (lines bytes) 1 [])) bytes ≡ getD (lines bytes) 1 []
   text-line =
       let n : text + length (getD (lines bytes) 1 []) - text ≡ length (second bytes) = omega (arith, ap length second-is) in
-      ap (λ (k : ℕ). take k (drop text bytes)) n ∙ ap (take (length (second bytes))) from-text ∙ sym (first-take lineFeed (behind₁ bytes)) ∙ sym second-is
+      ap (λ (k : ℕ). take k (drop text bytes)) n ∙ ap (take (length (second bytes))) from-text ∙ sym (first-take lineFeed (behind₁ bytes))
+      ∙ sym second-is
 
   read-line : part read (read + length (getD (lines bytes) 2 [])) bytes ≡ getD (lines bytes) 2 []
   read-line =
       let n : read + length (getD (lines bytes) 2 []) - read ≡ length (third bytes) = omega (arith, ap length third-is) in
-      ap (λ (k : ℕ). take k (drop read bytes)) n ∙ ap (take (length (third bytes))) from-read ∙ sym (first-take lineFeed (behind₂ bytes)) ∙ sym third-is
+      ap (λ (k : ℕ). take k (drop read bytes)) n ∙ ap (take (length (third bytes))) from-read ∙ sym (first-take lineFeed (behind₂ bytes))
+      ∙ sym third-is
 
   lines-inside : LinesInside text (text + length (getD (lines bytes) 1 [])) read (read + length (getD (lines bytes) 2 [])) bytes
   lines-inside =
       let limits = well-formed-lines (lines bytes) w in
       let a : length (behind₁ bytes) ≡ length bytes - suc (length (first bytes)) = length-drop (suc (length (first bytes))) bytes in
-      let b : length (behind₂ bytes) ≡ length (behind₁ bytes) - suc (length (second bytes)) = length-drop (suc (length (second bytes))) (behind₁ bytes) in
+      let b : length (behind₂ bytes) ≡ length (behind₁ bytes) - suc (length (second bytes)) =
+      length-drop (suc (length (second bytes))) (behind₁ bytes) in
       record {
         text-order = omega arith;
         text-inside = omega (arith, first-is, ap length second-is, these .one, these .two);

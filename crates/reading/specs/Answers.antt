@@ -8,7 +8,8 @@ use Rattle.counts.specs.Lists.{every, partsBetween}
 use Rattle.requests.specs.Requests.{Settings}
 use Rattle.reading.specs.Limits.{lineLimit}
 use Rattle.listing.specs.Line.{space}
-use Rattle.reading.specs.Input.{isDigit, isDecimal, decimalValue, isUnsigned, isSigned, signedValue, lines, fields, isFirstLine, isWellFormed, settingsOf, Input, malformed, given}
+use Rattle.reading.specs.Input.{isDigit, isDecimal, decimalValue, isUnsigned, isSigned, signedValue, lines, fields, isFirstLine, isWellFormed}
+use Rattle.reading.specs.Input.{settingsOf, Input, malformed, given}
 use Rattle.reading.specs.declared.Number.{Number}
 use Rattle.reading.specs.declared.Number.the-variants.{Malformed as noNumber, Value as number}
 use Rattle.reading.specs.declared.Threshold.{Threshold}

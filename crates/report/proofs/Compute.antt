@@ -8,5 +8,6 @@ use Rattle.opening.specs.Calls.{sketchesReply, strikingReply, callsReply}
 use Rattle.report.specs.Output.{mappingLine, finalCells, lastLine, listOf, printed, outputOf}
 
 unfoldable pub report-computes : Unit {0}
-unfolding mappings-compute listing-computes reading-computes badWeights startReply textOf patternOf taskOf sketchesReply strikingReply callsReply mappingLine finalCells lastLine listOf printed outputOf
+unfolding mappings-compute listing-computes reading-computes badWeights startReply textOf patternOf taskOf sketchesReply strikingReply callsReply
+    mappingLine finalCells lastLine listOf printed outputOf
 report-computes = tt

@@ -31,11 +31,13 @@ use Rattle.opening.specs.Opening.{positionsAfter, workAfter, whereAccepted}
 use Rattle.report.specs.Output.{mappingLine, mappingLines, finalCells, lastLine, listOf, headerLine}
 use Rattle.report.specs.Pieces.{restOf, Belongs}
 
-and-accepted : (first next : Reply) (values : List ℕ) → andThen first next ≡ accepted values → ((ns : List ℕ) × (first ≡ accepted ns)) × (next ≡ accepted values)
+and-accepted : (first next : Reply) (values : List ℕ) → andThen first next ≡ accepted values
+    → ((ns : List ℕ) × (first ≡ accepted ns)) × (next ≡ accepted values)
 and-accepted (accepted ns) next values e = ((ns, refl), e)
 and-accepted (refused number ns) next values e = absurd (let z : _≡_ {A = ℕ} 0 1 = cc in omega arith)
 
-module _ (s : Settings) (text read places work : List ℕ) (values : List ℕ) (accepts : callsReply s text read (length places) (length work) ≡ accepted values) where
+module _ (s : Settings) (text read places work : List ℕ) (values : List ℕ)
+    (accepts : callsReply s text read (length places) (length work) ≡ accepted values) where
   abbrev task : Task
   task = taskOf s text read
 
@@ -52,8 +54,13 @@ module _ (s : Settings) (text read places work : List ℕ) (values : List ℕ) (
   limits : (1 ≤ s .k) × (s .k ≤ kLimit) × (length text ≤ letterLimit)
   unfolding strikingReply sketchesReply
   limits =
-      let both = and-accepted (sketchesReply s text read) (strikeReply (codes (sketch (s .k) (s .w) text)) (positions (sketch (s .k) (s .w) text)) (s .c) lineLimit (length places)) (calls .0 .0) (calls .0 .1) in
-      let first = and-accepted (sketchReply (s .k) (s .w) text lineLimit lineLimit) (sketchReply (s .k) (s .w) read lineLimit lineLimit) (both .0 .0) (both .0 .1) in
+      let both =
+      and-accepted (sketchesReply s text read)
+      (strikeReply (codes (sketch (s .k) (s .w) text)) (positions (sketch (s .k) (s .w) text)) (s .c) lineLimit (length places)) (calls .0 .0) (calls .0 .1)
+      in
+      let first =
+      and-accepted (sketchReply (s .k) (s .w) text lineLimit lineLimit) (sketchReply (s .k) (s .w) read lineLimit lineLimit) (both .0 .0) (both .0 .1)
+      in
       sketch-limits (s .k) (s .w) text lineLimit lineLimit (first .0 .0) (first .0 .1)
 
   -- the buffers after the calls: the positions of the struck text, and the words of the fresh session
@@ -79,7 +86,8 @@ module _ (s : Settings) (text read places work : List ℕ) (values : List ℕ) (
   pub session-belongs : Belongs task (over of-text places) (s .k) (length (patternOf s read))
   unfolding taskOf
   session-belongs = record {
-    enough = let l = length-append of-text (drop (length of-text) places) in let e : length (codes (textOf s text)) ≡ length of-text = text-length in omega arith;
+    enough =
+        let l = length-append of-text (drop (length of-text) places) in let e : length (codes (textOf s text)) ≡ length of-text = text-length in omega arith;
     k-some = limits .0;
     size-is = sym (length-codes (patternOf s read));
     last-small = λ b h.
@@ -90,19 +98,26 @@ module _ (s : Settings) (text read places work : List ℕ) (values : List ℕ) (
   }
 
   -- the lines from the lent positions are those of the definition
-  line-same : (cell : Cell) → isFinalCell task cell ≡ true → mappingLine (over of-text places) (s .k) (length (patternOf s read)) (mappingOf task cell) ≡ mappingLine of-text (s .k) (length (patternOf s read)) (mappingOf task cell)
+  line-same : (cell : Cell) → isFinalCell task cell ≡ true
+      → mappingLine (over of-text places) (s .k) (length (patternOf s read)) (mappingOf task cell)
+      ≡ mappingLine of-text (s .k) (length (patternOf s read)) (mappingOf task cell)
   unfolding mappingLine isFinalCell mappingOf
   line-same cell t =
       let f : Final task (leftEnd task cell) (rightEnd task cell) = test-final task (leftEnd task cell) (rightEnd task cell) t in
       let l : leftEnd task cell < length (task .text) = omega (arith, f .ordered, f .within) in
       rw (place (leftEnd task cell) l, place (rightEnd task cell) (f .within))
 
-  lines-same : (l : List Cell) → mappingLines (over of-text places) (s .k) (length (patternOf s read)) (map (mappingOf task) (keep (isFinalCell task) l)) ≡ mappingLines of-text (s .k) (length (patternOf s read)) (map (mappingOf task) (keep (isFinalCell task) l))
+  lines-same : (l : List Cell)
+      → mappingLines (over of-text places) (s .k) (length (patternOf s read)) (map (mappingOf task) (keep (isFinalCell task) l))
+      ≡ mappingLines of-text (s .k) (length (patternOf s read)) (map (mappingOf task) (keep (isFinalCell task) l))
   lines-same [] = refl
   lines-same (cell ∷ l) = go (isFinalCell task cell) refl (lines-same l)
     where
-      go : (t : Bool) → isFinalCell task cell ≡ t → mappingLines (over of-text places) (s .k) (length (patternOf s read)) (map (mappingOf task) (keep (isFinalCell task) l)) ≡ mappingLines of-text (s .k) (length (patternOf s read)) (map (mappingOf task) (keep (isFinalCell task) l))
-          → mappingLines (over of-text places) (s .k) (length (patternOf s read)) (map (mappingOf task) (keep (isFinalCell task) (cell ∷ l))) ≡ mappingLines of-text (s .k) (length (patternOf s read)) (map (mappingOf task) (keep (isFinalCell task) (cell ∷ l)))
+      go : (t : Bool) → isFinalCell task cell ≡ t
+          → mappingLines (over of-text places) (s .k) (length (patternOf s read)) (map (mappingOf task) (keep (isFinalCell task) l))
+          ≡ mappingLines of-text (s .k) (length (patternOf s read)) (map (mappingOf task) (keep (isFinalCell task) l))
+          → mappingLines (over of-text places) (s .k) (length (patternOf s read)) (map (mappingOf task) (keep (isFinalCell task) (cell ∷ l)))
+          ≡ mappingLines of-text (s .k) (length (patternOf s read)) (map (mappingOf task) (keep (isFinalCell task) (cell ∷ l)))
       go true t rec = rw t (ap₂ _++_ (line-same cell t) rec)
       go false t rec = rw t rec
 

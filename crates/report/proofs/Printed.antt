@@ -44,5 +44,6 @@ pub prints-one : (s : Settings) (text read one other : List ℕ) → PrintsFinal
 prints-one s text read one other p q =
     let same : p .mappings ≡ q .mappings = finals-list (taskOf s text read) (p .exact) ∙ sym (finals-list (taskOf s text read) (q .exact)) in
     p .bytes
-    ∙ ap (λ (l : List Mapping). headerLine ++ mappingLines (positions (textOf s text)) (s .k) (length (patternOf s read)) l ++ lastLine (length l) (total (taskOf s text read))) same
+    ∙ ap (λ (l : List Mapping). headerLine ++ mappingLines (positions (textOf s text)) (s .k) (length (patternOf s read)) l ++ lastLine (length l)
+    (total (taskOf s text read))) same
     ∙ sym (q .bytes)

@@ -14,7 +14,8 @@ use Rattle.counts.proofs.Lists.{and-left, and-right}
 use Rattle.requests.specs.Requests.{Settings}
 use Rattle.reading.specs.Limits.{lineLimit, signedLimit}
 use Rattle.listing.specs.Line.{minus}
-use Rattle.reading.specs.Input.{isDecimal, decimalValue, isUnsigned, isSigned, signedValue, fields, lines, isFirstLine, isWellFormed, settingsOf, malformed, given, inputOf}
+use Rattle.reading.specs.Input.{isDecimal, decimalValue, isUnsigned, isSigned, signedValue, fields, lines, isFirstLine, isWellFormed, settingsOf}
+use Rattle.reading.specs.Input.{malformed, given, inputOf}
 
 negative-fits : (n : ℕ) → 0 < n → n ≤ signedLimit → mag (negℤ (pos n)) < signedLimit
 negative-fits zero h l = absurd (omega arith)
@@ -41,7 +42,8 @@ last-signed : (fs : List (List ℕ)) → isFirstLine fs ≡ true → isSigned (g
 unfolding isFirstLine
 last-signed fs e =
     and-right
-    (eqb (length fs) 6 && isUnsigned (getD fs 0 []) && isUnsigned (getD fs 1 []) && isUnsigned (getD fs 2 []) && isUnsigned (getD fs 3 []) && isUnsigned (getD fs 4 []))
+    (eqb (length fs) 6 && isUnsigned (getD fs 0 []) && isUnsigned (getD fs 1 []) && isUnsigned (getD fs 2 []) && isUnsigned (getD fs 3 []) && isUnsigned
+    (getD fs 4 []))
     (isSigned (getD fs 5 []))
     e
 
@@ -60,7 +62,9 @@ threshold-fits bytes s text read e = go (isWellFormed (lines bytes)) refl
   where
     go : (t : Bool) → isWellFormed (lines bytes) ≡ t → mag (s .threshold) < signedLimit
     go true t =
-        let same : given (settingsOf (fields (getD (lines bytes) 0 []))) (getD (lines bytes) 1 []) (getD (lines bytes) 2 []) ≡ given s text read = rw t at e in
+        let same : given (settingsOf (fields (getD (lines bytes) 0 []))) (getD (lines bytes) 1 []) (getD (lines bytes) 2 []) ≡ given s text read =
+        rw t at e in
         let settings : settingsOf (fields (getD (lines bytes) 0 [])) ≡ s = cc in
-        subst (λ (a : Settings). mag (a .threshold) < signedLimit) settings (signed-fits (getD (fields (getD (lines bytes) 0 [])) 5 []) (last-signed (fields (getD (lines bytes) 0 [])) (first-line (lines bytes) t)))
+        subst (λ (a : Settings). mag (a .threshold) < signedLimit) settings
+        (signed-fits (getD (fields (getD (lines bytes) 0 [])) 5 []) (last-signed (fields (getD (lines bytes) 0 [])) (first-line (lines bytes) t)))
     go false t = let same : malformed ≡ given s text read = rw t at e in absurd (let z : _≡_ {A = ℕ} 0 1 = cc in omega arith)

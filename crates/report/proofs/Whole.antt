@@ -50,9 +50,11 @@ module _ (bytes places work out : List ℕ) (room : length places ≡ lineLimit)
     first-printed : (o : Opened) (work′ : List ℕ) → BeginsWith o work′ out r out′ → take (r .written) out′ ≡ firstLine o
     first-printed o work′ b = take-written (b .first) (let l : length (firstLine o) ≤ 64 = first-short o in omega arith)
 
-    opened : (s : Settings) (text read : List ℕ) → inputOf bytes ≡ given s text read → (reply : Reply) → callsReply s text read (length places) (length work) ≡ reply
+    opened : (s : Settings) (text read : List ℕ) → inputOf bytes ≡ given s text read → (reply : Reply)
+        → callsReply s text read (length places) (length work) ≡ reply
         → BeginsWith (openedBy reply (s .k) (length (patternOf s read))) (workAfter (given s text read) (length places) work) out r out′
-        → After bytes (positionsAfter (given s text read) places) (workAfter (given s text read) (length places) work) (r .k) (r .size) 0 (r .left) (take (r .written) out′)
+        → After bytes (positionsAfter (given s text read) places) (workAfter (given s text read) (length places) work) (r .k) (r .size) 0 (r .left)
+        (take (r .written) out′)
     unfolding outputOf printed taskOf
     opened s text read input (refused number values) e b =
         let calls : callsReply s text read lineLimit workWords ≡ refused number values = rw (room, lent) at e in
@@ -67,7 +69,8 @@ module _ (bytes places work out : List ℕ) (room : length places ≡ lineLimit)
         let size : ℕ = length (patternOf s read) in
         let places′ : List ℕ = positionsAfter (given s text read) places in
         let work′ : List ℕ = workAfter (given s text read) (length places) work in
-        let accepts : Accepts task work = record { accepts = start-accepts s text read places work values e; threshold-fits = threshold-fits bytes s text read input } in
+        let accepts : Accepts task work =
+        record { accepts = start-accepts s text read places work values e; threshold-fits = threshold-fits bytes s text read input } in
         let stands : places′ ≡ over (positions (textOf s text)) places = places-are s text read places work values e in
         let words : work′ ≡ sessionWords task work 0 = words-are s text read places work values e in
         let left : r .left ≡ suc (cellCount (hitCount task) - 0) = b .left-is ∙ session-left task work 0 work′ accepts zero-le words in
@@ -91,14 +94,16 @@ module _ (bytes places work out : List ℕ) (room : length places ≡ lineLimit)
           rest = rw (b .k-is, b .size-is) rest;
         })
 
-    by-input : (input : Input) → inputOf bytes ≡ input → BeginsWith (openedOf input (length places) (length work)) (workAfter input (length places) work) out r out′
+    by-input : (input : Input) → inputOf bytes ≡ input
+        → BeginsWith (openedOf input (length places) (length work)) (workAfter input (length places) work) out r out′
         → After bytes (positionsAfter input places) (workAfter input (length places) work) (r .k) (r .size) 0 (r .left) (take (r .written) out′)
     unfolding outputOf openedOf
     by-input malformed e b = inl (b .left-is, first-printed Malformed (workAfter malformed (length places) work) b ∙ sym (ap printedFor e))
     by-input (given s text read) e b = opened s text read e (callsReply s text read (length places) (length work)) refl b
 
     -- the first piece, with room for any first line
-    pub begin-prints : (places′ work′ : List ℕ) → Begins bytes places work out r places′ work′ out′ → After bytes places′ work′ (r .k) (r .size) 0 (r .left) (take (r .written) out′)
+    pub begin-prints : (places′ work′ : List ℕ) → Begins bytes places work out r places′ work′ out′
+        → After bytes places′ work′ (r .k) (r .size) 0 (r .left) (take (r .written) out′)
     begin-prints places′ work′ b = rw (b .positions-after, b .work-after) (by-input (inputOf bytes) refl (rw (b .work-after) at (b .begun)))
 
 fill-prints : (bytes places work : List ℕ) (k size found left : ℕ) (done : List ℕ) → Printing bytes places work k size found left done
@@ -127,7 +132,9 @@ fill-prints bytes places work k size found left done p out r work′ out′ long
                 counted = piece .counted (p .counted);
                 words = piece .words;
                 remaining = full .left-is;
-                rest = append-assoc done (take (r .written) out′) (restOf (p .task) places k size q′ (r .found)) ∙ ap (λ (x : List ℕ). done ++ x) (full .bytes) ∙ p .rest;
+                rest =
+                    append-assoc done (take (r .written) out′) (restOf (p .task) places k size q′ (r .found))
+                    ∙ ap (λ (x : List ℕ). done ++ x) (full .bytes) ∙ p .rest;
               }),
         )
 
@@ -136,7 +143,8 @@ pub next-prints : (bytes places work : List ℕ) (k size found left : ℕ) (done
     → (out : List ℕ) (r : Filled) (work′ out′ : List ℕ) → 64 ≤ length out → Fills work places k size found out r work′ out′
     → (r .left < left) × After bytes places work′ k size (r .found) (r .left) (done ++ take (r .written) out′)
 next-prints bytes places work k size found left done (inl e) some out r work′ out′ long f = absurd (omega (arith, e .0))
-next-prints bytes places work k size found left done (inr p) some out r work′ out′ long f = fill-prints bytes places work k size found left done p out r work′ out′ long f
+next-prints bytes places work k size found left done (inr p) some out r work′ out′ long f =
+    fill-prints bytes places work k size found left done p out r work′ out′ long f
 
 -- the first bytes of the input decide: a program that reads `inputLimit` of them prints what one that reads all would
 pub first-bytes : (n : ℕ) (bytes : List ℕ) → inputLimit ≤ n → outputOf (take n bytes) ≡ outputOf bytes

@@ -52,7 +52,8 @@ drop-later a b x y h e =
     ∙ ap (λ (n : ℕ). drop n y) (sym s)
 
 -- the first bytes of a buffer after a writer with room for its bytes
-pub take-written : {bytes : List ℕ} {at : ℕ} {old new : List ℕ} {next : ℕ} → Written bytes at old new next → at + length bytes ≤ length old → take next new ≡ take at old ++ bytes
+pub take-written : {bytes : List ℕ} {at : ℕ} {old new : List ℕ} {next : ℕ} → Written bytes at old new next → at + length bytes ≤ length old
+    → take next new ≡ take at old ++ bytes
 unfolding overFrom
 take-written {bytes} {at} {old} {new} {next} w room =
     let long : length (take at old ++ bytes) ≡ next =

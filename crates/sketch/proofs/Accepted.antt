@@ -36,7 +36,8 @@ room-held n a b m e =
       in-positions = rw same (ltb-false b n (short .1));
     }
 
-pub sketch-held : (k w : ℕ) (letters : List ℕ) (a b m : ℕ) → sketchReply k w letters a b ≡ accepted (m ∷ []) → Held (length (sketch k w letters)) a b m
+pub sketch-held : (k w : ℕ) (letters : List ℕ) (a b m : ℕ) → sketchReply k w letters a b ≡ accepted (m ∷ [])
+    → Held (length (sketch k w letters)) a b m
 unfolding sketchReply checkedLetters
 sketch-held k w letters a b m e =
     let p = not-refused (outside 1 kLimit k) 1 [] _ (m ∷ []) e in
@@ -44,7 +45,8 @@ sketch-held k w letters a b m e =
     let r = not-refused (ltb letterLimit (length letters)) 3 [] _ (m ∷ []) (q .1) in
     room-held (length (sketch k w letters)) a b m (r .1)
 
-pub sketch-limits : (k w : ℕ) (letters : List ℕ) (a b : ℕ) (values : List ℕ) → sketchReply k w letters a b ≡ accepted values → (1 ≤ k) × (k ≤ kLimit) × (length letters ≤ letterLimit)
+pub sketch-limits : (k w : ℕ) (letters : List ℕ) (a b : ℕ) (values : List ℕ) → sketchReply k w letters a b ≡ accepted values
+    → (1 ≤ k) × (k ≤ kLimit) × (length letters ≤ letterLimit)
 unfolding sketchReply checkedLetters
 sketch-limits k w letters a b values e =
     let p = not-refused (outside 1 kLimit k) 1 [] _ values e in
@@ -65,14 +67,17 @@ pub record Wrote (es : List Entry) (n : ℕ) (codes′ positions′ : List ℕ) 
 front : (reply : Reply) (values new old : List ℕ) (n : ℕ) → reply ≡ accepted values → n ≡ length new → take n (after reply new old) ≡ new
 front reply values new old n e l = rw (e, l) (take-append-seam new (drop (length new) old))
 
-pub reply-wrote : (reply : Reply) (values : List ℕ) (es : List Entry) (codes₀ positions₀ : List ℕ) (n : ℕ) → reply ≡ accepted values → n ≡ length es
+pub reply-wrote : (reply : Reply) (values : List ℕ) (es : List Entry) (codes₀ positions₀ : List ℕ) (n : ℕ) → reply ≡ accepted values
+    → n ≡ length es
     → Wrote es n (after reply (codes es) codes₀) (after reply (positions es) positions₀)
 reply-wrote reply values es codes₀ positions₀ n e l =
     let cs : take n (after reply (codes es) codes₀) ≡ codes es = front reply values (codes es) codes₀ n e (l ∙ sym (length-codes es)) in
-    let ps : take n (after reply (positions es) positions₀) ≡ positions es = front reply values (positions es) positions₀ n e (l ∙ sym (length-positions es)) in
+    let ps : take n (after reply (positions es) positions₀) ≡ positions es =
+    front reply values (positions es) positions₀ n e (l ∙ sym (length-positions es)) in
     record { number = l; codes-are = cs; positions-are = ps; paired = rw (cs, ps) (entries-same es) }
 
-pub sketch-wrote : (k w : ℕ) (letters codes₀ positions₀ : List ℕ) (n : ℕ) → sketchReply k w letters (length codes₀) (length positions₀) ≡ accepted (n ∷ [])
+pub sketch-wrote : (k w : ℕ) (letters codes₀ positions₀ : List ℕ) (n : ℕ)
+    → sketchReply k w letters (length codes₀) (length positions₀) ≡ accepted (n ∷ [])
     → Wrote (sketch k w letters) n (sketchCodes k w letters codes₀ positions₀) (sketchPositions k w letters codes₀ positions₀)
 unfolding sketchCodes sketchPositions
 sketch-wrote k w letters codes₀ positions₀ n e =

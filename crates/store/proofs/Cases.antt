@@ -10,7 +10,8 @@ use Rattle.store.specs.Load.{loadReply}
 use Rattle.store.proofs.Compute.{store-computes}
 
 -- 4. The store of the sketch of AAAT, w 2
-pub case4 : stored 1 2 (sketch 1 2 (65 ∷ 65 ∷ 65 ∷ 84 ∷ [])) ≡ 0x00000041 ∷ 0x40000000 ∷ 0x80000001 ∷ 0x40000000 ∷ 0x80000002 ∷ 0xC0000002 ∷ []
+pub case4 : stored 1 2 (sketch 1 2 (65 ∷ 65 ∷ 65 ∷ 84 ∷ []))
+    ≡ 0x00000041 ∷ 0x40000000 ∷ 0x80000001 ∷ 0x40000000 ∷ 0x80000002 ∷ 0xC0000002 ∷ []
 unfolding store-computes
 case4 = refl
 
@@ -20,19 +21,24 @@ loads stores = map (λ (words : List ℕ). loadReply words 2 2) stores
 
 pub record LoadExamples : Type 0 where
   -- 12. No word 0; k 0; a kind that is not 0
-  pub header-bad : loads ([] ∷ (0x40 ∷ 0xC0000000 ∷ []) ∷ (0x40000041 ∷ 0xC0000000 ∷ []) ∷ []) ≡ refused 12 (0 ∷ []) ∷ refused 12 (0 ∷ []) ∷ refused 12 (0 ∷ []) ∷ []
+  pub header-bad : loads ([] ∷ (0x40 ∷ 0xC0000000 ∷ []) ∷ (0x40000041 ∷ 0xC0000000 ∷ []) ∷ [])
+      ≡ refused 12 (0 ∷ []) ∷ refused 12 (0 ∷ []) ∷ refused 12 (0 ∷ []) ∷ []
   -- k 16; w 65; w 0; k 1 and w 2 with bit 12, into which a wider w would spill
-  pub header-high : loads ((0x50 ∷ 0xC0000000 ∷ []) ∷ (0x821 ∷ 0xC0000000 ∷ []) ∷ (0x01 ∷ 0xC0000000 ∷ []) ∷ (0x1041 ∷ 0xC0000000 ∷ []) ∷ []) ≡ refused 12 (0 ∷ []) ∷ refused 12 (0 ∷ []) ∷ refused 12 (0 ∷ []) ∷ refused 12 (0 ∷ []) ∷ []
+  pub header-high : loads
+      ((0x50 ∷ 0xC0000000 ∷ []) ∷ (0x821 ∷ 0xC0000000 ∷ []) ∷ (0x01 ∷ 0xC0000000 ∷ []) ∷ (0x1041 ∷ 0xC0000000 ∷ []) ∷ [])
+      ≡ refused 12 (0 ∷ []) ∷ refused 12 (0 ∷ []) ∷ refused 12 (0 ∷ []) ∷ refused 12 (0 ∷ []) ∷ []
   -- the same with the highest bit below the kind
   pub header-spilt : loads ((0x20000041 ∷ 0xC0000000 ∷ []) ∷ []) ≡ refused 12 (0 ∷ []) ∷ []
   -- 13. A position where a code is due; a code of 4 with k 1; a position of 1,048,576
-  pub word-bad : loads ((0x41 ∷ 0x80000000 ∷ []) ∷ (0x41 ∷ 0x40000004 ∷ []) ∷ (0x41 ∷ 0x40000000 ∷ 0x80100000 ∷ []) ∷ []) ≡ refused 13 (1 ∷ []) ∷ refused 13 (1 ∷ []) ∷ refused 13 (2 ∷ []) ∷ []
+  pub word-bad : loads ((0x41 ∷ 0x80000000 ∷ []) ∷ (0x41 ∷ 0x40000004 ∷ []) ∷ (0x41 ∷ 0x40000000 ∷ 0x80100000 ∷ []) ∷ [])
+      ≡ refused 13 (1 ∷ []) ∷ refused 13 (1 ∷ []) ∷ refused 13 (2 ∷ []) ∷ []
   -- the number of entries where a position is due
   pub kind-undue : loads ((0x41 ∷ 0x40000000 ∷ 0xC0000001 ∷ []) ∷ []) ≡ refused 13 (2 ∷ []) ∷ []
   -- the same position twice
   pub position-twice : loads ((0x41 ∷ 0x40000000 ∷ 0x80000001 ∷ 0x40000000 ∷ 0x80000001 ∷ 0xC0000002 ∷ []) ∷ []) ≡ refused 13 (4 ∷ []) ∷ []
   -- 14. Words run out; a count of 1 with no entry; a word behind the last
-  pub end-bad : loads ((0x41 ∷ 0x40000000 ∷ []) ∷ (0x41 ∷ 0xC0000001 ∷ []) ∷ (0x41 ∷ 0xC0000000 ∷ 0 ∷ []) ∷ []) ≡ refused 14 (2 ∷ []) ∷ refused 14 (1 ∷ []) ∷ refused 14 (2 ∷ []) ∷ []
+  pub end-bad : loads ((0x41 ∷ 0x40000000 ∷ []) ∷ (0x41 ∷ 0xC0000001 ∷ []) ∷ (0x41 ∷ 0xC0000000 ∷ 0 ∷ []) ∷ [])
+      ≡ refused 14 (2 ∷ []) ∷ refused 14 (1 ∷ []) ∷ refused 14 (2 ∷ []) ∷ []
   -- they run out after an entry, and no buffer has room: 4 comes last
   pub end-before-room : loadReply (0x41 ∷ 0x40000000 ∷ 0x80000001 ∷ []) 0 0 ≡ refused 14 (3 ∷ [])
   -- 4, with the entries needed: case 4's store, where one of the two buffers has a place for one

@@ -67,7 +67,8 @@ saved-loads k w cs ps words₀ n e codes₀ positions₀ c-room p-room =
     let written : text ≡ take n (saveWords k w cs ps words₀) =
     sym (ap (take n) (save-fills k w cs ps words₀ (s .0)) ∙ take-at text (drop (length text) words₀) n size)
     in
-    subst (λ (l : List ℕ). LoadsAs l codes₀ positions₀ k w cs ps) written (stored-loads k w cs ps (length words₀) (s .0) codes₀ positions₀ c-room p-room)
+    subst (λ (l : List ℕ). LoadsAs l codes₀ positions₀ k w cs ps) written
+    (stored-loads k w cs ps (length words₀) (s .0) codes₀ positions₀ c-room p-room)
 
 -- ---- only such stores load
 
@@ -76,7 +77,8 @@ pub record SavesAs (words words₀ : List ℕ) (k w : ℕ) (cs ps : List ℕ) : 
   pub reply : saveReply k w cs ps (length words₀) ≡ accepted (length words ∷ [])
   pub words-back : saveWords k w cs ps words₀ ≡ over words words₀
 
-store-saves : (words : List ℕ) (es : List Entry) → StoreOf words es → (words₀ : List ℕ) → length words ≤ length words₀ → SavesAs words words₀ (storeK words) (storeW words) (codes es) (positions es)
+store-saves : (words : List ℕ) (es : List Entry) → StoreOf words es → (words₀ : List ℕ) → length words ≤ length words₀
+    → SavesAs words words₀ (storeK words) (storeW words) (codes es) (positions es)
 store-saves words es store words₀ room =
     let k = storeK words in
     let w = storeW words in

@@ -11,7 +11,8 @@ use Rattle.counts.proofs.Lists.{decided}
 use Rattle.minimizers.specs.Kmers.{Entry}
 use Rattle.store.specs.Words.{content, headerK, isHeader, isCodeWord, isPositionWord}
 use Rattle.store.specs.Load.{Judged, good, bad, withEntry, lastWord, judgeFrom, judge}
-use Rattle.store.proofs.Judging.{judge-last, judge-first, judge-half, judge-second, judge-entry, Way, run-out, last, more, miscount, first, half, second, entry, way}
+use Rattle.store.proofs.Judging.{judge-last, judge-first, judge-half, judge-second, judge-entry, Way, run-out, last, more, miscount, first, half}
+use Rattle.store.proofs.Judging.{second, entry, way}
 
 -- what is found in words that are cut before a bad one: that they run out there, or a whole store, behind which nothing may stand
 abbrev pub NothingBad : ℕ → Judged → Type 0
@@ -70,7 +71,9 @@ module _ (k index n low : ℕ) where
       record {
         offset = suc (suc (r .offset));
         place = omega arith;
-        before = rw (judge-entry k index n low x y (take (r .offset) rest) c p) (nothing-bad-with (record { code = content x; position = content y }) i _ (r .before));
+        before =
+            rw (judge-entry k index n low x y (take (r .offset) rest) c p)
+            (nothing-bad-with (record { code = content x; position = content y }) i _ (r .before));
         after =
             λ vs e.
             let v = begins (suc (suc (r .offset))) vs e in
@@ -88,13 +91,15 @@ with-entry-bad e (good es) number i h = not-bad h
 with-entry-bad e (bad number′ i′) number i h = h
 
 -- the same word, whatever number and index the equation gives it
-same-bad : {k index n low : ℕ} {ws : List ℕ} {number i number′ i′ : ℕ} → bad number i ≡ bad number′ i′ → Named k index n low ws number i → Named k index n low ws number′ i′
+same-bad : {k index n low : ℕ} {ws : List ℕ} {number i number′ i′ : ℕ} → bad number i ≡ bad number′ i′ → Named k index n low ws number i
+    → Named k index n low ws number′ i′
 same-bad {k} {index} {n} {low} {ws} {number} {i} {number′} {i′} h =
     let p : number ≡ number′ = cc in
     let q : i ≡ i′ = cc in
     subst₂ (Named k index n low ws) p q
 
-way-named : {k index n low : ℕ} {ws : List ℕ} {j : Judged} → Way k index n low ws j → (number i : ℕ) → j ≡ bad number i → Named k index n low ws number i
+way-named : {k index n low : ℕ} {ws : List ℕ} {j : Judged} → Way k index n low ws j → (number i : ℕ) → j ≡ bad number i
+    → Named k index n low ws number i
 unfolding judgeFrom lastWord
 way-named {k} {index} {n} {low} run-out number i g =
     same-bad g (named-here k index n low 14 [] (λ vs e. ap (judgeFrom k index n low) (ends 0 vs e)))

@@ -15,7 +15,8 @@ use Rattle.minimizers.specs.Kmers.{Entry, codes, positions}
 use Rattle.store.specs.Words.{kindUnit, kind, content, word, headerK, isHeader, isCode, isPosition, isCodeWord, isPositionWord}
 use Rattle.store.specs.Save.{entryWords, stored, storable}
 use Rattle.store.specs.Load.{Judged, good, bad, withEntry, lastWord, judgeFrom, judge, storeK, storeW}
-use Rattle.store.proofs.WordLaws.{kind-word, content-word, word-content, code-fits, isPosition-range, isHeader-holds, header-isHeader, headerK-header, headerW-header}
+use Rattle.store.proofs.WordLaws.{kind-word, content-word, word-content, code-fits, isPosition-range, isHeader-holds, header-isHeader}
+use Rattle.store.proofs.WordLaws.{headerK-header, headerW-header}
 use Rattle.store.proofs.Entries.{storable-parts, storable-length, storable-at, entryWords-at, length-stored}
 use Rattle.store.proofs.Judging.{judge-last, judge-entry, Way, run-out, last, more, miscount, first, half, second, entry, way}
 
@@ -54,7 +55,8 @@ module _ (k w : ℕ) (k-high : k ≤ kLimit) where
   unfolding storeW stored
   storeW-stored w-high es = headerW-header k w k-high w-high
 
-pub judge-stored : (k w : ℕ) (es : List Entry) → 1 ≤ k → k ≤ kLimit → 1 ≤ w → w ≤ wLimit → storable k 0 es ≡ true → judge (stored k w es) ≡ good es
+pub judge-stored : (k w : ℕ) (es : List Entry) → 1 ≤ k → k ≤ kLimit → 1 ≤ w → w ≤ wLimit → storable k 0 es ≡ true
+    → judge (stored k w es) ≡ good es
 unfolding judge stored
 judge-stored k w es k-low k-high w-low w-high s =
     let few : 0 + length es ≤ letterLimit = storable-length k 0 es (omega arith) s in

@@ -22,7 +22,8 @@ strike-held cs ps c a b m e =
     room-held (length (struck c (entries cs ps))) a b m (r .1)
 
 -- the entries kept stand in front of the two buffers
-pub strike-wrote : (cs ps : List ℕ) (c : ℕ) (codes₀ positions₀ : List ℕ) (m : ℕ) → strikeReply cs ps c (length codes₀) (length positions₀) ≡ accepted (m ∷ [])
+pub strike-wrote : (cs ps : List ℕ) (c : ℕ) (codes₀ positions₀ : List ℕ) (m : ℕ)
+    → strikeReply cs ps c (length codes₀) (length positions₀) ≡ accepted (m ∷ [])
     → Wrote (struck c (entries cs ps)) m (strikeCodes cs ps c codes₀ positions₀) (strikePositions cs ps c codes₀ positions₀)
 unfolding strikeCodes strikePositions
 strike-wrote cs ps c codes₀ positions₀ m e =

@@ -46,7 +46,8 @@ sublist-at : {l r : List ℕ} → Sublistᴰ l r → (i : ℕ) → i < length l 
 sublist-at Sublistᴰ·slnil i h = absurd (omega arith)
 sublist-at (Sublistᴰ·cons {l₂ = r} s) i h = let t = sublist-at s i h in (suc (t .0), (let m : t .0 < length r = t .1 in omega arith), t .2)
 sublist-at (Sublistᴰ·cons-cons e s) zero h = (0, omega arith, e)
-sublist-at (Sublistᴰ·cons-cons {l₂ = r} e s) (suc i) h = let t = sublist-at s i (omega arith) in (suc (t .0), (let m : t .0 < length r = t .1 in omega arith), t .2)
+sublist-at (Sublistᴰ·cons-cons {l₂ = r} e s) (suc i) h =
+    let t = sublist-at s i (omega arith) in (suc (t .0), (let m : t .0 < length r = t .1 in omega arith), t .2)
 
 -- each number is below every later one
 abbrev pub StrictlyRising : List ℕ → Type 0

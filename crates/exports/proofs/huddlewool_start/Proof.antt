@@ -11,6 +11,19 @@ use borrow.Author.Needs.{needs}
 use Rattle.exports.proofs.huddlewool_start.Statement.{statement}
 use Rattle.exports.proofs.huddlewool_start.Tie as tie
 
+-- the places that the proofs below speak of, each from a later one
+abbrev at-start : tie.After-of-start → tie.After-start
+at-start c = c .before .before .before
+
+abbrev at-start-arg : tie.After-of-start → tie.After-start-arg
+at-start-arg c = at-start c .before
+
+abbrev at-shared-slice-known : tie.After-of-start → tie.After-shared-slice-known
+at-shared-slice-known c = at-start-arg c .before .before .before
+
+abbrev entry : tie.After-of-start → tie.Start
+entry c = at-shared-slice-known c .before
+
 start-requires : tie.Need-start-requires
 start-requires c κs = search needs
 
@@ -22,12 +35,14 @@ same-length c = search needs
 
 returns : tie.Need-returns
 returns c =
-    let args = c .before .before .before .before .before .before .before .before .args in
+    let args = entry c .args in
     let s = c .before .before .before .start .ensures in
     let task : ℤ → Task = λ z. taskWith (args .text .now) (args .pattern .now) (args .u) (args .v) z in
-    let same = toZ-ofZ w32 (args .threshold) (c .before .before .before .before .before .before .before .before .fits .threshold) in
-    let reply = s .0 ∙ ap (λ (z : ℤ). startReply (task z) (length (args .work .now))) same in
-    (c .of-start .ensures .1 ∙ ap valueOf reply, (c .of-start .ensures .0 ∙ ap numberOf reply, s .1 ∙ ap (λ (z : ℤ). startWords (task z) (args .work .now)) same))
+    let same = toZ-ofZ w32 (args .threshold) (entry c .fits .threshold) in
+    let reply = s .0 ∙ ap (λ (z : ℤ). startReply (task z) (length (args .work .now))) same in (
+      c .of-start .ensures .1 ∙ ap valueOf reply,
+      (c .of-start .ensures .0 ∙ ap numberOf reply, s .1 ∙ ap (λ (z : ℤ). startWords (task z) (args .work .now)) same),
+    )
 
 pub huddlewool-start-spec : {M : Type 1} → statement M
 huddlewool-start-spec = tie.close (tie.spec start-requires of-start-requires same-length returns)

@@ -15,7 +15,8 @@ use Rattle.maplist.proofs.main.Tie as tie
 
 abbrev Inv-loop : tie.InvT-loop
 Inv-loop n positions work₀ out₀ begun left₀ found₀ work out left found =
-    (length positions ≡ 4096) × (length work ≡ 16384) × (length out ≡ 65536) × ((bytes : List ℕ) × (done : List ℕ) × After bytes positions work (begun .k) (begun .size) found left done)
+    (length positions ≡ 4096) × (length work ≡ 16384) × (length out ≡ 65536)
+    × ((bytes : List ℕ) × (done : List ℕ) × After bytes positions work (begun .k) (begun .size) found left done)
 
 abbrev μ-loop : tie.MeasureT-loop
 μ-loop n positions work₀ out₀ begun left₀ found₀ work out left found = left
@@ -33,7 +34,8 @@ module _ (c : tie.After-begin Inv-loop μ-loop) where
 
   first-inside : c .begin .result .written ≤ length out₁
   first-inside =
-      let l : c .begin .result .written ≤ length (c .before .before .before .before .before .large-buffer .result) = written-inside (c .begin .ensures .begun .first) zero-le in
+      let l : c .begin .result .written ≤ length (c .before .before .before .before .before .large-buffer .result) =
+      written-inside (c .begin .ensures .begun .first) zero-le in
       omega (arith, same-out, long)
 
 -- a further piece
@@ -93,7 +95,8 @@ array-share-prefix-out c = first-inside (c .before .before .before)
 
 -- src/main.rt:18:26
 slice-aggregate-write-all : tie.Need-slice-aggregate-write-all Inv-loop μ-loop
-slice-aggregate-write-all c = let at-begin = c .before .before .before .before in sym (length-take-le (at-begin .begin .result .written) (out₁ at-begin) (first-inside at-begin))
+slice-aggregate-write-all c =
+    let at-begin = c .before .before .before .before in sym (length-take-le (at-begin .begin .result .written) (out₁ at-begin) (first-inside at-begin))
 
 -- src/main.rt:18:9
 write-all-requires : tie.Need-write-all-requires Inv-loop μ-loop
@@ -110,7 +113,12 @@ loop-holds c =
       at-begin .begin .kept .1 .0 ∙ length-replicate {A = ℕ} 4096 0,
       at-begin .begin .kept .1 .1 .0 ∙ length-replicate {A = ℕ} 16384 0,
       same-out at-begin,
-      (_, _, begin-prints _ _ _ _ (length-replicate {A = ℕ} 4096 0) (length-replicate {A = ℕ} 16384 0) (omega (arith, long at-begin)) (at-begin .begin .result) (out₁ at-begin) _ _ (at-begin .begin .ensures)),
+      (
+        _,
+        _,
+        begin-prints _ _ _ _ (length-replicate {A = ℕ} 4096 0) (length-replicate {A = ℕ} 16384 0) (omega (arith, long at-begin))
+            (at-begin .begin .result) (out₁ at-begin) _ _ (at-begin .begin .ensures),
+      ),
     )
 
 -- src/main.rt:24:27
@@ -135,7 +143,8 @@ array-share-prefix-out-2 c = search needs
 
 -- src/main.rt:25:30
 slice-aggregate-write-all-2 : tie.Need-slice-aggregate-write-all-2 Inv-loop μ-loop
-slice-aggregate-write-all-2 c = let at-fill = c .before .before .before in sym (length-take-le (at-fill .fill .result .written) (out₂ at-fill) (at-fill .fill .ensures .inside))
+slice-aggregate-write-all-2 c =
+    let at-fill = c .before .before .before in sym (length-take-le (at-fill .fill .result .written) (out₂ at-fill) (at-fill .fill .ensures .inside))
 
 -- src/main.rt:25:13
 write-all-requires-2 : tie.Need-write-all-requires-2 Inv-loop μ-loop
@@ -147,7 +156,10 @@ returns-2 c = search needs
 
 -- src/main.rt:23:5
 loop-less : tie.Need-loop-less Inv-loop μ-loop
-loop-less c = let at-fill = c .before .before .before .before .before in next-prints _ _ _ _ _ _ _ _ (at-loop at-fill .loop .inv .3 .2) (at-fill .before .before .before .before .loop-test .taken) _ (at-fill .fill .result) _ _ (omega (arith, at-loop at-fill .loop .inv .2)) (at-fill .fill .ensures) .0
+loop-less c =
+    let at-fill = c .before .before .before .before .before in next-prints _ _ _ _ _ _ _ _ (at-loop at-fill .loop .inv .3 .2)
+    (at-fill .before .before .before .before .loop-test .taken) _ (at-fill .fill .result) _ _ (omega (arith, at-loop at-fill .loop .inv .2))
+    (at-fill .fill .ensures) .0
 
 -- src/main.rt:23:5
 loop-again : tie.Need-loop-again Inv-loop μ-loop
@@ -156,7 +168,12 @@ loop-again c =
       at-loop at-fill .loop .inv .0,
       at-fill .fill .kept .0 ∙ at-loop at-fill .loop .inv .1,
       same-out₂ at-fill,
-      (_, _, next-prints _ _ _ _ _ _ _ _ (at-loop at-fill .loop .inv .3 .2) (at-fill .before .before .before .before .loop-test .taken) _ (at-fill .fill .result) _ _ (omega (arith, at-loop at-fill .loop .inv .2)) (at-fill .fill .ensures) .1),
+      (
+        _,
+        _,
+        next-prints _ _ _ _ _ _ _ _ (at-loop at-fill .loop .inv .3 .2) (at-fill .before .before .before .before .loop-test .taken) _
+            (at-fill .fill .result) _ _ (omega (arith, at-loop at-fill .loop .inv .2)) (at-fill .fill .ensures) .1,
+      ),
     )
 
 -- src/main.rt:11:1

@@ -73,7 +73,8 @@ module _ (c : tie.After-find2) where
   two-lines : text₂ + n₂ ≡ length bytes₂ → lines bytes₂ ≡ take (n₁ (found₁ c)) bytes₂ ∷ drop text₂ bytes₂ ∷ []
   two-lines e =
       lines₁ (c .before .before)
-      ∙ ap (λ (ls : List (List ℕ)). take (n₁ (found₁ c)) bytes₂ ∷ ls) (found-end lineFeed bytes₂ text₂ n₂ (text-inside (c .before .before)) (c .find2 .ensures) e)
+      ∙ ap (λ (ls : List (List ℕ)). take (n₁ (found₁ c)) bytes₂ ∷ ls)
+      (found-end lineFeed bytes₂ text₂ n₂ (text-inside (c .before .before)) (c .find2 .ensures) e)
 
 -- with a line feed behind it
 module _ (c : tie.Else2) where
@@ -90,7 +91,8 @@ module _ (c : tie.Else2) where
   lines₂ =
       lines₁ (c .before .before .before)
       ∙ ap (λ (ls : List (List ℕ)). take (n₁ (found₁ (c .before))) (bytes₂ (c .before)) ∷ ls)
-      (found-more lineFeed (bytes₂ (c .before)) (text₂ (c .before)) (n₂ (c .before)) (text-inside (c .before .before .before)) (c .before .find2 .ensures) (omega (arith, read-inside)))
+      (found-more lineFeed (bytes₂ (c .before)) (text₂ (c .before)) (n₂ (c .before)) (text-inside (c .before .before .before))
+      (c .before .find2 .ensures) (omega (arith, read-inside)))
 
 -- ---- the read line
 
@@ -119,7 +121,8 @@ module _ (c : tie.After-find3) where
   three-lines : read₃ + n₃ ≡ length bytes₃ → lines bytes₃ ≡ line₁ ∷ line₂ ∷ drop read₃ bytes₃ ∷ []
   three-lines e =
       lines₂ (c .before .before)
-      ∙ ap (λ (ls : List (List ℕ)). line₁ ∷ line₂ ∷ ls) (found-end lineFeed bytes₃ read₃ n₃ (read-inside (c .before .before)) (c .find3 .ensures) e)
+      ∙ ap (λ (ls : List (List ℕ)). line₁ ∷ line₂ ∷ ls)
+      (found-end lineFeed bytes₃ read₃ n₃ (read-inside (c .before .before)) (c .find3 .ensures) e)
 
 -- with a line feed behind it
 module _ (c : tie.Else3) where
@@ -133,7 +136,8 @@ module _ (c : tie.Else3) where
   lines₃ =
       lines₂ (c .before .before .before)
       ∙ ap (λ (ls : List (List ℕ)). line₁ (c .before) ∷ line₂ (c .before) ∷ ls)
-      (found-more lineFeed (bytes₃ (c .before)) (read₃ (c .before)) (n₃ (c .before)) (read-inside (c .before .before .before)) (c .before .find3 .ensures) (omega (arith, inside₃ (c .before), c .if3 .left)))
+      (found-more lineFeed (bytes₃ (c .before)) (read₃ (c .before)) (n₃ (c .before)) (read-inside (c .before .before .before))
+      (c .before .find3 .ensures) (omega (arith, inside₃ (c .before), c .if3 .left)))
 
   length-first : length (line₁ (c .before)) ≡ n₁ (found₁ (found₂ (c .before)))
   length-first = length-take-le _ _ (inside₁ (found₁ (found₂ (c .before))))
@@ -148,11 +152,15 @@ module _ (c : tie.Else3) where
 
 -- the three lines decide, with what was read of the first
 module _ (c : tie.After-read-first-line) where
+  abbrev short-lines : tie.Else5
+  short-lines = c .before .before
+
   abbrev third : tie.Else3
-  third = c .before .before .before .before
+  third = short-lines .before .before
 
   first-line-decides : {other : FirstLine} → c .read-first-line .result ≡ other
-      → requestOf (bytes₃ (third .before)) ≡ asRequest other (length (line₁ (third .before))) (length (line₂ (third .before))) (length (line₃ third))
+      → requestOf (bytes₃ (third .before))
+      ≡ asRequest other (length (line₁ (third .before))) (length (line₂ (third .before))) (length (line₃ third))
   unfolding requestOf
   first-line-decides e =
       ap requestFrom (lines₃ third)
@@ -160,7 +168,8 @@ module _ (c : tie.After-read-first-line) where
       (omega (arith, some-part lineFeed (drop (read₃ (third .before) + n₃ (third .before) + 1) (bytes₃ (third .before)))))
       (omega (arith, length-text third, c .before .before .before .if4 .left))
       (omega (arith, length-read third, c .before .before .if5 .left))
-      ∙ ap (λ (a : FirstLine). asRequest a (length (line₁ (third .before))) (length (line₂ (third .before))) (length (line₃ third))) (sym (c .read-first-line .ensures) ∙ e)
+      ∙ ap (λ (a : FirstLine). asRequest a (length (line₁ (third .before))) (length (line₂ (third .before))) (length (line₃ third)))
+      (sym (c .read-first-line .ensures) ∙ e)
 
 find-requires : tie.Need-find-requires
 find-requires c κs = search needs
@@ -240,7 +249,8 @@ returns-7 c =
     let n = length-first at-third in
     let m = length-text at-third in
     let l = length-read at-third in
-    (λ i. requestAt (record { k = read .0; w = read .1 .0; c = read .1 .1 .0; u = read .1 .1 .1 .0; v = read .1 .1 .1 .1 .0; threshold = z i }) (sym n i) (sym m i) (sym l i))
+    (λ i. requestAt (record { k = read .0; w = read .1 .0; c = read .1 .1 .0; u = read .1 .1 .1 .0; v = read .1 .1 .1 .1 .0; threshold = z i }) (sym n i)
+    (sym m i) (sym l i))
     ∙ sym (first-line-decides at-line (c .before .k .given .1))
 
 pub read-input-spec : {M : Type 1} → statement M

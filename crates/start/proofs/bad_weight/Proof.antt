@@ -2,6 +2,8 @@
 use borrow.Author.Tests.{lt-ltb, le-ltb}
 use Rattle.start.proofs.bad_weight.Statement.{statement}
 use Rattle.start.proofs.bad_weight.Tie as tie
+use Rattle.start.proofs.bad_weight.Reads as reads
+use Rattle.start.proofs.bad_weight.Lts as lts
 
 returns : tie.Need-returns
 returns c = rw (lt-ltb (c .before .args .w) 1 (c .if1 .taken))

@@ -11,6 +11,11 @@ use native.Mathlib.Omega.{arith}
 use Prim.Native.Nat.{ℕ, _≤_, _<_}
 use Rattle.start.proofs.put_session.Statement.{statement}
 use Rattle.start.proofs.put_session.Tie as tie
+use Rattle.start.proofs.put_session.Reads as reads
+use Rattle.start.proofs.put_session.Lts as lts
+use Rattle.start.proofs.blocks.zeros_2048.Reads as zeros-2048-reads
+use Rattle.start.proofs.per_hit.put_back.Reads as put-back-reads
+use Rattle.start.proofs.put_words.Reads as put-words-reads
 
 -- the part that is lent has a word for each hit
 part-long : (c : tie.After-zeros-2048) → length (take (length (c .before .before .before .before .before .args .slots .now)) (c .zeros-2048 .result)) ≡ length (c .before .before .before .before .before .args .slots .now)

@@ -9,6 +9,13 @@ use Rattle.start.proofs.Tables.{hit-codes-in}
 use Rattle.mappings.specs.Cells.{hitCodes}
 use Rattle.start.proofs.put_words.Statement.{statement}
 use Rattle.start.proofs.put_words.Tie as tie
+use Rattle.start.proofs.put_words.Reads as reads
+use Rattle.start.proofs.put_words.Lts as lts
+use Rattle.start.proofs.blocks.fill.Reads as fill-reads
+use Rattle.start.proofs.blocks.put_block.Reads as put-block-reads
+use Rattle.start.proofs.blocks.put_heading.Reads as put-heading-reads
+use Rattle.start.proofs.per_hit.put_reach.Reads as put-reach-reads
+use Rattle.start.proofs.per_hit.put_whole.Reads as put-whole-reads
 
 put-block-requires : tie.Need-put-block-requires
 put-block-requires c κs = search needs

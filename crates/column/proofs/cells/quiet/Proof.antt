@@ -92,7 +92,8 @@ same-length : tie.Need-same-length Inv-loop μ-loop
 same-length c = simp length-set (search needs)
 
 -- what is known at a cell once it is passed
-at-cell : (d : tie.After-lowered Inv-loop μ-loop) → AtCell (entry d .args .line) (turn d .loop .i) (turn d .loop .m) (turn d .loop .best) (turn d .loop .part)
+at-cell : (d : tie.After-lowered Inv-loop μ-loop)
+    → AtCell (entry d .args .line) (turn d .loop .i) (turn d .loop .m) (turn d .loop .best) (turn d .loop .part)
     (scored d .score-word .result) (d .before .below .result)
     (greatest d .greater .result) (d .before .before .greater2 .result)
 unfolding inReach lineScore
@@ -107,7 +108,9 @@ returns : tie.Need-returns Inv-loop μ-loop
 returns c =
     let d = c .before .before in
     let t = turn d .loop in
-    let e = sym (quiet-stop (entry d .args .line) (entry d .args .to) (t .i) (t .m) (t .best) (t .part) _ _ _ _ (tested d .loop-test .taken) (at-cell d) (d .lowered .result) (c .if1 .taken) (d .lowered .ensures)) ∙ t .inv .2 in
+    let e =
+    sym (quiet-stop (entry d .args .line) (entry d .args .to) (t .i) (t .m) (t .best) (t .part) _ _ _ _ (tested d .loop-test .taken) (at-cell d)
+    (d .lowered .result) (c .if1 .taken) (d .lowered .ensures)) ∙ t .inv .2 in
     (ap (λ (u : Pause). u .answer) e, ap (λ (u : Pause). u .part) e)
 
 loop-less : tie.Need-loop-less Inv-loop μ-loop
@@ -119,7 +122,8 @@ loop-again c =
     let t = turn d .loop in (
       search needs,
       simp length-set (search needs),
-      sym (quiet-on (entry d .args .line) (entry d .args .to) (t .i) (t .m) (t .best) (t .part) _ _ _ _ (tested d .loop-test .taken) (at-cell d) (d .lowered .result) (c .if1 .left) (d .lowered .ensures)) ∙ t .inv .2,
+      sym (quiet-on (entry d .args .line) (entry d .args .to) (t .i) (t .m) (t .best) (t .part) _ _ _ _ (tested d .loop-test .taken) (at-cell d)
+          (d .lowered .result) (c .if1 .left) (d .lowered .ensures)) ∙ t .inv .2,
     )
 
 same-length-2 : tie.Need-same-length-2 Inv-loop μ-loop

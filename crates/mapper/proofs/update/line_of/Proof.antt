@@ -85,7 +85,8 @@ returns c =
     let w = c .before .before in
     let args = entry w .args in
     let terms = args .terms in
-    let lost : weight w .wider .result * (right w .wider2 .result + 1 + w .wider3 .result) ≡ terms .v * (getD (args .work .now) (4096 + args .j) 0 + 1 + terms .size) =
+    let lost : weight w .wider .result * (right w .wider2 .result + 1 + w .wider3 .result)
+    ≡ terms .v * (getD (args .work .now) (4096 + args .j) 0 + 1 + terms .size) =
     λ i. weight w .wider .ensures .0 i * (right w .wider2 .ensures .0 i + 1 + w .wider3 .ensures .0 i)
     in
     λ i. record {

@@ -47,7 +47,8 @@ module _ (t : tie.At-loop Inv-loop μ-loop) where
       let args = entry .args in
       sym e
       ∙ t .loop .inv .5
-      ∙ ap (λ (ts : Terms). walkOn ts (args .budget) (args .start .columns) (args .start .row) (args .start .m) (args .budget) (args .work .now)) (t .before .terms-of .ensures)
+      ∙ ap (λ (ts : Terms). walkOn ts (args .budget) (args .start .columns) (args .start .row) (args .start .m) (args .budget) (args .work .now))
+      (t .before .terms-of .ensures)
 
 terms-of-requires : tie.Need-terms-of-requires Inv-loop μ-loop
 terms-of-requires c κs = search needs
@@ -123,7 +124,9 @@ returns-2 c =
     let candidate = f .before .before in
     let d = candidate .before in
     let u = updated d .update in
-    let e = whole (turn d) (walk-found _ _ _ _ _ _ _ (some d .before .loop-test .taken) (some d .if1 .left) (u .result) (u .last .0) (u .ensures .0) (u .ensures .1) (candidate .if2 .taken)) in
+    let e =
+    whole (turn d) (walk-found _ _ _ _ _ _ _ (some d .before .loop-test .taken) (some d .if1 .left) (u .result) (u .last .0) (u .ensures .0) (u .ensures .1)
+    (candidate .if2 .taken)) in
     (f .found .ensures .0 ∙ ap (λ (w : Walk). w .answer) e, f .found .ensures .1 ∙ ap (λ (w : Walk). w .words) e)
 
 -- ---- the budget ends within the column
@@ -151,7 +154,9 @@ returns-3 c =
     let inside = s .before .before in
     let d = inside .before .before in
     let u = updated d .update in
-    let e = whole (turn d) (walk-part _ _ _ _ _ _ _ (some d .before .loop-test .taken) (some d .if1 .left) (u .result) (u .last .0) (u .ensures .0) (u .ensures .1) (inside .before .if2 .left) (inside .if3 .taken)) in
+    let e =
+    whole (turn d) (walk-part _ _ _ _ _ _ _ (some d .before .loop-test .taken) (some d .if1 .left) (u .result) (u .last .0) (u .ensures .0) (u .ensures .1)
+    (inside .before .if2 .left) (inside .if3 .taken)) in
     (s .spent2 .ensures .0 ∙ ap (λ (w : Walk). w .answer) e, s .spent2 .ensures .1 ∙ ap (λ (w : Walk). w .words) e)
 
 -- ---- the next column
@@ -178,7 +183,8 @@ loop-again c =
       omega arith,
       omega arith,
       rw (c .top-shared .ensures)
-          (sym (walk-next (terms (turn d)) _ _ _ _ _ _ (some d .before .loop-test .taken) (some d .if1 .left) (u .result) (u .last .0) (u .ensures .0) (u .ensures .1)
+          (sym (walk-next (terms (turn d)) _ _ _ _ _ _ (some d .before .loop-test .taken) (some d .if1 .left) (u .result) (u .last .0) (u .ensures .0)
+          (u .ensures .1)
           (passed .before .if2 .left) (passed .if3 .left)) ∙ inv .5),
     )
 

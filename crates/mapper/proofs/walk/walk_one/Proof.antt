@@ -32,7 +32,9 @@ module _ (d : tie.After-slice-known2) where
   entry = read .before .before .before
 
   stops : Stops (entry .args .start .columns) (entry .args .start .row) 1 (updated .update-one .result)
-  stops = one-stops (read .terms-of .result) _ _ _ (entry .args .work .now) _ _ (entry .pre .0 .2) (updated .update-one .ensures .0) (updated .update-one .ensures .1)
+  stops =
+      one-stops (read .terms-of .result) _ _ _ (entry .args .work .now) _ _ (entry .pre .0 .2) (updated .update-one .ensures .0)
+      (updated .update-one .ensures .1)
 
   long : 16384 ≤ length (updated .update-one .last .0)
   long = let n = updated .update-one .kept .0 in omega (arith, entry .pre .0 .0)

@@ -36,11 +36,13 @@ sub-open-lines-2 c = lines-inside _ _ (c .before .before .before .before .read-i
 
 -- src/calls.rt:125:13
 part-open-lines-start-2 : tie.Need-part-open-lines-start-2
-part-open-lines-start-2 c = lines-inside _ _ (c .before .before .before .before .read-input .ensures) _ _ _ _ _ _ _ _ _ _ (c .before .before .k .given .1) .read-order
+part-open-lines-start-2 c =
+    lines-inside _ _ (c .before .before .before .before .read-input .ensures) _ _ _ _ _ _ _ _ _ _ (c .before .before .k .given .1) .read-order
 
 -- src/calls.rt:125:13
 part-open-lines-end-2 : tie.Need-part-open-lines-end-2
-part-open-lines-end-2 c = lines-inside _ _ (c .before .before .before .before .read-input .ensures) _ _ _ _ _ _ _ _ _ _ (c .before .before .k .given .1) .read-inside
+part-open-lines-end-2 c =
+    lines-inside _ _ (c .before .before .before .before .read-input .ensures) _ _ _ _ _ _ _ _ _ _ (c .before .before .k .given .1) .read-inside
 
 -- src/calls.rt:123:14
 open-lines-requires : tie.Need-open-lines-requires
@@ -51,7 +53,8 @@ returns : tie.Need-returns
 returns c =
     let at-read = c .before .before in
     let args = at-read .before .before .before .before .args in
-    opens-malformed (args .bytes .now) (at-read .read-input .result) (at-read .read-input .ensures) (c .enum-told .given .1) (args .positions .now) (args .work .now)
+    opens-malformed (args .bytes .now) (at-read .read-input .result) (at-read .read-input .ensures) (c .enum-told .given .1) (args .positions .now)
+    (args .work .now)
 
 -- src/calls.rt:107:1
 same-length : tie.Need-same-length
@@ -68,7 +71,9 @@ returns-2 c =
     let told = opened .before .before .before .before .before in
     let at-read = told .before .before .before in
     let args = at-read .before .before .before .before .args in
-    opens-given (args .bytes .now) (at-read .read-input .result) (at-read .read-input .ensures) _ _ _ _ _ _ _ _ _ _ (told .before .k .given .1) _ (toZ-ofZ (sfits-of (told .known-told .given .1 .1 .1 .1 .1 .0 .1))) (args .positions .now) (args .work .now) (opened .open-lines .result) _ _ (opened .open-lines .ensures)
+    opens-given (args .bytes .now) (at-read .read-input .result) (at-read .read-input .ensures) _ _ _ _ _ _ _ _ _ _ (told .before .k .given .1) _
+    (toZ-ofZ (sfits-of (told .known-told .given .1 .1 .1 .1 .1 .0 .1))) (args .positions .now) (args .work .now) (opened .open-lines .result) _ _
+    (opened .open-lines .ensures)
 
 pub open-spec : {M : Type 1} → statement M
 open-spec =

@@ -12,7 +12,8 @@ use mir.Val.{toZ, ofZ}
 use mir.ValLaws.{toZ-ofZ}
 use Rattle.requests.specs.Requests.{Settings}
 use Rattle.opening.specs.Opening.{settings, OpensSketches}
-use Rattle.opening.proofs.Letters.{sketch-number, sketch-accepts, sketch-inside, codes-front, positions-front, text-refused, read-refused, opens-fronts}
+use Rattle.opening.proofs.Letters.{sketch-number, sketch-accepts, sketch-inside, codes-front, positions-front, text-refused, read-refused}
+use Rattle.opening.proofs.Letters.{opens-fronts}
 use borrow.Author.Needs.{needs}
 use Rattle.opening.proofs.calls.open_lines.Statement.{statement}
 use Rattle.opening.proofs.calls.open_lines.Tie as tie
@@ -54,7 +55,9 @@ module _ (c : tie.After-of-sketch) where
 
   module _ (zero : n ≡ 0) where
     text-few : m ≤ 4096
-    text-few = sketch-inside (at-start .args .k) (at-start .args .w) (at-start .args .text .now) text-room text-room′ text-codes text-places (at-text .sketch .result) (at-text .sketch .ensures) text-long text-long′ n m (c .of-sketch .ensures .0) (c .of-sketch .ensures .1) zero
+    text-few =
+        sketch-inside (at-start .args .k) (at-start .args .w) (at-start .args .text .now) text-room text-room′ text-codes text-places
+        (at-text .sketch .result) (at-text .sketch .ensures) text-long text-long′ n m (c .of-sketch .ensures .0) (c .of-sketch .ensures .1) zero
 
     codes-hold : m ≤ length text-codes
     codes-hold = let l : length text-codes ≡ length text-room = at-text .sketch .kept .1 .1 .1 .0 in omega (arith, text-few, text-long)
@@ -98,7 +101,10 @@ module _ (c : tie.After-of-sketch2) where
     read-hold : m′ ≤ length read-codes
     read-hold =
         let args = at-start text-call .args in
-        let few : m′ ≤ 4096 = sketch-inside (args .k) (args .w) (args .read .now) read-room read-room′ read-codes (at-read .sketch2 .last .1 .1 .1 .1 .0) (at-read .sketch2 .result) (at-read .sketch2 .ensures) read-long read-long′ n′ m′ (c .of-sketch2 .ensures .0) (c .of-sketch2 .ensures .1) zero in
+        let few : m′ ≤ 4096 =
+        sketch-inside (args .k) (args .w) (args .read .now) read-room read-room′ read-codes (at-read .sketch2 .last .1 .1 .1 .1 .0)
+        (at-read .sketch2 .result) (at-read .sketch2 .ensures) read-long read-long′ n′ m′ (c .of-sketch2 .ensures .0) (c .of-sketch2 .ensures .1) zero
+        in
         let l : length read-codes ≡ length read-room = at-read .sketch2 .kept .1 .1 .1 .0 in
         omega (arith, read-long)
 
@@ -131,7 +137,10 @@ returns : tie.Need-returns
 returns c =
     let call = c .before .before in
     let args = at-start call .args in
-    text-refused (given-settings call) (args .text .now) (args .read .now) (args .positions .now) (args .work .now) (n call) (sketch-number (args .k) (args .w) (args .text .now) (text-room call) (text-room′ call) (text-codes call) (text-places call) (at-text call .sketch .result) (at-text call .sketch .ensures) (text-long call) (text-long′ call) (n call) (m call) (call .of-sketch .ensures .0) (call .of-sketch .ensures .1)) (c .if1 .taken)
+    text-refused (given-settings call) (args .text .now) (args .read .now) (args .positions .now) (args .work .now) (n call)
+    (sketch-number (args .k) (args .w) (args .text .now) (text-room call) (text-room′ call) (text-codes call) (text-places call)
+    (at-text call .sketch .result) (at-text call .sketch .ensures) (text-long call) (text-long′ call) (n call) (m call) (call .of-sketch .ensures .0)
+    (call .of-sketch .ensures .1)) (c .if1 .taken)
 
 -- src/calls.rt:86:23
 zeros-4096-requires-3 : tie.Need-zeros-4096-requires-3
@@ -163,8 +172,14 @@ returns-2 c =
     let c2 = c .before .before in
     let call = text-call c2 in
     let args = at-start call .args in
-    let t = sketch-accepts (args .k) (args .w) (args .text .now) (text-room call) (text-room′ call) (text-codes call) (text-places call) (at-text call .sketch .result) (at-text call .sketch .ensures) (text-long call) (text-long′ call) (n call) (m call) (call .of-sketch .ensures .0) (call .of-sketch .ensures .1) (text-zero c2) in
-    read-refused (given-settings call) (args .text .now) (args .read .now) (args .positions .now) (args .work .now) (m call) t (n′ c2) (sketch-number (args .k) (args .w) (args .read .now) (read-room c2) (read-room′ c2) (read-codes c2) (at-read c2 .sketch2 .last .1 .1 .1 .1 .0) (at-read c2 .sketch2 .result) (at-read c2 .sketch2 .ensures) (read-long c2) (read-long′ c2) (n′ c2) (m′ c2) (c2 .of-sketch2 .ensures .0) (c2 .of-sketch2 .ensures .1)) (c .if2 .taken)
+    let t =
+    sketch-accepts (args .k) (args .w) (args .text .now) (text-room call) (text-room′ call) (text-codes call) (text-places call)
+    (at-text call .sketch .result) (at-text call .sketch .ensures) (text-long call) (text-long′ call) (n call) (m call) (call .of-sketch .ensures .0)
+    (call .of-sketch .ensures .1) (text-zero c2) in
+    read-refused (given-settings call) (args .text .now) (args .read .now) (args .positions .now) (args .work .now) (m call) t (n′ c2)
+    (sketch-number (args .k) (args .w) (args .read .now) (read-room c2) (read-room′ c2) (read-codes c2) (at-read c2 .sketch2 .last .1 .1 .1 .1 .0)
+    (at-read c2 .sketch2 .result) (at-read c2 .sketch2 .ensures) (read-long c2) (read-long′ c2) (n′ c2) (m′ c2) (c2 .of-sketch2 .ensures .0)
+    (c2 .of-sketch2 .ensures .1)) (c .if2 .taken)
 
 -- src/calls.rt:93:9
 array-share-prefix-codes : tie.Need-array-share-prefix-codes
@@ -172,7 +187,8 @@ array-share-prefix-codes c = let c2 = c .before .before in codes-hold (text-call
 
 -- src/calls.rt:93:9
 slice-aggregate-open-sketches : tie.Need-slice-aggregate-open-sketches
-slice-aggregate-open-sketches c = let c2 = c .before .before .before in let call = text-call c2 in sym (length-take-le (m call) (text-codes call) (codes-hold call (text-zero c2)))
+slice-aggregate-open-sketches c =
+    let c2 = c .before .before .before in let call = text-call c2 in sym (length-take-le (m call) (text-codes call) (codes-hold call (text-zero c2)))
 
 -- src/calls.rt:94:9
 array-share-prefix-places : tie.Need-array-share-prefix-places
@@ -180,7 +196,8 @@ array-share-prefix-places c = let c2 = c .before .before .before in places-hold 
 
 -- src/calls.rt:94:9
 slice-aggregate-open-sketches-2 : tie.Need-slice-aggregate-open-sketches-2
-slice-aggregate-open-sketches-2 c = let c2 = c .before .before .before .before in let call = text-call c2 in sym (length-take-le (m call) (text-places call) (places-hold call (text-zero c2)))
+slice-aggregate-open-sketches-2 c =
+    let c2 = c .before .before .before .before in let call = text-call c2 in sym (length-take-le (m call) (text-places call) (places-hold call (text-zero c2)))
 
 -- src/calls.rt:95:9
 array-share-prefix-pattern : tie.Need-array-share-prefix-pattern
@@ -188,7 +205,9 @@ array-share-prefix-pattern c = let at-else = c .before .before in read-hold (at-
 
 -- src/calls.rt:95:9
 slice-aggregate-open-sketches-3 : tie.Need-slice-aggregate-open-sketches-3
-slice-aggregate-open-sketches-3 c = let at-else = c .before .before .before in let c2 = at-else .before .before in sym (length-take-le (m′ c2) (read-codes c2) (read-hold c2 (at-else .if2 .left)))
+slice-aggregate-open-sketches-3 c =
+    let at-else = c .before .before .before in let c2 = at-else .before .before in sym
+    (length-take-le (m′ c2) (read-codes c2) (read-hold c2 (at-else .if2 .left)))
 
 -- src/calls.rt:92:5
 open-sketches-requires : tie.Need-open-sketches-requires
@@ -210,14 +229,33 @@ returns-3 c =
     let c2 = at-else .before .before in
     let call = text-call c2 in
     let args = at-start call .args in
-    let t = sketch-accepts (args .k) (args .w) (args .text .now) (text-room call) (text-room′ call) (text-codes call) (text-places call) (at-text call .sketch .result) (at-text call .sketch .ensures) (text-long call) (text-long′ call) (n call) (m call) (call .of-sketch .ensures .0) (call .of-sketch .ensures .1) (text-zero c2) in
-    let r = sketch-accepts (args .k) (args .w) (args .read .now) (read-room c2) (read-room′ c2) (read-codes c2) (at-read c2 .sketch2 .last .1 .1 .1 .1 .0) (at-read c2 .sketch2 .result) (at-read c2 .sketch2 .ensures) (read-long c2) (read-long′ c2) (n′ c2) (m′ c2) (c2 .of-sketch2 .ensures .0) (c2 .of-sketch2 .ensures .1) (at-else .if2 .left) in
+    let t =
+    sketch-accepts (args .k) (args .w) (args .text .now) (text-room call) (text-room′ call) (text-codes call) (text-places call)
+    (at-text call .sketch .result) (at-text call .sketch .ensures) (text-long call) (text-long′ call) (n call) (m call) (call .of-sketch .ensures .0)
+    (call .of-sketch .ensures .1) (text-zero c2) in
+    let r =
+    sketch-accepts (args .k) (args .w) (args .read .now) (read-room c2) (read-room′ c2) (read-codes c2) (at-read c2 .sketch2 .last .1 .1 .1 .1 .0)
+    (at-read c2 .sketch2 .result) (at-read c2 .sketch2 .ensures) (read-long c2) (read-long′ c2) (n′ c2) (m′ c2) (c2 .of-sketch2 .ensures .0)
+    (c2 .of-sketch2 .ensures .1) (at-else .if2 .left) in
     let same : toZ w32 (ofZ w32 (args .threshold)) ≡ args .threshold = toZ-ofZ w32 (args .threshold) (at-start call .fits .threshold) in
     let places′ = opened .open-sketches .last .1 .1 .1 .1 .1 .1 .1 .1 .0 in
     let work′ = opened .open-sketches .last .1 .1 .1 .1 .1 .1 .1 .1 .1 .0 in
-    let o : OpensSketches (take (m call) (text-codes call)) (take (m call) (text-places call)) (take (m′ c2) (read-codes c2)) (args .k) (args .c) (args .u) (args .v) (args .threshold) (args .positions .now) (args .work .now) (opened .open-sketches .result) places′ work′ =
-    subst (λ (z : ℤ). OpensSketches (take (m call) (text-codes call)) (take (m call) (text-places call)) (take (m′ c2) (read-codes c2)) (args .k) (args .c) (args .u) (args .v) z (args .positions .now) (args .work .now) (opened .open-sketches .result) places′ work′) same (opened .open-sketches .ensures) in
-    opens-fronts (given-settings call) (args .text .now) (args .read .now) (args .positions .now) (args .work .now) (m call) t (m′ c2) r (take (m call) (text-codes call)) (take (m call) (text-places call)) (take (m′ c2) (read-codes c2)) (codes-front (args .k) (args .w) (args .text .now) (text-room call) (text-room′ call) (text-codes call) (text-places call) (at-text call .sketch .result) (at-text call .sketch .ensures) (text-long call) (text-long′ call) (n call) (m call) (call .of-sketch .ensures .0) (call .of-sketch .ensures .1) (text-zero c2)) (positions-front (args .k) (args .w) (args .text .now) (text-room call) (text-room′ call) (text-codes call) (text-places call) (at-text call .sketch .result) (at-text call .sketch .ensures) (text-long call) (text-long′ call) (n call) (m call) (call .of-sketch .ensures .0) (call .of-sketch .ensures .1) (text-zero c2)) (codes-front (args .k) (args .w) (args .read .now) (read-room c2) (read-room′ c2) (read-codes c2) (at-read c2 .sketch2 .last .1 .1 .1 .1 .0) (at-read c2 .sketch2 .result) (at-read c2 .sketch2 .ensures) (read-long c2) (read-long′ c2) (n′ c2) (m′ c2) (c2 .of-sketch2 .ensures .0) (c2 .of-sketch2 .ensures .1) (at-else .if2 .left)) (opened .open-sketches .result) places′ work′ o
+    let o : OpensSketches (take (m call) (text-codes call)) (take (m call) (text-places call)) (take (m′ c2) (read-codes c2)) (args .k) (args .c)
+    (args .u) (args .v) (args .threshold) (args .positions .now) (args .work .now) (opened .open-sketches .result) places′ work′ =
+    subst (λ (z : ℤ). OpensSketches (take (m call) (text-codes call)) (take (m call) (text-places call)) (take (m′ c2) (read-codes c2)) (args .k)
+    (args .c) (args .u) (args .v) z (args .positions .now) (args .work .now) (opened .open-sketches .result) places′ work′) same
+    (opened .open-sketches .ensures) in
+    opens-fronts (given-settings call) (args .text .now) (args .read .now) (args .positions .now) (args .work .now) (m call) t (m′ c2) r
+    (take (m call) (text-codes call)) (take (m call) (text-places call)) (take (m′ c2) (read-codes c2))
+    (codes-front (args .k) (args .w) (args .text .now) (text-room call) (text-room′ call) (text-codes call) (text-places call)
+    (at-text call .sketch .result) (at-text call .sketch .ensures) (text-long call) (text-long′ call) (n call) (m call) (call .of-sketch .ensures .0)
+    (call .of-sketch .ensures .1) (text-zero c2))
+    (positions-front (args .k) (args .w) (args .text .now) (text-room call) (text-room′ call) (text-codes call) (text-places call)
+    (at-text call .sketch .result) (at-text call .sketch .ensures) (text-long call) (text-long′ call) (n call) (m call) (call .of-sketch .ensures .0)
+    (call .of-sketch .ensures .1) (text-zero c2))
+    (codes-front (args .k) (args .w) (args .read .now) (read-room c2) (read-room′ c2) (read-codes c2) (at-read c2 .sketch2 .last .1 .1 .1 .1 .0)
+    (at-read c2 .sketch2 .result) (at-read c2 .sketch2 .ensures) (read-long c2) (read-long′ c2) (n′ c2) (m′ c2) (c2 .of-sketch2 .ensures .0)
+    (c2 .of-sketch2 .ensures .1) (at-else .if2 .left)) (opened .open-sketches .result) places′ work′ o
 
 pub open-lines-spec : {M : Type 1} → statement M
 open-lines-spec =

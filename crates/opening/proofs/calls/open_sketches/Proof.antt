@@ -24,15 +24,25 @@ use Rattle.opening.proofs.calls.open_sketches.Tie as tie
 
 -- strike's answer as numbers, and what it says
 module _ (c : tie.After-of-strike) where
-  abbrev at-strike : tie.After-strike
-  at-strike = c .before .before .before .before
+  abbrev written-back : tie.After-text2
+  written-back = c .before .before .before
 
-  abbrev at-start : tie.Start
-  at-start = at-strike .before .before .before .before .before .before .before .before .before
+  abbrev at-strike : tie.After-strike
+  at-strike = written-back .before
+
+  -- the struck codes' buffer of zeros
+  abbrev zeroed : tie.After-zeros-4096
+  zeroed = at-strike .before .before .before
+
+  abbrev lent : tie.After-shared-slice-known3
+  lent = zeroed .before .before .before
+
+  abbrev entry : tie.Start
+  entry = lent .before .before .before
 
   -- the struck codes in their buffer, which was of zeros, and the positions behind them
   abbrev room : List ℕ
-  room = at-strike .before .before .before .zeros-4096 .result
+  room = zeroed .zeros-4096 .result
 
   abbrev written : List ℕ
   written = at-strike .strike .last .1 .1 .1 .0
@@ -41,7 +51,7 @@ module _ (c : tie.After-of-strike) where
   places′ = at-strike .strike .last .1 .1 .1 .1 .0
 
   long : length room ≡ 4096
-  long = sym (at-strike .before .before .before .zeros-4096 .ensures .0)
+  long = sym (zeroed .zeros-4096 .ensures .0)
 
   abbrev n : ℕ
   n = c .of-strike .result .0
@@ -49,40 +59,66 @@ module _ (c : tie.After-of-strike) where
   abbrev m : ℕ
   m = c .of-strike .result .1
 
-  refused-here : n ≢ 0 → OpensSketches (at-start .args .codes .now) (at-start .args .places .now) (at-start .args .pattern .now) (at-start .args .k) (at-start .args .c) (at-start .args .u) (at-start .args .v) (at-start .args .threshold) (at-start .args .positions .now) (at-start .args .work .now) (Refused n) places′ (at-start .args .work .now)
+  refused-here : n ≢ 0
+      → OpensSketches (entry .args .codes .now) (entry .args .places .now) (entry .args .pattern .now) (entry .args .k) (entry .args .c)
+      (entry .args .u) (entry .args .v) (entry .args .threshold) (entry .args .positions .now) (entry .args .work .now) (Refused n) places′
+      (entry .args .work .now)
   refused-here =
-      let args = at-start .args in
-      strike-refused (args .codes .now) (args .places .now) (args .pattern .now) (args .positions .now) room (args .k) (args .c) (args .u) (args .v) (args .threshold) (args .work .now) long (at-strike .strike .result) (at-strike .strike .ensures .0) written places′ (at-strike .strike .ensures .1 .0) (at-strike .strike .ensures .1 .1) n m (c .of-strike .ensures .0) (c .of-strike .ensures .1)
+      let args = entry .args in
+      strike-refused (args .codes .now) (args .places .now) (args .pattern .now) (args .positions .now) room (args .k) (args .c) (args .u) (args .v)
+      (args .threshold) (args .work .now) long (at-strike .strike .result) (at-strike .strike .ensures .0) written places′
+      (at-strike .strike .ensures .1 .0) (at-strike .strike .ensures .1 .1) n m (c .of-strike .ensures .0) (c .of-strike .ensures .1)
 
   few : n ≡ 0 → m ≤ 4096
   few =
-      let args = at-start .args in
-      inside (args .codes .now) (args .places .now) (args .pattern .now) (args .positions .now) room (args .k) (args .c) (args .u) (args .v) (args .threshold) (args .work .now) long (at-strike .strike .result) (at-strike .strike .ensures .0) written places′ (at-strike .strike .ensures .1 .0) (at-strike .strike .ensures .1 .1) n m (c .of-strike .ensures .0) (c .of-strike .ensures .1)
+      let args = entry .args in
+      inside (args .codes .now) (args .places .now) (args .pattern .now) (args .positions .now) room (args .k) (args .c) (args .u) (args .v)
+      (args .threshold) (args .work .now) long (at-strike .strike .result) (at-strike .strike .ensures .0) written places′
+      (at-strike .strike .ensures .1 .0) (at-strike .strike .ensures .1 .1) n m (c .of-strike .ensures .0) (c .of-strike .ensures .1)
 
   same-room : length written ≡ 4096
   same-room = let l : length written ≡ length room = at-strike .strike .kept .1 .1 .1 .0 in l ∙ long
 
 -- start's answer as numbers, and what it says
 module _ (c : tie.After-of-start) where
-  abbrev call : tie.After-of-strike
-  call = c .before .before .before .before .before .before .before .before
-
   abbrev at-begin : tie.After-start
   at-begin = c .before .before .before
 
-  abbrev ended : Opened → Type 0
-  ended r = OpensSketches (at-start call .args .codes .now) (at-start call .args .places .now) (at-start call .args .pattern .now) (at-start call .args .k) (at-start call .args .c) (at-start call .args .u) (at-start call .args .v) (at-start call .args .threshold) (at-start call .args .positions .now) (at-start call .args .work .now) r (places′ call) (at-begin .start .last .1 .1 .1 .1 .1 .0)
+  -- strike has accepted
+  abbrev accepted : tie.Else1
+  accepted = at-begin .before .before .before
 
-  start-ends : (c .of-start .result .0 ≢ 0 → ended (Refused (c .of-start .result .0))) × (c .of-start .result .0 ≡ 0 → ended (Session (at-start call .args .k) (length (at-start call .args .pattern .now))))
+  abbrev call : tie.After-of-strike
+  call = accepted .before .before
+
+  abbrev ended : Opened → Type 0
+  ended r =
+      OpensSketches (entry call .args .codes .now) (entry call .args .places .now) (entry call .args .pattern .now) (entry call .args .k)
+      (entry call .args .c) (entry call .args .u) (entry call .args .v) (entry call .args .threshold) (entry call .args .positions .now)
+      (entry call .args .work .now) r (places′ call) (at-begin .start .last .1 .1 .1 .1 .1 .0)
+
+  start-ends : (c .of-start .result .0 ≢ 0 → ended (Refused (c .of-start .result .0)))
+      × (c .of-start .result .0 ≡ 0 → ended (Session (entry call .args .k) (length (entry call .args .pattern .now))))
   start-ends =
-      let args = at-start call .args in
-      let same : toZ w32 (ofZ w32 (args .threshold)) ≡ args .threshold = toZ-ofZ w32 (args .threshold) (at-start call .fits .threshold) in
+      let args = entry call .args in
+      let same : toZ w32 (ofZ w32 (args .threshold)) ≡ args .threshold = toZ-ofZ w32 (args .threshold) (entry call .fits .threshold) in
       let zero : n call ≡ 0 = at-begin .before .before .before .if1 .left in
       let task : ℤ → Task = λ z. taskWith (take (m call) (written call)) (args .pattern .now) (args .u) (args .v) z in
-      let reply : startedReply (at-begin .start .result) ≡ startReply (task (args .threshold)) (length (args .work .now)) = subst (λ (z : ℤ). startedReply (at-begin .start .result) ≡ startReply (task z) (length (args .work .now))) same (at-begin .start .ensures .0) in
-      let words : at-begin .start .last .1 .1 .1 .1 .1 .0 ≡ startWords (task (args .threshold)) (args .work .now) = subst (λ (z : ℤ). at-begin .start .last .1 .1 .1 .1 .1 .0 ≡ startWords (task z) (args .work .now)) same (at-begin .start .ensures .1) in (
-        start-refused (args .codes .now) (args .places .now) (args .pattern .now) (args .positions .now) (room call) (args .k) (args .c) (args .u) (args .v) (args .threshold) (args .work .now) (long call) (at-strike call .strike .result) (at-strike call .strike .ensures .0) (written call) (places′ call) (at-strike call .strike .ensures .1 .0) (at-strike call .strike .ensures .1 .1) (n call) (m call) (call .of-strike .ensures .0) (call .of-strike .ensures .1) zero (at-begin .start .result) (at-begin .start .last .1 .1 .1 .1 .1 .0) reply words (c .of-start .result .0) (c .of-start .ensures .0),
-        start-accepted (args .codes .now) (args .places .now) (args .pattern .now) (args .positions .now) (room call) (args .k) (args .c) (args .u) (args .v) (args .threshold) (args .work .now) (long call) (at-strike call .strike .result) (at-strike call .strike .ensures .0) (written call) (places′ call) (at-strike call .strike .ensures .1 .0) (at-strike call .strike .ensures .1 .1) (n call) (m call) (call .of-strike .ensures .0) (call .of-strike .ensures .1) zero (at-begin .start .result) (at-begin .start .last .1 .1 .1 .1 .1 .0) reply words (c .of-start .result .0) (c .of-start .ensures .0),
+      let reply : startedReply (at-begin .start .result) ≡ startReply (task (args .threshold)) (length (args .work .now)) =
+      subst (λ (z : ℤ). startedReply (at-begin .start .result) ≡ startReply (task z) (length (args .work .now))) same (at-begin .start .ensures .0)
+      in
+      let words : at-begin .start .last .1 .1 .1 .1 .1 .0 ≡ startWords (task (args .threshold)) (args .work .now) =
+      subst (λ (z : ℤ). at-begin .start .last .1 .1 .1 .1 .1 .0 ≡ startWords (task z) (args .work .now)) same (at-begin .start .ensures .1) in (
+        start-refused (args .codes .now) (args .places .now) (args .pattern .now) (args .positions .now) (room call) (args .k) (args .c) (args .u) (args .v)
+            (args .threshold) (args .work .now) (long call) (at-strike call .strike .result) (at-strike call .strike .ensures .0) (written call)
+            (places′ call) (at-strike call .strike .ensures .1 .0) (at-strike call .strike .ensures .1 .1) (n call) (m call) (call .of-strike .ensures .0)
+            (call .of-strike .ensures .1) zero (at-begin .start .result) (at-begin .start .last .1 .1 .1 .1 .1 .0) reply words (c .of-start .result .0)
+            (c .of-start .ensures .0),
+        start-accepted (args .codes .now) (args .places .now) (args .pattern .now) (args .positions .now) (room call) (args .k) (args .c) (args .u)
+            (args .v) (args .threshold) (args .work .now) (long call) (at-strike call .strike .result) (at-strike call .strike .ensures .0) (written call)
+            (places′ call) (at-strike call .strike .ensures .1 .0) (at-strike call .strike .ensures .1 .1) (n call) (m call) (call .of-strike .ensures .0)
+            (call .of-strike .ensures .1) zero (at-begin .start .result) (at-begin .start .last .1 .1 .1 .1 .1 .0) reply words (c .of-start .result .0)
+            (c .of-start .ensures .0),
       )
 
 -- src/calls.rt:43:20
@@ -115,7 +151,9 @@ array-share-prefix-text c = let call = c .before .before in let l : m call ≤ 4
 
 -- src/calls.rt:49:9
 slice-aggregate-start : tie.Need-slice-aggregate-start
-slice-aggregate-start c = let call = c .before .before .before in let l : m call ≤ 4096 = few call (c .before .if1 .left) in sym (length-take-le (m call) (written call) (omega (arith, same-room call)))
+slice-aggregate-start c =
+    let call = c .before .before .before in let l : m call ≤ 4096 = few call (c .before .if1 .left) in sym
+    (length-take-le (m call) (written call) (omega (arith, same-room call)))
 
 -- src/calls.rt:48:30
 start-requires : tie.Need-start-requires

@@ -63,7 +63,8 @@ returns : tie.Need-returns
 returns c =
     let told = c .before .before .before .before .before in
     let opened = told .before .before .before .before .before .before in
-    begins _ _ _ _ _ _ _ _ _ _ (opened .open .ensures) (told .enum-told .given .1) (whole-begins _ _ _ _ (c .whole .result) _ (c .before .before .before .put-malformed .ensures) (c .whole .ensures))
+    begins _ _ _ _ _ _ _ _ _ _ (opened .open .ensures) (told .enum-told .given .1)
+    (whole-begins _ _ _ _ (c .whole .result) _ (c .before .before .before .put-malformed .ensures) (c .whole .ensures))
 
 -- src/beginning.rt:34:1
 same-length-4 : tie.Need-same-length-4
@@ -82,7 +83,8 @@ returns-2 : tie.Need-returns-2
 returns-2 c =
     let told = c .before .before .before .before .before in
     let opened = told .before .before .before .before .before .before .before in
-    begins _ _ _ _ _ _ _ _ _ _ (opened .open .ensures) (told .before .number .given .1) (whole-begins _ _ _ _ (c .whole2 .result) _ (c .before .before .before .put-refused .ensures) (c .whole2 .ensures))
+    begins _ _ _ _ _ _ _ _ _ _ (opened .open .ensures) (told .before .number .given .1)
+    (whole-begins _ _ _ _ (c .whole2 .result) _ (c .before .before .before .put-refused .ensures) (c .whole2 .ensures))
 
 -- src/beginning.rt:34:1
 same-length-7 : tie.Need-same-length-7
@@ -101,7 +103,8 @@ returns-3 : tie.Need-returns-3
 returns-3 c =
     let told = c .before .before .before .before .before .before in
     let opened = told .before .before .before .before .before .before .before in
-    begins _ _ _ _ _ _ _ _ _ _ (opened .open .ensures) (told .before .k .given .1) (record { first = c .before .before .before .before .put-header .ensures; k-is = refl; size-is = refl; left-is = c .cells-left .ensures })
+    begins _ _ _ _ _ _ _ _ _ _ (opened .open .ensures) (told .before .k .given .1)
+    (record { first = c .before .before .before .before .put-header .ensures; k-is = refl; size-is = refl; left-is = c .cells-left .ensures })
 
 pub begin-spec : {M : Type 1} → statement M
 begin-spec =

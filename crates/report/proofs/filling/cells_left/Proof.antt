@@ -59,7 +59,9 @@ wide-requires c κs = search needs
 
 -- src/filling.rt:48:9
 returns-2 : tie.Need-returns-2
-returns-2 c = many (c .before .before .before .before .before .args .work .now) (c .before .before .before .if1 .left) (omega (arith, c .before .wide .ensures .0, c .if2 .taken))
+returns-2 c =
+    many (c .before .before .before .before .before .args .work .now) (c .before .before .before .if1 .left)
+    (omega (arith, c .before .wide .ensures .0, c .if2 .taken))
 
 -- src/filling.rt:50:22
 add-cells : tie.Need-add-cells
@@ -83,7 +85,8 @@ returns-3 c =
     let at-wide = c .before .before .before .before in
     let work = at-wide .before .before .before .before .args .work .now in
     let few : getD work 0 0 ≤ 2048 = omega (arith, at-wide .wide .ensures .0, c .before .before .before .if2 .left) in
-    let cells : at-wide .wide .result * (at-wide .wide .result + 1) / 2 ≡ cellCount (getD work 0 0) = count-is (at-wide .wide .result) (getD work 0 0) (at-wide .wide .ensures .0) (c .before .before .before .if2 .left) in
+    let cells : at-wide .wide .result * (at-wide .wide .result + 1) / 2 ≡ cellCount (getD work 0 0) =
+    count-is (at-wide .wide .result) (getD work 0 0) (at-wide .wide .ensures .0) (c .before .before .before .if2 .left) in
     let passed : c .before .wide2 .result ≡ getD work 3 0 = c .before .wide2 .ensures .0 in
     over work (at-wide .before .before .if1 .left) few (omega (arith, c .if3 .taken))
 
@@ -93,7 +96,8 @@ add-result c =
     let at-wide = c .before .before .before .before in
     let work = at-wide .before .before .before .before .args .work .now in
     let few : getD work 0 0 ≤ 2048 = omega (arith, at-wide .wide .ensures .0, c .before .before .before .if2 .left) in
-    let cells : at-wide .wide .result * (at-wide .wide .result + 1) / 2 ≡ cellCount (getD work 0 0) = count-is (at-wide .wide .result) (getD work 0 0) (at-wide .wide .ensures .0) (c .before .before .before .if2 .left) in
+    let cells : at-wide .wide .result * (at-wide .wide .result + 1) / 2 ≡ cellCount (getD work 0 0) =
+    count-is (at-wide .wide .result) (getD work 0 0) (at-wide .wide .ensures .0) (c .before .before .before .if2 .left) in
     let passed : c .before .wide2 .result ≡ getD work 3 0 = c .before .wide2 .ensures .0 in
     let most : cellCount (getD work 0 0) ≤ 2098176 = few-cells (getD work 0 0) few in omega arith
 
@@ -103,7 +107,8 @@ cast-result c =
     let at-wide = c .before .before .before .before in
     let work = at-wide .before .before .before .before .args .work .now in
     let few : getD work 0 0 ≤ 2048 = omega (arith, at-wide .wide .ensures .0, c .before .before .before .if2 .left) in
-    let cells : at-wide .wide .result * (at-wide .wide .result + 1) / 2 ≡ cellCount (getD work 0 0) = count-is (at-wide .wide .result) (getD work 0 0) (at-wide .wide .ensures .0) (c .before .before .before .if2 .left) in
+    let cells : at-wide .wide .result * (at-wide .wide .result + 1) / 2 ≡ cellCount (getD work 0 0) =
+    count-is (at-wide .wide .result) (getD work 0 0) (at-wide .wide .ensures .0) (c .before .before .before .if2 .left) in
     let passed : c .before .wide2 .result ≡ getD work 3 0 = c .before .wide2 .ensures .0 in
     let most : cellCount (getD work 0 0) ≤ 2098176 = few-cells (getD work 0 0) few in omega arith
 
@@ -113,9 +118,11 @@ returns-4 c =
     let at-wide = c .before .before .before .before in
     let work = at-wide .before .before .before .before .args .work .now in
     let few : getD work 0 0 ≤ 2048 = omega (arith, at-wide .wide .ensures .0, c .before .before .before .if2 .left) in
-    let cells : at-wide .wide .result * (at-wide .wide .result + 1) / 2 ≡ cellCount (getD work 0 0) = count-is (at-wide .wide .result) (getD work 0 0) (at-wide .wide .ensures .0) (c .before .before .before .if2 .left) in
+    let cells : at-wide .wide .result * (at-wide .wide .result + 1) / 2 ≡ cellCount (getD work 0 0) =
+    count-is (at-wide .wide .result) (getD work 0 0) (at-wide .wide .ensures .0) (c .before .before .before .if2 .left) in
     let passed : c .before .wide2 .result ≡ getD work 3 0 = c .before .wide2 .ensures .0 in
-    (let n : at-wide .wide .result * (at-wide .wide .result + 1) / 2 - c .before .wide2 .result + 1 ≡ suc (cellCount (getD work 0 0) - getD work 3 0) = omega arith in n) ∙ some work (at-wide .before .before .if1 .left) few (omega (arith, c .if3 .left))
+    (let n : at-wide .wide .result * (at-wide .wide .result + 1) / 2 - c .before .wide2 .result + 1
+    ≡ suc (cellCount (getD work 0 0) - getD work 3 0) = omega arith in n) ∙ some work (at-wide .before .before .if1 .left) few (omega (arith, c .if3 .left))
 
 pub cells-left-spec : {M : Type 1} → statement M
 cells-left-spec =

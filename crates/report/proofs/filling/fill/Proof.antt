@@ -9,7 +9,8 @@ use lib.ListN.{length}
 use types.Run.{OneOf}
 use denote.Enum.Declared.{tagOf}
 use Rattle.mapper.proofs.answer.Stepped.{the-type}
-use Rattle.report.proofs.Going.{Going, Other, going-start, going-found, too-many, not-printed, unheld, fills-stopped, fills-finished, fills-other, fills-full}
+use Rattle.report.proofs.Going.{Going, Other, going-start, going-found, too-many, not-printed, unheld, fills-stopped, fills-finished, fills-other}
+use Rattle.report.proofs.Going.{fills-full}
 use Rattle.mapper.specs.declared.answer.Stepped.{Stepped}
 use Rattle.mapper.specs.declared.answer.Stepped.the-variants.{Found, Finished, Spent, TooFewWords, BadWords}
 use Rattle.mapper.specs.Promise.{StepPromise}
@@ -19,7 +20,8 @@ use Rattle.report.proofs.filling.fill.Statement.{statement}
 use Rattle.report.proofs.filling.fill.Tie as tie
 
 abbrev Inv-loop : tie.InvT-loop
-Inv-loop work₀ positions k size found out₀ at₀ count₀ work out at count = (at ≤ length out) × (length work ≡ length work₀) × (length out ≡ length out₀) × Going work₀ positions k size found out₀ out work at count
+Inv-loop work₀ positions k size found out₀ at₀ count₀ work out at count =
+    (at ≤ length out) × (length work ≡ length work₀) × (length out ≡ length out₀) × Going work₀ positions k size found out₀ out work at count
 
 abbrev μ-loop : tie.MeasureT-loop
 μ-loop work₀ positions k size found out₀ at₀ count₀ work out at count = length out - at
@@ -94,7 +96,9 @@ returns : tie.Need-returns Inv-loop μ-loop
 returns c =
     let told = c .before .before in
     let at-turn = at-loop (told .before .before .before) in
-    fills-stopped _ _ _ _ _ _ _ _ _ _ (at-turn .loop .inv .0) (at-turn .loop .inv .2) (roomy (told .before .before .before)) (at-turn .loop .inv .3) (at-turn .loop .inv .1) (c .stopped .result) _ _ _ _ _ _ (promise (told .before .before .before) (told .before .a .given .1)) (too-many _ _ _ _ _ (c .before .if1 .taken)) _ refl (c .stopped .ensures .0) (c .stopped .ensures .1) (c .stopped .ensures .2)
+    fills-stopped _ _ _ _ _ _ _ _ _ _ (at-turn .loop .inv .0) (at-turn .loop .inv .2) (roomy (told .before .before .before)) (at-turn .loop .inv .3)
+    (at-turn .loop .inv .1) (c .stopped .result) _ _ _ _ _ _ (promise (told .before .before .before) (told .before .a .given .1))
+    (too-many _ _ _ _ _ (c .before .if1 .taken)) _ refl (c .stopped .ensures .0) (c .stopped .ensures .1) (c .stopped .ensures .2)
 
 -- src/filling.rt:160:21
 put-mapping-requires : tie.Need-put-mapping-requires Inv-loop μ-loop
@@ -117,8 +121,13 @@ returns-2 : tie.Need-returns-2 Inv-loop μ-loop
 returns-2 c =
     let at = c .before .before in
     let at-turn = at-loop (stepped at) in
-    let not-held = unheld _ _ _ _ _ _ _ _ _ _ (at-turn .loop .inv .0) (at-turn .loop .inv .2) (roomy (stepped at)) (at-turn .loop .inv .3) _ _ _ _ _ _ (at .before .before .put-mapping .ensures) (c .before .if2 .taken) in
-    fills-stopped _ _ _ _ _ _ _ _ _ _ (at-turn .loop .inv .0) (at-turn .loop .inv .2) (roomy (stepped at)) (at-turn .loop .inv .3) (at-turn .loop .inv .1) (c .stopped2 .result) _ _ _ _ _ _ (promise (stepped at) (known at .a .given .1)) (not-printed _ _ _ _ _ (at .before .before .before .before .if1 .left) not-held) _ (at .before .before .put-mapping .ensures .none not-held .1) (c .stopped2 .ensures .0) (c .stopped2 .ensures .1) (c .stopped2 .ensures .2)
+    let not-held =
+    unheld _ _ _ _ _ _ _ _ _ _ (at-turn .loop .inv .0) (at-turn .loop .inv .2) (roomy (stepped at)) (at-turn .loop .inv .3) _ _ _ _ _ _
+    (at .before .before .put-mapping .ensures) (c .before .if2 .taken) in
+    fills-stopped _ _ _ _ _ _ _ _ _ _ (at-turn .loop .inv .0) (at-turn .loop .inv .2) (roomy (stepped at)) (at-turn .loop .inv .3) (at-turn .loop .inv .1)
+    (c .stopped2 .result) _ _ _ _ _ _ (promise (stepped at) (known at .a .given .1))
+    (not-printed _ _ _ _ _ (at .before .before .before .before .if1 .left) not-held) _ (at .before .before .put-mapping .ensures .none not-held .1)
+    (c .stopped2 .ensures .0) (c .stopped2 .ensures .1) (c .stopped2 .ensures .2)
 
 -- src/filling.rt:165:17
 add-count : tie.Need-add-count Inv-loop μ-loop
@@ -136,7 +145,10 @@ loop-again c =
       omega (arith, at .before .before .put-mapping .ensures .inside (at-turn .loop .inv .0), at .before .before .put-mapping .kept .0),
       omega (arith, at-step (stepped at) .step .kept .0, at-turn .loop .inv .1),
       omega (arith, at .before .before .put-mapping .kept .0, at-turn .loop .inv .2),
-      going-found _ _ _ _ _ _ _ _ _ _ (at-turn .loop .inv .0) (at-turn .loop .inv .2) (roomy (stepped at)) (at-turn .loop .inv .3) _ _ _ _ _ _ _ _ (promise (stepped at) (known at .a .given .1)) (rw (toZ-ofZ (sfits-of (told at .known-told .given .1 .1 .0 .1))) at (at .before .before .put-mapping .ensures)) (at .before .before .before .before .if1 .left) (c .if2 .left),
+      going-found _ _ _ _ _ _ _ _ _ _ (at-turn .loop .inv .0) (at-turn .loop .inv .2) (roomy (stepped at)) (at-turn .loop .inv .3) _ _ _ _ _ _ _ _
+          (promise (stepped at) (known at .a .given .1))
+          (rw (toZ-ofZ (sfits-of (told at .known-told .given .1 .1 .0 .1))) at (at .before .before .put-mapping .ensures))
+          (at .before .before .before .before .if1 .left) (c .if2 .left),
     )
 
 -- src/filling.rt:168:36
@@ -168,7 +180,10 @@ returns-3 : tie.Need-returns-3 Inv-loop μ-loop
 returns-3 c =
     let told = c .before .before .before .before .before .before .before in
     let at-turn = at-loop (told .before .before) in
-    fills-finished _ _ _ _ _ _ _ _ _ _ (at-turn .loop .inv .0) (at-turn .loop .inv .2) (roomy (told .before .before)) (at-turn .loop .inv .3) (at-turn .loop .inv .1) (c .stopped3 .result) _ _ _ _ (promise (told .before .before) (told .enum-told .given .1)) (c .before .before .before .before .cells-passed .ensures) (rw (c .stopped3 .ensures .0) (c .before .before .before .put-last .ensures)) (c .before .before .before .put-last .kept .0) (c .stopped3 .ensures .1) (c .stopped3 .ensures .2)
+    fills-finished _ _ _ _ _ _ _ _ _ _ (at-turn .loop .inv .0) (at-turn .loop .inv .2) (roomy (told .before .before)) (at-turn .loop .inv .3)
+    (at-turn .loop .inv .1) (c .stopped3 .result) _ _ _ _ (promise (told .before .before) (told .enum-told .given .1))
+    (c .before .before .before .before .cells-passed .ensures) (rw (c .stopped3 .ensures .0) (c .before .before .before .put-last .ensures))
+    (c .before .before .before .put-last .kept .0) (c .stopped3 .ensures .1) (c .stopped3 .ensures .2)
 
 -- src/filling.rt:171:18
 stopped-requires-4 : tie.Need-stopped-requires-4 Inv-loop μ-loop
@@ -187,7 +202,9 @@ returns-4 : tie.Need-returns-4 Inv-loop μ-loop
 returns-4 c =
     let at = c .before .before in
     let at-turn = at-loop at in
-    fills-other _ _ _ _ _ _ _ _ _ _ (at-turn .loop .inv .0) (at-turn .loop .inv .2) (roomy at) (at-turn .loop .inv .3) (at-turn .loop .inv .1) (c .stopped4 .result) _ (others (at-step at .step .result) (c .before .match .keys3)) _ (at-step at .step .ensures) (c .stopped4 .ensures .0) (c .stopped4 .ensures .1) (c .stopped4 .ensures .2)
+    fills-other _ _ _ _ _ _ _ _ _ _ (at-turn .loop .inv .0) (at-turn .loop .inv .2) (roomy at) (at-turn .loop .inv .3) (at-turn .loop .inv .1)
+    (c .stopped4 .result) _ (others (at-step at .step .result) (c .before .match .keys3)) _ (at-step at .step .ensures) (c .stopped4 .ensures .0)
+    (c .stopped4 .ensures .1) (c .stopped4 .ensures .2)
 
 -- src/filling.rt:177:15
 cells-left-requires : tie.Need-cells-left-requires Inv-loop μ-loop
@@ -205,7 +222,8 @@ same-length-10 c = search needs
 returns-5 : tie.Need-returns-5 Inv-loop μ-loop
 returns-5 c =
     let at-turn = c .before .before .before in
-    fills-full _ _ _ _ _ _ _ _ _ _ (at-turn .loop .inv .3) (c .before .before .loop-test .left) (at-turn .loop .inv .2) _ refl refl (c .cells-left .ensures) (at-turn .loop .inv .1) (at-turn .loop .inv .0)
+    fills-full _ _ _ _ _ _ _ _ _ _ (at-turn .loop .inv .3) (c .before .before .loop-test .left) (at-turn .loop .inv .2) _ refl refl (c .cells-left .ensures)
+    (at-turn .loop .inv .1) (at-turn .loop .inv .0)
 
 pub fill-spec : {M : Type 1} → statement M
 fill-spec =

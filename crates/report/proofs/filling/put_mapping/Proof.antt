@@ -53,12 +53,14 @@ module _ (c : tie.After-end-of) where
 
   never-held : c .end-of .result < 1 → Held → ⊥
   never-held =
-      not-held (start .args .positions .now) (start .args .k) (start .args .size) (start .args .mapping .a) (start .args .mapping .b) from to (c .end-of .result)
+      not-held (start .args .positions .now) (start .args .k) (start .args .size) (start .args .mapping .a) (start .args .mapping .b) from to
+      (c .end-of .result)
       (ends .wide .ensures .0) (c .before .wide2 .ensures .0) (c .end-of .ensures)
 
   held-here : 1 ≤ c .end-of .result → Held
   held-here =
-      holds-of (start .args .positions .now) (start .args .k) (start .args .size) (start .args .mapping .a) (start .args .mapping .b) from to (c .end-of .result)
+      holds-of (start .args .positions .now) (start .args .k) (start .args .size) (start .args .mapping .a) (start .args .mapping .b) from to
+      (c .end-of .result)
       (ends .wide .ensures .0) (c .before .wide2 .ensures .0) (c .end-of .ensures)
 
   last-letter : Held → c .end-of .result - 1 ≡ getD (start .args .positions .now) (start .args .mapping .b) 0 + start .args .k - 1
@@ -75,8 +77,10 @@ module _ (c : tie.After-huddlewool-per-mille) where
   abbrev mapped : tie.Start
   mapped = start ended
 
-  per-mille-known : Held ended → mapped .args .mapping .m ≤ lengthOf (mapped .args .mapping .a) (mapped .args .mapping .b) → mapped .args .mapping .m ≤ mapped .args .size
-      → c .huddlewool-per-mille .result ≡ pos (perMille (mapped .args .mapping .m) (lengthOf (mapped .args .mapping .a) (mapped .args .mapping .b)) (mapped .args .size))
+  per-mille-known : Held ended → mapped .args .mapping .m ≤ lengthOf (mapped .args .mapping .a) (mapped .args .mapping .b)
+      → mapped .args .mapping .m ≤ mapped .args .size
+      → c .huddlewool-per-mille .result
+      ≡ pos (perMille (mapped .args .mapping .m) (lengthOf (mapped .args .mapping .a) (mapped .args .mapping .b)) (mapped .args .size))
   per-mille-known h l s =
       c .huddlewool-per-mille .ensures
       ∙ per-mille-is (mapped .args .mapping .m) (mapped .args .mapping .a) (mapped .args .mapping .b) (from ended) (to ended) (mapped .args .size)
@@ -122,7 +126,8 @@ returns-2 c =
       inside = λ h. h;
       onward = le-refl _;
       past = λ h. refl;
-      held = λ h l s i. absurd (not-below (p .huddlewool-per-mille .result) (sfits-of (p .huddlewool-per-mille .ok)) _ (per-mille-known p h l s) (c .if2 .taken));
+      held =
+          λ h l s i. absurd (not-below (p .huddlewool-per-mille .result) (sfits-of (p .huddlewool-per-mille .ok)) _ (per-mille-known p h l s) (c .if2 .taken));
       none = λ e. (refl, refl);
     }
 
@@ -171,27 +176,33 @@ module _ (c : tie.After-line) where
   abbrev asked : tie.Start
   asked = mapped per
 
-  line-here : Held (ended per) → asked .args .mapping .m ≤ lengthOf (asked .args .mapping .a) (asked .args .mapping .b) → asked .args .mapping .m ≤ asked .args .size
+  line-here : Held (ended per) → asked .args .mapping .m ≤ lengthOf (asked .args .mapping .a) (asked .args .mapping .b)
+      → asked .args .mapping .m ≤ asked .args .size
       → now (c .line .result)
       ≡ mappingLine (asked .args .positions .now) (asked .args .k) (asked .args .size)
       (record { a = asked .args .mapping .a; b = asked .args .mapping .b; score = asked .args .mapping .score; m = asked .args .mapping .m })
   line-here h l s =
       c .line .ensures
       ∙ line-fits _ _ _ _ _
-      ∙ line-is (asked .args .positions .now) (asked .args .k) (asked .args .size) (asked .args .mapping .a) (asked .args .mapping .b) (asked .args .mapping .score) _ (asked .args .mapping .m) _ _ _
+      ∙ line-is (asked .args .positions .now) (asked .args .k) (asked .args .size) (asked .args .mapping .a) (asked .args .mapping .b)
+      (asked .args .mapping .score) _ (asked .args .mapping .m) _ _ _
       (ap (λ (j : ℕ). getD (asked .args .positions .now) j 0) (ends (ended per) .wide .ensures .0))
       (last-letter (ended per) h)
       (toZ-ofZ (sfits-of (c .before .struct-told .given .0 .1)))
       (abs-is (per .huddlewool-per-mille .result) (sfits-of (per .huddlewool-per-mille .ok)) _ (per-mille-known per h l s))
 
   -- where the line is written, its numbers hold the mapping
-  never-unheld : isHeld (asked .args .positions .now) (asked .args .k) (asked .args .size) (asked .args .mapping .a) (asked .args .mapping .b) (asked .args .mapping .m) ≡ false → ⊥
+  never-unheld : isHeld (asked .args .positions .now) (asked .args .k) (asked .args .size) (asked .args .mapping .a) (asked .args .mapping .b)
+      (asked .args .mapping .m) ≡ false
+      → ⊥
   never-unheld t =
       let h = held-here (ended per) (some read .if1 .left) in
       let s = per-mille-back (per .huddlewool-per-mille .result) (sfits-of (per .huddlewool-per-mille .ok)) (asked .args .mapping .m) (asked .args .mapping .a)
-      (asked .args .mapping .b) (from (ended per)) (to (ended per)) (asked .args .size) (ends (ended per) .wide .ensures .0) (ended per .before .wide2 .ensures .0)
+      (asked .args .mapping .b) (from (ended per)) (to (ended per)) (asked .args .size) (ends (ended per) .wide .ensures .0)
+      (ended per .before .wide2 .ensures .0)
       (h .ordered) (per .huddlewool-per-mille .ensures) (read .before .if2 .left) in
-      false≢true (sym t ∙ held-true (asked .args .positions .now) (asked .args .k) (asked .args .size) (asked .args .mapping .a) (asked .args .mapping .b) (asked .args .mapping .m) h (s .0) (s .1))
+      false≢true (sym t ∙ held-true (asked .args .positions .now) (asked .args .k) (asked .args .size) (asked .args .mapping .a)
+      (asked .args .mapping .b) (asked .args .mapping .m) h (s .0) (s .1))
 
 returns-3 : tie.Need-returns-3
 returns-3 c =

@@ -56,7 +56,8 @@ module _ (c : tie.After-put-byte) where
   text-is : Written printed 0 (replicate 64 0) (c .put-byte .last .0) (c .put-byte .result)
   text-is =
       let args = c1 .before .before .before .before .args in
-      pieces (args .found) (args .cells) refl (c1 .put-bytes .ensures) (c2 .put-decimal .ensures) (c3 .put-bytes2 .ensures) (c4 .put-decimal2 .ensures) (c .put-byte .ensures)
+      pieces (args .found) (args .cells) refl (c1 .put-bytes .ensures) (c2 .put-decimal .ensures) (c3 .put-bytes2 .ensures) (c4 .put-decimal2 .ensures)
+      (c .put-byte .ensures)
 
   short : length printed ≤ 64
   short = let args = c1 .before .before .before .before .args in length-last (args .found) (args .cells)
@@ -122,7 +123,8 @@ array-share-prefix-text c = inside (c .before .before)
 
 -- src/lines.rt:43:24
 slice-aggregate-put-bytes-5 : tie.Need-slice-aggregate-put-bytes-5
-slice-aggregate-put-bytes-5 c = let at-line = c .before .before .before in sym (length-take-le (at-line .put-byte .result) (at-line .put-byte .last .0) (inside at-line))
+slice-aggregate-put-bytes-5 c =
+    let at-line = c .before .before .before in sym (length-take-le (at-line .put-byte .result) (at-line .put-byte .last .0) (inside at-line))
 
 -- src/lines.rt:43:5
 put-bytes-requires-3 : tie.Need-put-bytes-requires-3
@@ -134,7 +136,9 @@ same-length c = search needs
 
 -- src/lines.rt:34:1
 returns : tie.Need-returns
-returns c = let at-line = c .before .before .before .before .before .before in same-bytes (start-part (text-is at-line) (short at-line)) (c .before .before .put-bytes3 .ensures)
+returns c =
+    let at-line = c .before .before .before .before .before .before in same-bytes (start-part (text-is at-line) (short at-line))
+    (c .before .before .put-bytes3 .ensures)
 
 pub put-last-spec : {M : Type 1} → statement M
 put-last-spec =

@@ -16,7 +16,8 @@ use Rattle.report.proofs.lines.put_refused.Statement.{statement}
 use Rattle.report.proofs.lines.put_refused.Tie as tie
 
 module _ (number : ℕ) {t0 t1 t2 t3 : List ℕ} {n1 n2 n3 : ℕ} (room : length t0 ≡ 32) where
-  pieces : Written (114 ∷ 101 ∷ 102 ∷ 117 ∷ 115 ∷ 101 ∷ 100 ∷ 32 ∷ []) 0 t0 t1 n1 → Written (decimal number) n1 t1 t2 n2 → Written (lineFeed ∷ []) n2 t2 t3 n3 → Written (refusedLine number) 0 t0 t3 n3
+  pieces : Written (114 ∷ 101 ∷ 102 ∷ 117 ∷ 115 ∷ 101 ∷ 100 ∷ 32 ∷ []) 0 t0 t1 n1 → Written (decimal number) n1 t1 t2 n2
+      → Written (lineFeed ∷ []) n2 t2 t3 n3 → Written (refusedLine number) 0 t0 t3 n3
   pieces w1 w2 w3 =
       let a : length (decimal number) ≤ 10 = length-decimal number in
       joined (joined w1 w2 (simp length-append (omega arith))) w3 (simp length-append (omega arith))
@@ -83,7 +84,8 @@ array-share-prefix-text c = inside (c .before .before)
 
 -- src/lines.rt:31:24
 slice-aggregate-put-bytes-3 : tie.Need-slice-aggregate-put-bytes-3
-slice-aggregate-put-bytes-3 c = let at-line = c .before .before .before in sym (length-take-le (at-line .put-byte .result) (at-line .put-byte .last .0) (inside at-line))
+slice-aggregate-put-bytes-3 c =
+    let at-line = c .before .before .before in sym (length-take-le (at-line .put-byte .result) (at-line .put-byte .last .0) (inside at-line))
 
 -- src/lines.rt:31:5
 put-bytes-requires-2 : tie.Need-put-bytes-requires-2
@@ -95,7 +97,9 @@ same-length c = search needs
 
 -- src/lines.rt:24:1
 returns : tie.Need-returns
-returns c = let at-line = c .before .before .before .before .before .before in same-bytes (start-part (text-is at-line) (short at-line)) (c .before .before .put-bytes2 .ensures)
+returns c =
+    let at-line = c .before .before .before .before .before .before in same-bytes (start-part (text-is at-line) (short at-line))
+    (c .before .before .put-bytes2 .ensures)
 
 pub put-refused-spec : {M : Type 1} → statement M
 put-refused-spec =

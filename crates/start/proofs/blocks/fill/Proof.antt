@@ -7,6 +7,8 @@ use native.Mathlib.Omega.{arith}
 use Prim.Native.Nat.{_-_, _≤_, _<_, zero-le}
 use Rattle.start.proofs.blocks.fill.Statement.{statement}
 use Rattle.start.proofs.blocks.fill.Tie as tie
+use Rattle.start.proofs.blocks.fill.Reads as reads
+use Rattle.start.proofs.blocks.fill.Lts as lts
 
 abbrev Inv-loop : tie.InvT-loop
 Inv-loop word n at work₀ i₀ work i = (i ≤ n) × (length work ≡ length work₀) × Stored at (replicate n word) work₀ i work

@@ -7,6 +7,8 @@ use native.Mathlib.Omega.{arith}
 use Prim.Native.Nat.{_-_, _≤_, zero-le}
 use Rattle.start.proofs.blocks.put_block.Statement.{statement}
 use Rattle.start.proofs.blocks.put_block.Tie as tie
+use Rattle.start.proofs.blocks.put_block.Reads as reads
+use Rattle.start.proofs.blocks.put_block.Lts as lts
 
 abbrev Inv-loop : tie.InvT-loop
 Inv-loop words at work₀ i₀ work i = (i ≤ length words) × (length work ≡ length work₀) × Stored at words work₀ i work

@@ -8,6 +8,8 @@ use native.Mathlib.Omega.{arith}
 use borrow.Author.Needs.{needs}
 use Rattle.start.proofs.blocks.put_heading.Statement.{statement}
 use Rattle.start.proofs.blocks.put_heading.Tie as tie
+use Rattle.start.proofs.blocks.put_heading.Reads as reads
+use Rattle.start.proofs.blocks.put_heading.Lts as lts
 
 slice-write-work : tie.Need-slice-write-work
 slice-write-work c = search needs

@@ -5,6 +5,8 @@ use mathlib.Core.Path.{refl, sym}
 use Prim.Native.Nat.{ℕ}
 use Rattle.start.proofs.blocks.zeros_2048.Statement.{statement}
 use Rattle.start.proofs.blocks.zeros_2048.Tie as tie
+use Rattle.start.proofs.blocks.zeros_2048.Reads as reads
+use Rattle.start.proofs.blocks.zeros_2048.Lts as lts
 
 returns : tie.Need-returns
 unfolding zeros

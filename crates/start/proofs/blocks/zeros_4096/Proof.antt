@@ -5,6 +5,8 @@ use mathlib.Core.Path.{refl, sym}
 use Prim.Native.Nat.{ℕ}
 use Rattle.start.proofs.blocks.zeros_4096.Statement.{statement}
 use Rattle.start.proofs.blocks.zeros_4096.Tie as tie
+use Rattle.start.proofs.blocks.zeros_4096.Reads as reads
+use Rattle.start.proofs.blocks.zeros_4096.Lts as lts
 
 returns : tie.Need-returns
 unfolding zeros

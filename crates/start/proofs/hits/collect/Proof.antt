@@ -9,6 +9,12 @@ use native.Mathlib.Omega.{arith}
 use Prim.Native.Nat.{_-_, _≤_, zero-le}
 use Rattle.start.proofs.hits.collect.Statement.{statement}
 use Rattle.start.proofs.hits.collect.Tie as tie
+use Rattle.start.proofs.hits.collect.Reads as reads
+use Rattle.start.proofs.hits.collect.Lts as lts
+use Rattle.start.proofs.search.lower_bound.Reads as lower-bound-reads
+use Rattle.start.proofs.hits.note.Reads as note-reads
+use Rattle.start.proofs.hits.one_at.Reads as one-at-reads
+use Rattle.layout.proofs.wide.Reads as wide-reads
 
 abbrev Inv-loop : tie.InvT-loop
 Inv-loop text sorted index₀ slots₀ h₀ i₀ index slots h i = (i ≤ length text) × (length index ≡ length index₀) × (length slots ≡ length slots₀) × Noting text sorted index slots h i

@@ -4,6 +4,8 @@ use mathlib.Core.Path.{sym}
 use lib.Seq.{set-out}
 use Rattle.start.proofs.hits.note.Statement.{statement}
 use Rattle.start.proofs.hits.note.Tie as tie
+use Rattle.start.proofs.hits.note.Reads as reads
+use Rattle.start.proofs.hits.note.Lts as lts
 
 mul-notes : tie.Need-mul-notes
 mul-notes c = search needs

@@ -7,6 +7,8 @@ use lib.ListN.{length}
 use borrow.Author.Tests.{lt-ltb, le-ltb, eq-eqb}
 use Rattle.start.proofs.hits.one_at.Statement.{statement}
 use Rattle.start.proofs.hits.one_at.Tie as tie
+use Rattle.start.proofs.hits.one_at.Reads as reads
+use Rattle.start.proofs.hits.one_at.Lts as lts
 
 returns : tie.Need-returns
 returns c = (rw (le-ltb (c .before .args .at) (length (c .before .args .words .now)) (c .if1 .taken)), zero-le)

@@ -15,6 +15,10 @@ use native.Mathlib.Omega.{arith}
 use Prim.Native.Nat.{_-_, _≤_, zero-le}
 use Rattle.start.proofs.per_hit.link.Statement.{statement}
 use Rattle.start.proofs.per_hit.link.Tie as tie
+use Rattle.start.proofs.per_hit.link.Reads as reads
+use Rattle.start.proofs.per_hit.link.Lts as lts
+use Rattle.start.proofs.hits.one_at.Reads as one-at-reads
+use Rattle.layout.proofs.wide.Reads as wide-reads
 
 abbrev Inv-loop : tie.InvT-loop
 Inv-loop sorted slots turns₀ ring₀ backs₀ j₀ turns ring backs j =

@@ -4,6 +4,8 @@ use Prim.Native.Nat.{zero-le}
 use borrow.Author.Tests.{eq-eqb, ne-eqb}
 use Rattle.start.proofs.per_hit.one_if_zero.Statement.{statement}
 use Rattle.start.proofs.per_hit.one_if_zero.Tie as tie
+use Rattle.start.proofs.per_hit.one_if_zero.Reads as reads
+use Rattle.start.proofs.per_hit.one_if_zero.Lts as lts
 
 returns : tie.Need-returns
 returns c = (rw (eq-eqb 0 (c .before .args .x) (c .if1 .taken)), le-refl 1)

@@ -9,6 +9,10 @@ use native.Mathlib.Omega.{arith}
 use Prim.Native.Nat.{ℕ}
 use Rattle.start.proofs.per_hit.put_back.Statement.{statement}
 use Rattle.start.proofs.per_hit.put_back.Tie as tie
+use Rattle.start.proofs.per_hit.put_back.Reads as reads
+use Rattle.start.proofs.per_hit.put_back.Lts as lts
+use Rattle.start.proofs.blocks.zeros_4096.Reads as zeros-4096-reads
+use Rattle.start.proofs.per_hit.link.Reads as link-reads
 
 zeros-4096-requires : tie.Need-zeros-4096-requires
 zeros-4096-requires c κs = search needs

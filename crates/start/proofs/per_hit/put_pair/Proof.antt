@@ -3,6 +3,8 @@ use borrow.Author.Needs.{needs}
 use Rattle.start.proofs.Reaching.{pair-some, pair-none}
 use Rattle.start.proofs.per_hit.put_pair.Statement.{statement}
 use Rattle.start.proofs.per_hit.put_pair.Tie as tie
+use Rattle.start.proofs.per_hit.put_pair.Reads as reads
+use Rattle.start.proofs.per_hit.put_pair.Lts as lts
 
 sub-reach : tie.Need-sub-reach
 sub-reach c = search needs

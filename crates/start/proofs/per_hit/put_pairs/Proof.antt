@@ -10,6 +10,11 @@ use native.Mathlib.Omega.{arith}
 use Prim.Native.Nat.{ℕ, _-_, _≤_, _<_, zero-le}
 use Rattle.start.proofs.per_hit.put_pairs.Statement.{statement}
 use Rattle.start.proofs.per_hit.put_pairs.Tie as tie
+use Rattle.start.proofs.per_hit.put_pairs.Reads as reads
+use Rattle.start.proofs.per_hit.put_pairs.Lts as lts
+use Rattle.start.proofs.blocks.fill.Reads as fill-reads
+use Rattle.start.proofs.per_hit.put_pair.Reads as put-pair-reads
+use Rattle.layout.proofs.wide.Reads as wide-reads
 
 abbrev Inv-loop : tie.InvT-loop
 Inv-loop backs reach₀ j₀ reach j =

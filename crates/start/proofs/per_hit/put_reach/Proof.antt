@@ -19,6 +19,9 @@ use native.Mathlib.Omega.{arith}
 use Prim.Native.Nat.{_+_, _-_}
 use Rattle.start.proofs.per_hit.put_reach.Statement.{statement}
 use Rattle.start.proofs.per_hit.put_reach.Tie as tie
+use Rattle.start.proofs.per_hit.put_reach.Reads as reads
+use Rattle.start.proofs.per_hit.put_reach.Lts as lts
+use Rattle.start.proofs.per_hit.put_pairs.Reads as put-pairs-reads
 
 add-put-pairs : tie.Need-add-put-pairs
 add-put-pairs c = search needs

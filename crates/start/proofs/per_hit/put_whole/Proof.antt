@@ -13,6 +13,9 @@ use native.Mathlib.Numerals.{add-one}
 use Prim.Native.Nat.{suc, _+_, _-_, _≤_, _<_, zero-le}
 use Rattle.start.proofs.per_hit.put_whole.Statement.{statement}
 use Rattle.start.proofs.per_hit.put_whole.Tie as tie
+use Rattle.start.proofs.per_hit.put_whole.Reads as reads
+use Rattle.start.proofs.per_hit.put_whole.Lts as lts
+use Rattle.start.proofs.per_hit.one_if_zero.Reads as one-if-zero-reads
 
 abbrev Inv-loop : tie.InvT-loop
 Inv-loop backs work₀ m₀ j₀ work m j = (j ≤ length backs) × (length work ≡ length work₀) × (m ≡ occ 0 (take j backs)) × Stored 10240 (zerosUpTo backs) work₀ j work
