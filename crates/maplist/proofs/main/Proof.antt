@@ -21,27 +21,55 @@ Inv-loop n positions work₀ out₀ begun left₀ found₀ work out left found =
 abbrev μ-loop : tie.MeasureT-loop
 μ-loop n positions work₀ out₀ begun left₀ found₀ work out left found = left
 
+-- the places that the proofs below speak of, each from a later one
+abbrev at-positions : tie.After-begin Inv-loop μ-loop → tie.After-positions Inv-loop μ-loop
+at-positions c = c .before .before .before
+
+abbrev at-large-buffer : tie.After-begin Inv-loop μ-loop → tie.After-large-buffer Inv-loop μ-loop
+at-large-buffer c = at-positions c .before .before
+
+abbrev at-positions2 : tie.After-out3 Inv-loop μ-loop → tie.After-positions2 Inv-loop μ-loop
+at-positions2 c = c .before .before .before
+
+abbrev at-begin-place : tie.After-out3 Inv-loop μ-loop → tie.After-begin Inv-loop μ-loop
+at-begin-place c = at-positions2 c .before
+
+abbrev at-work3 : tie.After-fill Inv-loop μ-loop → tie.After-work3 Inv-loop μ-loop
+at-work3 c = c .before .before .before
+
+abbrev in-loop : tie.After-fill Inv-loop μ-loop → tie.In-loop Inv-loop μ-loop
+in-loop c = at-work3 c .before
+
+abbrev turn : tie.After-fill Inv-loop μ-loop → tie.At-loop Inv-loop μ-loop
+turn c = in-loop c .before
+
+abbrev at-out5 : tie.Else2 Inv-loop μ-loop → tie.After-out5 Inv-loop μ-loop
+at-out5 c = c .before .before .before
+
+abbrev at-fill-place : tie.Else2 Inv-loop μ-loop → tie.After-fill Inv-loop μ-loop
+at-fill-place c = at-out5 c .before .before
+
 -- the first piece
 module _ (c : tie.After-begin Inv-loop μ-loop) where
   abbrev out₁ : List ℕ
   out₁ = c .begin .last .1 .1 .1 .0
 
-  long : length (c .before .before .before .before .before .large-buffer .result) ≡ 65536
-  long = sym (c .before .before .before .before .before .large-buffer .ensures)
+  long : length (at-large-buffer c .large-buffer .result) ≡ 65536
+  long = sym (at-large-buffer c .large-buffer .ensures)
 
   same-out : length out₁ ≡ 65536
-  same-out = let l : length out₁ ≡ length (c .before .before .before .before .before .large-buffer .result) = c .begin .kept .1 .1 .1 .0 in l ∙ long
+  same-out = let l : length out₁ ≡ length (at-large-buffer c .large-buffer .result) = c .begin .kept .1 .1 .1 .0 in l ∙ long
 
   first-inside : c .begin .result .written ≤ length out₁
   first-inside =
-      let l : c .begin .result .written ≤ length (c .before .before .before .before .before .large-buffer .result) =
+      let l : c .begin .result .written ≤ length (at-large-buffer c .large-buffer .result) =
       written-inside (c .begin .ensures .begun .first) zero-le in
       omega (arith, same-out, long)
 
 -- a further piece
 module _ (c : tie.After-fill Inv-loop μ-loop) where
   abbrev at-loop : tie.At-loop Inv-loop μ-loop
-  at-loop = c .before .before .before .before .before
+  at-loop = turn c
 
   abbrev out₂ : List ℕ
   out₂ = c .fill .last .1 .1 .1 .1 .1 .0
@@ -96,7 +124,7 @@ array-share-prefix-out c = first-inside (c .before .before .before)
 -- src/main.rt:18:26
 slice-aggregate-write-all : tie.Need-slice-aggregate-write-all Inv-loop μ-loop
 slice-aggregate-write-all c =
-    let at-begin = c .before .before .before .before in sym (length-take-le (at-begin .begin .result .written) (out₁ at-begin) (first-inside at-begin))
+    let at-begin = at-begin-place c in sym (length-take-le (at-begin .begin .result .written) (out₁ at-begin) (first-inside at-begin))
 
 -- src/main.rt:18:9
 write-all-requires : tie.Need-write-all-requires Inv-loop μ-loop
@@ -109,7 +137,7 @@ returns c = search needs
 -- src/main.rt:23:5
 loop-holds : tie.Need-loop-holds Inv-loop μ-loop
 loop-holds c =
-    let at-begin = c .before .before .before .before .before .before in (
+    let at-begin = at-begin-place (c .before .before) in (
       at-begin .begin .kept .1 .0 ∙ length-replicate {A = ℕ} 4096 0,
       at-begin .begin .kept .1 .1 .0 ∙ length-replicate {A = ℕ} 16384 0,
       same-out at-begin,
@@ -157,21 +185,21 @@ returns-2 c = search needs
 -- src/main.rt:23:5
 loop-less : tie.Need-loop-less Inv-loop μ-loop
 loop-less c =
-    let at-fill = c .before .before .before .before .before in next-prints _ _ _ _ _ _ _ _ (at-loop at-fill .loop .inv .3 .2)
-    (at-fill .before .before .before .before .loop-test .taken) _ (at-fill .fill .result) _ _ (omega (arith, at-loop at-fill .loop .inv .2))
+    let at-fill = at-fill-place c in next-prints _ _ _ _ _ _ _ _ (at-loop at-fill .loop .inv .3 .2)
+    (in-loop at-fill .loop-test .taken) _ (at-fill .fill .result) _ _ (omega (arith, at-loop at-fill .loop .inv .2))
     (at-fill .fill .ensures) .0
 
 -- src/main.rt:23:5
 loop-again : tie.Need-loop-again Inv-loop μ-loop
 loop-again c =
-    let at-fill = c .before .before .before .before .before in (
+    let at-fill = at-fill-place c in (
       at-loop at-fill .loop .inv .0,
       at-fill .fill .kept .0 ∙ at-loop at-fill .loop .inv .1,
       same-out₂ at-fill,
       (
         _,
         _,
-        next-prints _ _ _ _ _ _ _ _ (at-loop at-fill .loop .inv .3 .2) (at-fill .before .before .before .before .loop-test .taken) _
+        next-prints _ _ _ _ _ _ _ _ (at-loop at-fill .loop .inv .3 .2) (in-loop at-fill .loop-test .taken) _
             (at-fill .fill .result) _ _ (omega (arith, at-loop at-fill .loop .inv .2)) (at-fill .fill .ensures) .1,
       ),
     )

@@ -18,13 +18,56 @@ use borrow.Author.Needs.{needs}
 use Rattle.opening.proofs.calls.open_lines.Statement.{statement}
 use Rattle.opening.proofs.calls.open_lines.Tie as tie
 
+-- the places that the proofs below speak of, each from a later one
+abbrev at-zeros-40962 : tie.After-sketch → tie.After-zeros-40962
+at-zeros-40962 c = c .before .before .before
+
+abbrev at-zeros-4096 : tie.After-sketch → tie.After-zeros-4096
+at-zeros-4096 c = at-zeros-40962 c .before
+
+abbrev at-shared-slice-known2 : tie.After-sketch → tie.After-shared-slice-known2
+at-shared-slice-known2 c = at-zeros-4096 c .before .before .before
+
+abbrev entry : tie.After-sketch → tie.Start
+entry c = at-shared-slice-known2 c .before .before
+
+abbrev at-zeros-40964 : tie.After-sketch2 → tie.After-zeros-40964
+at-zeros-40964 c = c .before .before .before
+
+abbrev at-zeros-40963 : tie.After-sketch2 → tie.After-zeros-40963
+at-zeros-40963 c = at-zeros-40964 c .before
+
+abbrev else1 : tie.After-sketch2 → tie.Else1
+else1 c = at-zeros-40963 c .before
+
+abbrev at-of-sketch : tie.After-sketch2 → tie.After-of-sketch
+at-of-sketch c = else1 c .before .before
+
+abbrev else2 : tie.After-places3 → tie.Else2
+else2 c = c .before .before
+
+abbrev at-of-sketch2 : tie.After-places3 → tie.After-of-sketch2
+at-of-sketch2 c = else2 c .before .before
+
+abbrev at-pattern3 : tie.After-open-sketches → tie.After-pattern3
+at-pattern3 c = c .before .before .before
+
+abbrev at-places3 : tie.After-open-sketches → tie.After-places3
+at-places3 c = at-pattern3 c .before
+
+abbrev at-positions : tie.After-slice-known4 → tie.After-positions
+at-positions c = c .before .before .before
+
+abbrev at-open-sketches : tie.After-slice-known4 → tie.After-open-sketches
+at-open-sketches c = at-positions c .before
+
 -- the text's sketch in its buffers, and its answer as numbers
 module _ (c : tie.After-of-sketch) where
   abbrev at-text : tie.After-sketch
   at-text = c .before .before .before
 
   abbrev at-start : tie.Start
-  at-start = at-text .before .before .before .before .before .before .before .before .before
+  at-start = entry at-text
 
   abbrev given-settings : Settings
   given-settings = settings (at-start .args .k) (at-start .args .w) (at-start .args .c) (at-start .args .u) (at-start .args .v) (at-start .args .threshold)
@@ -36,13 +79,13 @@ module _ (c : tie.After-of-sketch) where
   text-places = at-text .sketch .last .1 .1 .1 .1 .0
 
   abbrev text-room : List ℕ
-  text-room = at-text .before .before .before .before .zeros-4096 .result
+  text-room = at-zeros-4096 at-text .zeros-4096 .result
 
   abbrev text-room′ : List ℕ
   text-room′ = at-text .before .before .before .zeros-40962 .result
 
   text-long : length text-room ≡ 4096
-  text-long = sym (at-text .before .before .before .before .zeros-4096 .ensures .0)
+  text-long = sym (at-zeros-4096 at-text .zeros-4096 .ensures .0)
 
   text-long′ : length text-room′ ≡ 4096
   text-long′ = sym (at-text .before .before .before .zeros-40962 .ensures .0)
@@ -68,7 +111,7 @@ module _ (c : tie.After-of-sketch) where
 -- the read's sketch
 module _ (c : tie.After-of-sketch2) where
   abbrev text-call : tie.After-of-sketch
-  text-call = c .before .before .before .before .before .before .before .before .before .before
+  text-call = at-of-sketch (c .before .before .before)
 
   abbrev at-read : tie.After-sketch2
   at-read = c .before .before .before
@@ -77,19 +120,19 @@ module _ (c : tie.After-of-sketch2) where
   read-codes = at-read .sketch2 .last .1 .1 .1 .0
 
   abbrev read-room : List ℕ
-  read-room = at-read .before .before .before .before .zeros-40963 .result
+  read-room = at-zeros-40963 at-read .zeros-40963 .result
 
   abbrev read-room′ : List ℕ
   read-room′ = at-read .before .before .before .zeros-40964 .result
 
   read-long : length read-room ≡ 4096
-  read-long = sym (at-read .before .before .before .before .zeros-40963 .ensures .0)
+  read-long = sym (at-zeros-40963 at-read .zeros-40963 .ensures .0)
 
   read-long′ : length read-room′ ≡ 4096
   read-long′ = sym (at-read .before .before .before .zeros-40964 .ensures .0)
 
   text-zero : n text-call ≡ 0
-  text-zero = at-read .before .before .before .before .before .if1 .left
+  text-zero = else1 at-read .if1 .left
 
   abbrev n′ : ℕ
   n′ = c .of-sketch2 .result .0
@@ -197,7 +240,7 @@ array-share-prefix-places c = let c2 = c .before .before .before in places-hold 
 -- src/calls.rt:94:9
 slice-aggregate-open-sketches-2 : tie.Need-slice-aggregate-open-sketches-2
 slice-aggregate-open-sketches-2 c =
-    let c2 = c .before .before .before .before in let call = text-call c2 in sym (length-take-le (m call) (text-places call) (places-hold call (text-zero c2)))
+    let c2 = at-of-sketch2 c in let call = text-call c2 in sym (length-take-le (m call) (text-places call) (places-hold call (text-zero c2)))
 
 -- src/calls.rt:95:9
 array-share-prefix-pattern : tie.Need-array-share-prefix-pattern
@@ -224,8 +267,8 @@ same-length-2 c = search needs
 -- src/calls.rt:66:1
 returns-3 : tie.Need-returns-3
 returns-3 c =
-    let opened = c .before .before .before .before in
-    let at-else = opened .before .before .before .before .before .before in
+    let opened = at-open-sketches c in
+    let at-else = else2 (at-places3 opened) in
     let c2 = at-else .before .before in
     let call = text-call c2 in
     let args = at-start call .args in

@@ -6,6 +6,34 @@ use borrow.Author.Needs.{needs}
 use Rattle.report.proofs.beginning.begin.Statement.{statement}
 use Rattle.report.proofs.beginning.begin.Tie as tie
 
+-- the places that the proofs below speak of, each from a later one
+abbrev at-positions : tie.After-slice-known5 → tie.After-positions
+at-positions c = c .before .before .before
+
+abbrev at-open : tie.After-slice-known5 → tie.After-open
+at-open c = at-positions c .before
+
+abbrev at-put-malformed : tie.After-whole → tie.After-put-malformed
+at-put-malformed c = c .before .before .before
+
+abbrev at-enum-told : tie.After-whole → tie.After-enum-told
+at-enum-told c = at-put-malformed c .before .before
+
+abbrev at-put-refused : tie.After-whole2 → tie.After-put-refused
+at-put-refused c = c .before .before .before
+
+abbrev at-known-told : tie.After-whole2 → tie.After-known-told
+at-known-told c = at-put-refused c .before .before
+
+abbrev at-out3 : tie.After-cells-left → tie.After-out3
+at-out3 c = c .before .before .before
+
+abbrev at-put-header : tie.After-cells-left → tie.After-put-header
+at-put-header c = at-out3 c .before
+
+abbrev at-known-told2 : tie.After-cells-left → tie.After-known-told2
+at-known-told2 c = at-put-header c .before .before
+
 -- src/beginning.rt:37:11
 open-requires : tie.Need-open-requires
 open-requires c κs = search needs
@@ -61,8 +89,8 @@ same-length-3 c = search needs
 -- src/beginning.rt:34:1
 returns : tie.Need-returns
 returns c =
-    let told = c .before .before .before .before .before in
-    let opened = told .before .before .before .before .before .before in
+    let told = at-enum-told c in
+    let opened = at-open (told .before .before) in
     begins _ _ _ _ _ _ _ _ _ _ (opened .open .ensures) (told .enum-told .given .1)
     (whole-begins _ _ _ _ (c .whole .result) _ (c .before .before .before .put-malformed .ensures) (c .whole .ensures))
 
@@ -81,8 +109,8 @@ same-length-6 c = search needs
 -- src/beginning.rt:34:1
 returns-2 : tie.Need-returns-2
 returns-2 c =
-    let told = c .before .before .before .before .before in
-    let opened = told .before .before .before .before .before .before .before in
+    let told = at-known-told c in
+    let opened = at-open (told .before .before .before) in
     begins _ _ _ _ _ _ _ _ _ _ (opened .open .ensures) (told .before .number .given .1)
     (whole-begins _ _ _ _ (c .whole2 .result) _ (c .before .before .before .put-refused .ensures) (c .whole2 .ensures))
 
@@ -101,10 +129,10 @@ same-length-9 c = search needs
 -- src/beginning.rt:34:1
 returns-3 : tie.Need-returns-3
 returns-3 c =
-    let told = c .before .before .before .before .before .before in
-    let opened = told .before .before .before .before .before .before .before in
+    let told = at-known-told2 c in
+    let opened = at-open (told .before .before .before) in
     begins _ _ _ _ _ _ _ _ _ _ (opened .open .ensures) (told .before .k .given .1)
-    (record { first = c .before .before .before .before .put-header .ensures; k-is = refl; size-is = refl; left-is = c .cells-left .ensures })
+    (record { first = at-put-header c .put-header .ensures; k-is = refl; size-is = refl; left-is = c .cells-left .ensures })
 
 pub begin-spec : {M : Type 1} → statement M
 begin-spec =

@@ -13,6 +13,16 @@ use borrow.Author.Needs.{needs}
 use Rattle.report.proofs.filling.cells_left.Statement.{statement}
 use Rattle.report.proofs.filling.cells_left.Tie as tie
 
+-- the places that the proofs below speak of, each from a later one
+abbrev at-shared-slice-known : tie.After-wide → tie.After-shared-slice-known
+at-shared-slice-known c = c .before .before .before
+
+abbrev entry : tie.After-wide → tie.Start
+entry c = at-shared-slice-known c .before
+
+abbrev at-wide-place : tie.After-wide2 → tie.After-wide
+at-wide-place c = c .before .before .before
+
 module _ (work : List ℕ) where
   short : length work < 16384 → 0 ≡ cellsLeft work
   unfolding cellsLeft
@@ -60,7 +70,7 @@ wide-requires c κs = search needs
 -- src/filling.rt:48:9
 returns-2 : tie.Need-returns-2
 returns-2 c =
-    many (c .before .before .before .before .before .args .work .now) (c .before .before .before .if1 .left)
+    many (entry (c .before) .args .work .now) (c .before .before .before .if1 .left)
     (omega (arith, c .before .wide .ensures .0, c .if2 .taken))
 
 -- src/filling.rt:50:22
@@ -82,8 +92,8 @@ wide-requires-2 c κs = search needs
 -- src/filling.rt:53:9
 returns-3 : tie.Need-returns-3
 returns-3 c =
-    let at-wide = c .before .before .before .before in
-    let work = at-wide .before .before .before .before .args .work .now in
+    let at-wide = at-wide-place (c .before) in
+    let work = entry at-wide .args .work .now in
     let few : getD work 0 0 ≤ 2048 = omega (arith, at-wide .wide .ensures .0, c .before .before .before .if2 .left) in
     let cells : at-wide .wide .result * (at-wide .wide .result + 1) / 2 ≡ cellCount (getD work 0 0) =
     count-is (at-wide .wide .result) (getD work 0 0) (at-wide .wide .ensures .0) (c .before .before .before .if2 .left) in
@@ -93,8 +103,8 @@ returns-3 c =
 -- src/filling.rt:55:6
 add-result : tie.Need-add-result
 add-result c =
-    let at-wide = c .before .before .before .before in
-    let work = at-wide .before .before .before .before .args .work .now in
+    let at-wide = at-wide-place (c .before) in
+    let work = entry at-wide .args .work .now in
     let few : getD work 0 0 ≤ 2048 = omega (arith, at-wide .wide .ensures .0, c .before .before .before .if2 .left) in
     let cells : at-wide .wide .result * (at-wide .wide .result + 1) / 2 ≡ cellCount (getD work 0 0) =
     count-is (at-wide .wide .result) (getD work 0 0) (at-wide .wide .ensures .0) (c .before .before .before .if2 .left) in
@@ -104,8 +114,8 @@ add-result c =
 -- src/filling.rt:55:5
 cast-result : tie.Need-cast-result
 cast-result c =
-    let at-wide = c .before .before .before .before in
-    let work = at-wide .before .before .before .before .args .work .now in
+    let at-wide = at-wide-place (c .before) in
+    let work = entry at-wide .args .work .now in
     let few : getD work 0 0 ≤ 2048 = omega (arith, at-wide .wide .ensures .0, c .before .before .before .if2 .left) in
     let cells : at-wide .wide .result * (at-wide .wide .result + 1) / 2 ≡ cellCount (getD work 0 0) =
     count-is (at-wide .wide .result) (getD work 0 0) (at-wide .wide .ensures .0) (c .before .before .before .if2 .left) in
@@ -115,8 +125,8 @@ cast-result c =
 -- src/filling.rt:40:1
 returns-4 : tie.Need-returns-4
 returns-4 c =
-    let at-wide = c .before .before .before .before in
-    let work = at-wide .before .before .before .before .args .work .now in
+    let at-wide = at-wide-place (c .before) in
+    let work = entry at-wide .args .work .now in
     let few : getD work 0 0 ≤ 2048 = omega (arith, at-wide .wide .ensures .0, c .before .before .before .if2 .left) in
     let cells : at-wide .wide .result * (at-wide .wide .result + 1) / 2 ≡ cellCount (getD work 0 0) =
     count-is (at-wide .wide .result) (getD work 0 0) (at-wide .wide .ensures .0) (c .before .before .before .if2 .left) in

@@ -26,6 +26,25 @@ Inv-loop work₀ positions k size found out₀ at₀ count₀ work out at count 
 abbrev μ-loop : tie.MeasureT-loop
 μ-loop work₀ positions k size found out₀ at₀ count₀ work out at count = length out - at
 
+-- the places that the proofs below speak of, each from a later one
+abbrev at-put-mapping-arg : tie.After-slice-known4 Inv-loop μ-loop → tie.After-put-mapping-arg Inv-loop μ-loop
+at-put-mapping-arg c = c .before .before .before
+
+abbrev else1 : tie.After-slice-known4 Inv-loop μ-loop → tie.Else1 Inv-loop μ-loop
+else1 c = at-put-mapping-arg c .before
+
+abbrev at-known-told : tie.After-slice-known4 Inv-loop μ-loop → tie.After-known-told Inv-loop μ-loop
+at-known-told c = else1 c .before
+
+abbrev at-put-last : tie.After-stopped3 Inv-loop μ-loop → tie.After-put-last Inv-loop μ-loop
+at-put-last c = c .before .before .before
+
+abbrev at-cells-passed : tie.After-stopped3 Inv-loop μ-loop → tie.After-cells-passed Inv-loop μ-loop
+at-cells-passed c = at-put-last c .before
+
+abbrev at-enum-told : tie.After-stopped3 Inv-loop μ-loop → tie.After-enum-told Inv-loop μ-loop
+at-enum-told c = at-cells-passed c .before .before .before
+
 -- an answer of the last arm
 others : (answer : Stepped) → OneOf (2 ∷ 3 ∷ 4 ∷ []) (tagOf the-type answer) → Other answer
 others (Found a b score m cells) (inl e) = let z : _≡_ {A = ℕ} 0 2 = e in omega arith
@@ -55,7 +74,7 @@ module _ (c : tie.After-slice-known3 Inv-loop μ-loop) where
 -- a mapping is found
 module _ (c : tie.After-slice-known4 Inv-loop μ-loop) where
   abbrev told : tie.After-known-told Inv-loop μ-loop
-  told = c .before .before .before .before .before
+  told = at-known-told c
 
   abbrev known : tie.After-a Inv-loop μ-loop
   known = told .before
@@ -126,7 +145,7 @@ returns-2 c =
     (at .before .before .put-mapping .ensures) (c .before .if2 .taken) in
     fills-stopped _ _ _ _ _ _ _ _ _ _ (at-turn .loop .inv .0) (at-turn .loop .inv .2) (roomy (stepped at)) (at-turn .loop .inv .3) (at-turn .loop .inv .1)
     (c .stopped2 .result) _ _ _ _ _ _ (promise (stepped at) (known at .a .given .1))
-    (not-printed _ _ _ _ _ (at .before .before .before .before .if1 .left) not-held) _ (at .before .before .put-mapping .ensures .none not-held .1)
+    (not-printed _ _ _ _ _ (else1 at .if1 .left) not-held) _ (at .before .before .put-mapping .ensures .none not-held .1)
     (c .stopped2 .ensures .0) (c .stopped2 .ensures .1) (c .stopped2 .ensures .2)
 
 -- src/filling.rt:165:17
@@ -148,7 +167,7 @@ loop-again c =
       going-found _ _ _ _ _ _ _ _ _ _ (at-turn .loop .inv .0) (at-turn .loop .inv .2) (roomy (stepped at)) (at-turn .loop .inv .3) _ _ _ _ _ _ _ _
           (promise (stepped at) (known at .a .given .1))
           (rw (toZ-ofZ (sfits-of (told at .known-told .given .1 .1 .0 .1))) at (at .before .before .put-mapping .ensures))
-          (at .before .before .before .before .if1 .left) (c .if2 .left),
+          (else1 at .if1 .left) (c .if2 .left),
     )
 
 -- src/filling.rt:168:36
@@ -178,11 +197,11 @@ same-length-6 c = search needs
 -- src/filling.rt:169:17
 returns-3 : tie.Need-returns-3 Inv-loop μ-loop
 returns-3 c =
-    let told = c .before .before .before .before .before .before .before in
+    let told = at-enum-told c in
     let at-turn = at-loop (told .before .before) in
     fills-finished _ _ _ _ _ _ _ _ _ _ (at-turn .loop .inv .0) (at-turn .loop .inv .2) (roomy (told .before .before)) (at-turn .loop .inv .3)
     (at-turn .loop .inv .1) (c .stopped3 .result) _ _ _ _ (promise (told .before .before) (told .enum-told .given .1))
-    (c .before .before .before .before .cells-passed .ensures) (rw (c .stopped3 .ensures .0) (c .before .before .before .put-last .ensures))
+    (at-cells-passed c .cells-passed .ensures) (rw (c .stopped3 .ensures .0) (c .before .before .before .put-last .ensures))
     (c .before .before .before .put-last .kept .0) (c .stopped3 .ensures .1) (c .stopped3 .ensures .2)
 
 -- src/filling.rt:171:18

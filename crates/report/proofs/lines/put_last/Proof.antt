@@ -15,6 +15,25 @@ use borrow.Author.Needs.{needs}
 use Rattle.report.proofs.lines.put_last.Statement.{statement}
 use Rattle.report.proofs.lines.put_last.Tie as tie
 
+-- the places that the proofs below speak of, each from a later one
+abbrev at-text : tie.After-put-bytes → tie.After-text
+at-text c = c .before .before
+
+abbrev entry : tie.After-put-bytes → tie.Start
+entry c = at-text c .before .before
+
+abbrev at-text4 : tie.After-put-bytes2 → tie.After-text4
+at-text4 c = c .before .before .before
+
+abbrev at-put-decimal : tie.After-put-bytes2 → tie.After-put-decimal
+at-put-decimal c = at-text4 c .before
+
+abbrev at-text11 : tie.After-slice-known2 → tie.After-text11
+at-text11 c = c .before .before .before
+
+abbrev at-put-byte : tie.After-slice-known2 → tie.After-put-byte
+at-put-byte c = at-text11 c .before .before .before
+
 module _ (found cells : ℕ) {t0 t1 t2 t3 t4 t5 : List ℕ} {n1 n2 n3 n4 n5 : ℕ} (room : length t0 ≡ 64) where
   pieces : Written (102 ∷ 111 ∷ 117 ∷ 110 ∷ 100 ∷ 32 ∷ []) 0 t0 t1 n1 → Written (decimal found) n1 t1 t2 n2
       → Written (32 ∷ 99 ∷ 101 ∷ 108 ∷ 108 ∷ 115 ∷ 32 ∷ []) n2 t2 t3 n3 → Written (decimal cells) n3 t3 t4 n4
@@ -44,23 +63,23 @@ module _ (c : tie.After-put-byte) where
   c3 = c4 .before .before .before
 
   abbrev c2 : tie.After-put-decimal
-  c2 = c3 .before .before .before .before
+  c2 = at-put-decimal c3
 
   abbrev c1 : tie.After-put-bytes
   c1 = c2 .before .before .before
 
   abbrev printed : List ℕ
-  printed = let args = c1 .before .before .before .before .args in lastLine (args .found) (args .cells)
+  printed = let args = entry c1 .args in lastLine (args .found) (args .cells)
 
   -- the line in the local bytes
   text-is : Written printed 0 (replicate 64 0) (c .put-byte .last .0) (c .put-byte .result)
   text-is =
-      let args = c1 .before .before .before .before .args in
+      let args = entry c1 .args in
       pieces (args .found) (args .cells) refl (c1 .put-bytes .ensures) (c2 .put-decimal .ensures) (c3 .put-bytes2 .ensures) (c4 .put-decimal2 .ensures)
       (c .put-byte .ensures)
 
   short : length printed ≤ 64
-  short = let args = c1 .before .before .before .before .args in length-last (args .found) (args .cells)
+  short = let args = entry c1 .args in length-last (args .found) (args .cells)
 
   inside : c .put-byte .result ≤ length (c .put-byte .last .0)
   inside =
@@ -137,7 +156,7 @@ same-length c = search needs
 -- src/lines.rt:34:1
 returns : tie.Need-returns
 returns c =
-    let at-line = c .before .before .before .before .before .before in same-bytes (start-part (text-is at-line) (short at-line))
+    let at-line = at-put-byte c in same-bytes (start-part (text-is at-line) (short at-line))
     (c .before .before .put-bytes3 .ensures)
 
 pub put-last-spec : {M : Type 1} → statement M

@@ -15,6 +15,19 @@ use borrow.Author.Needs.{needs}
 use Rattle.report.proofs.lines.put_refused.Statement.{statement}
 use Rattle.report.proofs.lines.put_refused.Tie as tie
 
+-- the places that the proofs below speak of, each from a later one
+abbrev at-text : tie.After-put-bytes → tie.After-text
+at-text c = c .before .before
+
+abbrev entry : tie.After-put-bytes → tie.Start
+entry c = at-text c .before .before
+
+abbrev at-text7 : tie.After-slice-known2 → tie.After-text7
+at-text7 c = c .before .before .before
+
+abbrev at-put-byte : tie.After-slice-known2 → tie.After-put-byte
+at-put-byte c = at-text7 c .before .before .before
+
 module _ (number : ℕ) {t0 t1 t2 t3 : List ℕ} {n1 n2 n3 : ℕ} (room : length t0 ≡ 32) where
   pieces : Written (114 ∷ 101 ∷ 102 ∷ 117 ∷ 115 ∷ 101 ∷ 100 ∷ 32 ∷ []) 0 t0 t1 n1 → Written (decimal number) n1 t1 t2 n2
       → Written (lineFeed ∷ []) n2 t2 t3 n3 → Written (refusedLine number) 0 t0 t3 n3
@@ -34,14 +47,14 @@ module _ (c : tie.After-put-byte) where
   c1 = c2 .before .before .before
 
   abbrev printed : List ℕ
-  printed = refusedLine (c1 .before .before .before .before .args .number)
+  printed = refusedLine (entry c1 .args .number)
 
   -- the line in the local bytes
   text-is : Written printed 0 (replicate 32 0) (c .put-byte .last .0) (c .put-byte .result)
-  text-is = pieces (c1 .before .before .before .before .args .number) refl (c1 .put-bytes .ensures) (c2 .put-decimal .ensures) (c .put-byte .ensures)
+  text-is = pieces (entry c1 .args .number) refl (c1 .put-bytes .ensures) (c2 .put-decimal .ensures) (c .put-byte .ensures)
 
   short : length printed ≤ 32
-  short = length-refused (c1 .before .before .before .before .args .number)
+  short = length-refused (entry c1 .args .number)
 
   inside : c .put-byte .result ≤ length (c .put-byte .last .0)
   inside =
@@ -98,7 +111,7 @@ same-length c = search needs
 -- src/lines.rt:24:1
 returns : tie.Need-returns
 returns c =
-    let at-line = c .before .before .before .before .before .before in same-bytes (start-part (text-is at-line) (short at-line))
+    let at-line = at-put-byte c in same-bytes (start-part (text-is at-line) (short at-line))
     (c .before .before .put-bytes2 .ensures)
 
 pub put-refused-spec : {M : Type 1} → statement M
