@@ -1,5 +1,4 @@
 -- Number 0 tells that a call is accepted: its reply is then the value alone, and load's is k, w and the value.
--- Assumes nothing.
 use Prim.Native.Nat.{ℕ, suc, _≤_}
 use native.Mathlib.Omega.{arith}
 use mathlib.Core.Bool.{Bool, true, false, cond, not, _||_}
@@ -7,21 +6,19 @@ use mathlib.Core.Path.{_≡_, refl}
 use mathlib.Core.List.{List, [], _∷_}
 use lib.Dec.{ltb, eqb}
 use lib.ListN.{length}
-use Rattle.counts.specs.Replies.{Reply, accepted, refused}
-use Rattle.minimizers.specs.Limits.{kLimit, wLimit, letterLimit, outside}
-use Rattle.sketch.specs.Limits.{textLimit}
-use Rattle.minimizers.specs.Kmers.{Entry, entries}
+use Rattle.base.specs.Replies.{Reply, accepted, refused}
+use Rattle.base.specs.Limits.{kLimit, wLimit, letterLimit, outside, textLimit, patternLimit, hitLimit, workWords}
+use Rattle.kmers.specs.Kmers.{Entry, entries}
 use Rattle.minimizers.specs.Sketch.{sketch}
 use Rattle.sketch.specs.Replies.{checkedLetters, roomFor, sketchReply}
-use Rattle.strike.specs.Strike.{strikeLimit, struck, strikeReply}
+use Rattle.strike.specs.Strike.{struck, strikeReply}
 use Rattle.store.specs.Save.{stored, storable, saveReply}
 use Rattle.store.specs.Words.{isHeader, headerK}
 use Rattle.store.specs.Load.{Judged, good, bad, withEntry, judgeFrom, judge, storeK, storeW, loadRoom, judgedReply, loadReply}
 use Rattle.store.proofs.Judging.{Way, run-out, last, more, miscount, first, half, second, entry, way}
-use Rattle.mappings.specs.Limits.{patternLimit, hitLimit, workWords}
 use Rattle.mappings.specs.Score.{Task}
 use Rattle.mappings.specs.Cells.{hitCount}
-use Rattle.start.specs.Start.{badWeights, startReply}
+use Rattle.session_start.specs.Start.{badWeights, startReply}
 use Rattle.answers.specs.Numbers.{numberOf, valueOf}
 
 pub record Tells (r : Reply) : Type 0 where
@@ -52,7 +49,7 @@ unfolding strikeReply
 strike-tells cs ps c codeRoom positionRoom =
     past (not (eqb (length cs) (length ps))) 4 []
     (past (ltb textLimit (length cs)) 7 []
-    (past (outside 1 strikeLimit c) 5 []
+    (past (outside 1 textLimit c) 5 []
     (room-tells (length (struck c (entries cs ps))) codeRoom positionRoom)))
 
 pub save-tells : (k w : ℕ) (cs ps : List ℕ) (room : ℕ) → Tells (saveReply k w cs ps room)
@@ -102,14 +99,19 @@ judge-numbered (x ∷ rest) = go (isHeader x) (way-numbered (way (headerK x) 1 0
     go true h = h
     go false h = omega arith
 
-pub load-tells : (words : List ℕ) (codeRoom positionRoom : ℕ) → numberOf (loadReply words codeRoom positionRoom) ≡ 0 → loadReply words codeRoom positionRoom ≡ accepted (storeK words ∷ storeW words ∷ valueOf (loadReply words codeRoom positionRoom) ∷ [])
+pub load-tells : (words : List ℕ) (codeRoom positionRoom : ℕ) → numberOf (loadReply words codeRoom positionRoom) ≡ 0
+    → loadReply words codeRoom positionRoom ≡ accepted (storeK words ∷ storeW words ∷ valueOf (loadReply words codeRoom positionRoom) ∷ [])
 unfolding loadReply loadRoom
 load-tells words codeRoom positionRoom = go (judge words) (judge-numbered words)
   where
-    room : (b : Bool) (n : ℕ) → numberOf (cond b (refused 4 (n ∷ [])) (accepted (storeK words ∷ storeW words ∷ n ∷ []))) ≡ 0 → cond b (refused 4 (n ∷ [])) (accepted (storeK words ∷ storeW words ∷ n ∷ [])) ≡ accepted (storeK words ∷ storeW words ∷ valueOf (cond b (refused 4 (n ∷ [])) (accepted (storeK words ∷ storeW words ∷ n ∷ []))) ∷ [])
+    room : (b : Bool) (n : ℕ) → numberOf (cond b (refused 4 (n ∷ [])) (accepted (storeK words ∷ storeW words ∷ n ∷ []))) ≡ 0
+        → cond b (refused 4 (n ∷ [])) (accepted (storeK words ∷ storeW words ∷ n ∷ []))
+        ≡ accepted (storeK words ∷ storeW words ∷ valueOf (cond b (refused 4 (n ∷ [])) (accepted (storeK words ∷ storeW words ∷ n ∷ []))) ∷ [])
     room true n e = absurd (omega (arith, e))
     room false n e = refl
 
-    go : (j : Judged) → Numbered j → numberOf (judgedReply (storeK words) (storeW words) j codeRoom positionRoom) ≡ 0 → judgedReply (storeK words) (storeW words) j codeRoom positionRoom ≡ accepted (storeK words ∷ storeW words ∷ valueOf (judgedReply (storeK words) (storeW words) j codeRoom positionRoom) ∷ [])
+    go : (j : Judged) → Numbered j → numberOf (judgedReply (storeK words) (storeW words) j codeRoom positionRoom) ≡ 0
+        → judgedReply (storeK words) (storeW words) j codeRoom positionRoom
+        ≡ accepted (storeK words ∷ storeW words ∷ valueOf (judgedReply (storeK words) (storeW words) j codeRoom positionRoom) ∷ [])
     go (bad number index) h e = absurd (omega (arith, h, e))
     go (good es) h e = room (ltb codeRoom (length es) || ltb positionRoom (length es)) (length es) e

@@ -1,8 +1,7 @@
 -- The number and the value of a reply, and for load k and w: what crosses the C boundary, and what `maplist` goes by.
--- Assumes nothing.
 use Prim.Native.Nat.{ℕ}
 use mathlib.Core.List.{List, [], _∷_}
-use Rattle.counts.specs.Replies.{Reply, accepted, refused}
+use Rattle.base.specs.Replies.{Reply, accepted, refused}
 
 -- 0 where the call is accepted, else the number of the refusal
 abbrev pub numberOf : Reply → ℕ

@@ -1,7 +1,6 @@
 // The answers of sketch, strike, save, load and start as document 01 numbers them: the number and the value of the reply, and for load k and w.
-// Assumes nothing.
+use session_start::Started;
 use sketch::Sketched;
-use start::Started;
 use store::Loaded;
 use store::Saved;
 use strike::Struck;
@@ -9,7 +8,7 @@ ghost use mathlib.Core.Path.{_≡_};
 ghost use Rattle.sketch.specs.Answers.{replyOf as sketchedReply};
 ghost use Rattle.strike.specs.Answers.{replyOf as struckReply};
 ghost use Rattle.store.specs.Answers.{savedReply, loadedReply};
-ghost use Rattle.start.specs.Answers.{startedReply};
+ghost use Rattle.session_start.specs.Answers.{startedReply};
 ghost use Rattle.answers.specs.Numbers.{numberOf, valueOf, kAfter, wAfter};
 
 // 0 where the call is accepted, else 01's refusal number; and the value answered, or the second value, 0 where there is none.

@@ -1,2 +1,3 @@
--- What the numbers of an exported step tell.
+-- What the numbers of the exported calls tell.
+pub mod Telling
 pub mod Stepping

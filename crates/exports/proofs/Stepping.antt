@@ -1,5 +1,4 @@
 -- The numbers of an exported step wherever document 01 fixes the answer: refused with 10 or 15, and in a session, by the rule.
--- Assumes nothing.
 use Prim.Native.Nat.{ℕ, _+_, _≤_}
 use mathlib.Core.Bool.{true, false}
 use mathlib.Core.Path.{_≡_, ap, _∙_}
@@ -7,7 +6,7 @@ use mathlib.Core.List.{List}
 use Rattle.mappings.specs.Score.{Task}
 use Rattle.mappings.specs.Cells.{Mapping, hitCount, cellCount}
 use Rattle.mappings.specs.Rule.{Answer, refused, reported, ruleAnswer}
-use Rattle.start.specs.WorkWords.{sessionWords}
+use Rattle.session_start.specs.WorkWords.{sessionWords}
 use Rattle.mapper.specs.Step.{tooFewWords, badWords}
 use Rattle.mapper.specs.Answers.{answerOf}
 use Rattle.mapper.specs.Promise.{Accepts}
@@ -36,5 +35,7 @@ module _ {work work′ : List ℕ} {budget kind cells : ℕ} {before after : Map
   bad-told enough bad = told (s .promise .bad enough bad)
 
   -- the words of a session after q cells
-  pub session-told : (task : Task) (words : List ℕ) (q : ℕ) → Accepts task words → q ≤ cellCount (hitCount task) → work ≡ sessionWords task words q → Told (ruleAnswer task q budget) before (sessionWords task words (q + reported (ruleAnswer task q budget))) kind work′ after cells
+  pub session-told : (task : Task) (words : List ℕ) (q : ℕ) → Accepts task words → q ≤ cellCount (hitCount task)
+      → work ≡ sessionWords task words q
+      → Told (ruleAnswer task q budget) before (sessionWords task words (q + reported (ruleAnswer task q budget))) kind work′ after cells
   session-told task words q accepts among e = told (s .promise .session task words q accepts among e)

@@ -1,2 +1,3 @@
--- What a step hands out through the C boundary.
+-- What the exported calls hand out through the C boundary.
+pub mod Calls
 pub mod Steps

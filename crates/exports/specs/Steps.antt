@@ -1,5 +1,4 @@
 -- What crosses the C boundary for a step: its kind, the cells that it reports, and the mapping that it hands out.
--- Assumes nothing.
 use Prim.Native.Nat.{ℕ}
 use mathlib.Core.Path.{_≡_}
 use mathlib.Core.List.{List}

@@ -1,5 +1,6 @@
 // The calls of document 01 for programs in other languages: numbers and slices only, since an enum does not cross the C boundary.
-// `number` becomes 0 where the call is accepted, else 01's refusal number; the result is the value answered, or the second value.
+// Count and per mille answer one signed number. Of the others, but step, the lent `number` becomes 0 where the call is accepted, else 01's
+// refusal number, and the result is the value answered, or the second value.
 // A caller passes each slice as two arguments, a pointer and a length, and not as one of 16 bytes.
 use answers::k_after;
 use answers::of_load;
@@ -11,15 +12,27 @@ use answers::w_after;
 use mapper::answer::Stepped;
 use mapper::session::step;
 ghost use mathlib.Core.Path.{_≡_};
-ghost use lib.ListN.{length};
 ghost use Rattle.mappings.specs.Score.{taskWith};
-ghost use Rattle.sketch.specs.Replies.{sketchReply, sketchCodes, sketchPositions};
-ghost use Rattle.strike.specs.Strike.{strikeReply, strikeCodes, strikePositions};
-ghost use Rattle.store.specs.Save.{saveReply, saveWords};
-ghost use Rattle.store.specs.Load.{loadReply, loadCodes, loadPositions};
-ghost use Rattle.start.specs.Start.{startReply, startWords};
-ghost use Rattle.answers.specs.Numbers.{numberOf, valueOf, kAfter, wAfter};
+ghost use Rattle.sketch.specs.Replies.{hostNumber, countReply};
+ghost use Rattle.list_line.specs.PerMille.{perMilleNumber};
+ghost use Rattle.exports.specs.Calls.{SketchCall, StrikeCall, SaveCall, LoadCall, StartCall};
 ghost use Rattle.exports.specs.Steps.{lentMapping, Steps};
+
+// The count of entries that a sketch would have, or the refusal number negated.
+#[no_mangle]
+pub extern "C" fn huddlewool_count(letters: &[u8], k: u32, w: u32) -> i32
+    ensures { λ r. ⌜ r ≡ hostNumber (countReply k w (now (letters .entry))) ⌝ }
+{
+    sketch::count(letters, k, w)
+}
+
+// 1,000·m / (len + size − m), rounded down, or −16.
+#[no_mangle]
+pub extern "C" fn huddlewool_per_mille(m: u32, len: u32, size: u32) -> i32
+    ensures { λ r. ⌜ r ≡ perMilleNumber m len size ⌝ }
+{
+    list_line::per_mille(m, len, size)
+}
 
 #[no_mangle]
 pub extern "C" fn huddlewool_sketch(
@@ -30,10 +43,8 @@ pub extern "C" fn huddlewool_sketch(
     positions: &mut [u32],
     number: &mut u32,
 ) -> usize
-    ensures { λ r. ⌜ r ≡ valueOf (sketchReply k w (now (letters .entry)) (length (now (codes .entry))) (length (now (positions .entry)))) ⌝ }
-    ensures { λ _. ⌜ now (number .exit) ≡ numberOf (sketchReply k w (now (letters .entry)) (length (now (codes .entry))) (length (now (positions .entry)))) ⌝ }
-    ensures { λ _. ⌜ now (codes .exit) ≡ sketchCodes k w (now (letters .entry)) (now (codes .entry)) (now (positions .entry)) ⌝ }
-    ensures { λ _. ⌜ now (positions .exit) ≡ sketchPositions k w (now (letters .entry)) (now (codes .entry)) (now (positions .entry)) ⌝ }
+    ensures { λ r. ⌜ SketchCall k w (now (letters .entry)) (now (codes .entry)) (now (positions .entry))
+        r (now (number .exit)) (now (codes .exit)) (now (positions .exit)) ⌝ }
 {
     let answer = of_sketch(sketch::sketch(letters, k, w, codes, positions));
     *number = answer.0;
@@ -49,10 +60,8 @@ pub extern "C" fn huddlewool_strike(
     positions_out: &mut [u32],
     number: &mut u32,
 ) -> usize
-    ensures { λ r. ⌜ r ≡ valueOf (strikeReply (now (codes .entry)) (now (positions .entry)) c (length (now («codes_out» .entry))) (length (now («positions_out» .entry)))) ⌝ }
-    ensures { λ _. ⌜ now (number .exit) ≡ numberOf (strikeReply (now (codes .entry)) (now (positions .entry)) c (length (now («codes_out» .entry))) (length (now («positions_out» .entry)))) ⌝ }
-    ensures { λ _. ⌜ now («codes_out» .exit) ≡ strikeCodes (now (codes .entry)) (now (positions .entry)) c (now («codes_out» .entry)) (now («positions_out» .entry)) ⌝ }
-    ensures { λ _. ⌜ now («positions_out» .exit) ≡ strikePositions (now (codes .entry)) (now (positions .entry)) c (now («codes_out» .entry)) (now («positions_out» .entry)) ⌝ }
+    ensures { λ r. ⌜ StrikeCall (now (codes .entry)) (now (positions .entry)) c (now («codes_out» .entry)) (now («positions_out» .entry))
+        r (now (number .exit)) (now («codes_out» .exit)) (now («positions_out» .exit)) ⌝ }
 {
     let answer = of_strike(strike::strike(codes, positions, c, codes_out, positions_out));
     *number = answer.0;
@@ -68,11 +77,10 @@ pub extern "C" fn huddlewool_save(
     words: &mut [u32],
     number: &mut u32,
 ) -> usize
-    ensures { λ r. ⌜ r ≡ valueOf (saveReply k w (now (codes .entry)) (now (positions .entry)) (length (now (words .entry)))) ⌝ }
-    ensures { λ _. ⌜ now (number .exit) ≡ numberOf (saveReply k w (now (codes .entry)) (now (positions .entry)) (length (now (words .entry)))) ⌝ }
-    ensures { λ _. ⌜ now (words .exit) ≡ saveWords k w (now (codes .entry)) (now (positions .entry)) (now (words .entry)) ⌝ }
+    ensures { λ r. ⌜ SaveCall k w (now (codes .entry)) (now (positions .entry)) (now (words .entry))
+        r (now (number .exit)) (now (words .exit)) ⌝ }
 {
-    let answer = of_save(saving::save(codes, positions, k, w, words));
+    let answer = of_save(store_save::save(codes, positions, k, w, words));
     *number = answer.0;
     answer.1
 }
@@ -87,14 +95,10 @@ pub extern "C" fn huddlewool_load(
     w_out: &mut u32,
     number: &mut u32,
 ) -> usize
-    ensures { λ r. ⌜ r ≡ valueOf (loadReply (now (words .entry)) (length (now (codes .entry))) (length (now (positions .entry)))) ⌝ }
-    ensures { λ _. ⌜ now (number .exit) ≡ numberOf (loadReply (now (words .entry)) (length (now (codes .entry))) (length (now (positions .entry)))) ⌝ }
-    ensures { λ _. ⌜ now («k_out» .exit) ≡ kAfter (loadReply (now (words .entry)) (length (now (codes .entry))) (length (now (positions .entry)))) (now («k_out» .entry)) ⌝ }
-    ensures { λ _. ⌜ now («w_out» .exit) ≡ wAfter (loadReply (now (words .entry)) (length (now (codes .entry))) (length (now (positions .entry)))) (now («w_out» .entry)) ⌝ }
-    ensures { λ _. ⌜ now (codes .exit) ≡ loadCodes (now (words .entry)) (now (codes .entry)) (now (positions .entry)) ⌝ }
-    ensures { λ _. ⌜ now (positions .exit) ≡ loadPositions (now (words .entry)) (now (codes .entry)) (now (positions .entry)) ⌝ }
+    ensures { λ r. ⌜ LoadCall (now (words .entry)) (now («k_out» .entry)) (now («w_out» .entry)) (now (codes .entry)) (now (positions .entry))
+        r (now (number .exit)) (now («k_out» .exit)) (now («w_out» .exit)) (now (codes .exit)) (now (positions .exit)) ⌝ }
 {
-    let loaded = loading::load(words, codes, positions);
+    let loaded = store_load::load(words, codes, positions);
     let answer = of_load(loaded);
     *k_out = k_after(loaded, *k_out);
     *w_out = w_after(loaded, *w_out);
@@ -112,11 +116,10 @@ pub extern "C" fn huddlewool_start(
     work: &mut [u32],
     number: &mut u32,
 ) -> usize
-    ensures { λ r. ⌜ r ≡ valueOf (startReply (taskWith (now (text .entry)) (now (pattern .entry)) u v threshold) (length (now (work .entry)))) ⌝ }
-    ensures { λ _. ⌜ now (number .exit) ≡ numberOf (startReply (taskWith (now (text .entry)) (now (pattern .entry)) u v threshold) (length (now (work .entry)))) ⌝ }
-    ensures { λ _. ⌜ now (work .exit) ≡ startWords (taskWith (now (text .entry)) (now (pattern .entry)) u v threshold) (now (work .entry)) ⌝ }
+    ensures { λ r. ⌜ StartCall (taskWith (now (text .entry)) (now (pattern .entry)) u v threshold) (now (work .entry))
+        r (now (number .exit)) (now (work .exit)) ⌝ }
 {
-    let answer = of_start(start::start(text, pattern, u, v, threshold, work));
+    let answer = of_start(session_start::start(text, pattern, u, v, threshold, work));
     *number = answer.0;
     answer.1
 }
@@ -133,7 +136,11 @@ pub extern "C" fn huddlewool_step(
     m_out: &mut u32,
     cells_out: &mut u32,
 ) -> u32
-    ensures { λ r. ⌜ Steps (now (work .entry)) budget (lentMapping (now («a_out» .entry)) (now («b_out» .entry)) (now («score_out» .entry)) (now («m_out» .entry))) r (now (work .exit)) (lentMapping (now («a_out» .exit)) (now («b_out» .exit)) (now («score_out» .exit)) (now («m_out» .exit))) (now («cells_out» .exit)) ⌝ }
+    ensures { λ r. ⌜ Steps (now (work .entry)) budget
+        (lentMapping (now («a_out» .entry)) (now («b_out» .entry)) (now («score_out» .entry)) (now («m_out» .entry)))
+        r (now (work .exit))
+        (lentMapping (now («a_out» .exit)) (now («b_out» .exit)) (now («score_out» .exit)) (now («m_out» .exit)))
+        (now («cells_out» .exit)) ⌝ }
 {
     match step(work, budget) {
         Stepped::Found {

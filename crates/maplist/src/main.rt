@@ -1,10 +1,10 @@
 // The program `maplist`: from standard input a line of numbers, a text and a read; to standard output every final mapping of the read's
-// sketch in the text's. What it prints is decided in `report`. It assumes what the C library's read and write do.
-use report::beginning::begin;
-use report::filling::fill;
+// sketch in the text's. What it prints is decided in `list_output`. It assumes what the C library's read and write do.
+use list_output::beginning::begin;
+use list_output::filling::fill;
 ghost use mathlib.Core.Path.{_≡_};
 ghost use lib.ListN.{length};
-ghost use Rattle.reading.specs.Limits.{inputLimit};
+ghost use Rattle.list_input.specs.Input.{inputLimit};
 
 // So many bytes of the input decide what is printed.
 fn input_bytes() -> [u8; 8261]

@@ -1,5 +1,4 @@
 -- What the column in hand knows: the greatest biased score of the cells passed in the rows up to each row.
--- Assumes nothing.
 use Prim.Native.Nat.{ℕ, zero, suc, _+_, _-_, _≤_, _<_, max, zero-le}
 use native.Mathlib.Nat.{le-refl, not-suc-le-zero}
 use native.Mathlib.Omega.{arith}
@@ -8,13 +7,14 @@ use mathlib.Core.Logic.{_⊎_, inl, inr}
 use mathlib.Core.List.{List, [], _∷_, _++_}
 use lib.ListN.{length, getD, set, take, replicate, getD-replicate}
 use lib.Seq.{take-suc, getD-set-same, getD-set-other}
-use Rattle.counts.proofs.Lists.{eq-or-ne}
+use Rattle.base.proofs.Lists.{eq-or-ne}
 use Rattle.mappings.specs.Score.{Task}
 use Rattle.mappings.specs.Bias.{biasedOf}
-use Rattle.mappings.specs.Cells.{Cell, hits, hitCount, cellCount, cells, cellsOf, leftEnd, rightEnd, place}
+use Rattle.mappings.specs.Cells.{Cell, hits, hitCount, cellCount, cells, cellsOf, leftEnd, rightEnd}
+use Rattle.mappings.specs.Places.{place}
 use Rattle.mappings.proofs.Cells.{cellAt, cellCount-suc, cellCount-mono, length-cells, getD-cells, place-within, place-row, place-column}
-use Rattle.start.specs.WorkWords.{bestBefore, withCell, withCells, bestAfter}
-use Rattle.start.proofs.WorkWords.{length-bestAfter}
+use Rattle.session_start.specs.WorkWords.{bestBefore, withCell, withCells, bestAfter}
+use Rattle.session_start.proofs.WorkWords.{length-bestAfter}
 
 module _ (task : Task) where
   -- the biased score of cell (i, j)
@@ -105,7 +105,8 @@ module _ (task : Task) where
   withCells-snoc best (x ∷ xs) cell = withCells-snoc (withCell task best x) xs cell
 
   -- the column in hand after the cell with number q + 1
-  pub best-suc : (i j : ℕ) → i ≤ j → j < hitCount task → bestAfter task (suc (place (hitCount task) i j)) ≡ withCell task (bestAfter task (place (hitCount task) i j)) (cellAt i j)
+  pub best-suc : (i j : ℕ) → i ≤ j → j < hitCount task
+      → bestAfter task (suc (place (hitCount task) i j)) ≡ withCell task (bestAfter task (place (hitCount task) i j)) (cellAt i j)
   unfolding bestAfter cellsOf
   best-suc i j a l =
       let h = hitCount task in
@@ -137,9 +138,11 @@ module _ (task : Task) where
       go (inl f) = absurd (let g : cellCount (suc j) ≡ cellCount (hitCount task) = ap cellCount f in omega arith)
       go (inr n) = omega arith
 
-  after-cell : (q i j : ℕ) → i ≤ j → j < hitCount task → place (hitCount task) i j ≡ q → BestAt (bestAfter task q) i j → BestAt (bestAfter task (suc q)) (suc i) j
+  after-cell : (q i j : ℕ) → i ≤ j → j < hitCount task → place (hitCount task) i j ≡ q → BestAt (bestAfter task q) i j
+      → BestAt (bestAfter task (suc q)) (suc i) j
   after-cell q i j a l e b =
-      subst (λ (best : List ℕ). BestAt best (suc i) j) (ap (λ (n : ℕ). withCell task (bestAfter task n) (cellAt i j)) (sym e) ∙ sym (best-suc i j a l) ∙ ap (λ (n : ℕ). bestAfter task (suc n)) e)
+      subst (λ (best : List ℕ). BestAt best (suc i) j)
+      (ap (λ (n : ℕ). withCell task (bestAfter task n) (cellAt i j)) (sym e) ∙ sym (best-suc i j a l) ∙ ap (λ (n : ℕ). bestAfter task (suc n)) e)
       (best-cell (bestAfter task q) i j a l (subst (λ (n : ℕ). j < n) (sym (length-bestAfter task q)) l) b)
 
   pub best-at : (q i j : ℕ) → i ≤ j → j < hitCount task → place (hitCount task) i j ≡ q → BestAt (bestAfter task q) i j

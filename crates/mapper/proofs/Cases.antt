@@ -1,5 +1,4 @@
 -- When step refuses, at the limits: each is computed from the definitions.
--- Assumes nothing.
 use Prim.Native.Nat.{ℕ}
 use mathlib.Core.Bool.{true, false}
 use mathlib.Core.Path.{_≡_, refl}
@@ -7,7 +6,7 @@ use mathlib.Core.List.{List, [], _∷_}
 use lib.ListN.{replicate}
 use Rattle.mappings.specs.Cells.{cellCount}
 use Rattle.mappings.specs.Rule.{refused}
-use Rattle.start.specs.Start.{badWeights}
+use Rattle.session_start.specs.Start.{badWeights}
 use Rattle.mapper.specs.Step.{tooFewWords, badWords}
 use Rattle.mapper.specs.Answers.{answerOf}
 use Rattle.mapper.specs.Promise.{StepPromise}

@@ -1,6 +1,6 @@
 -- At a cell of a session, the code's numbers are those of the definitions: the score word, m along the column, the four tests of
 -- Definition 1, and the deciding test.
-use Prim.Native.Nat.{ℕ, suc, _+_, _-_, _*_, _%_, _^_, _≤_, _<_, max}
+use Prim.Native.Nat.{ℕ, suc, _+_, _-_, _*_, _%_, _≤_, _<_, max}
 use native.Mathlib.Nat.{le-trans, mul-add, mul-le-mul, add-mod-mod}
 use native.Mathlib.Omega.{arith}
 use mathlib.Core.Path.{_≡_, refl, sym, ap, _∙_, subst}
@@ -10,11 +10,15 @@ use lib.Dec.{leb, ltb, eqb}
 use lib.ListN.{length, getD}
 use lib.Signed.{leZ, mag}
 use borrow.Author.Tests.{eq-eqb, eqb-true, le-leb, leb-true}
-use Rattle.counts.specs.Lists.{bit}
+use Rattle.base.specs.Limits.{textLimit, patternLimit, weightLimit, wordLimit}
+use Rattle.base.specs.Lists.{bit}
 use Rattle.mappings.specs.Score.{Task, interval, shared, sharedOf, lengthOf, scoreOf}
-use Rattle.mappings.specs.Definition1.{AtMost, isReasonable}
-use Rattle.mappings.specs.Bias.{bias, biased, biasedOf, biasedZ, unbiased}
-use Rattle.mappings.specs.Cells.{hits, hitCodes, hitCount, isFinalCell, leftEnd, rightEnd}
+use Rattle.mappings.specs.Definition1.{AtMost}
+use Rattle.mappings.specs.FinalTest.{isReasonable, isFinalCell}
+use Rattle.mappings.specs.Bias.{bias, biased, biasedOf, biasedZ}
+use Rattle.mappings.specs.Unbiased.{unbiased}
+use Rattle.mappings.specs.Cells.{hits, hitCount, leftEnd, rightEnd}
+use Rattle.mappings.specs.HitCodes.{hitCodes}
 use Rattle.mappings.proofs.Cells.{cellAt}
 use Rattle.mappings.proofs.Definition1.{MaximalCell, test-final, cell-final}
 use Rattle.mappings.proofs.HitCodes.{length-hitCodes, cell-shared, cell-reasonable}
@@ -22,12 +26,12 @@ use Rattle.mappings.proofs.Hits.{hit-within, hit-at-most}
 use Rattle.mappings.proofs.Range.{Limited, shared-le-len, shared-le-size, biased-within, scores-order, threshold-order}
 use Rattle.mappings.proofs.Integers.{unbiased-biasedZ}
 use Rattle.mappings.proofs.Shared.{shared-left-end}
-use Rattle.start.specs.Tables.{reach, back}
-use Rattle.start.proofs.Tables.{reach-test, back-test, hit-codes-in}
-use Rattle.column.specs.Passing.{lowered, candidateTest}
+use Rattle.session_start.specs.Tables.{reach, back}
+use Rattle.session_start.proofs.Tables.{reach-test, back-test, hit-codes-in}
+use Rattle.session_cells.specs.Passing.{lowered, candidateTest}
 use Rattle.mapper.specs.declared.update.Terms.{Terms}
 use Rattle.mapper.specs.declared.answer.Stepped.the-variants.{Found}
-use Rattle.mapper.specs.Walking.{lift}
+use Rattle.mapper.specs.Walking.{margin, lift}
 use Rattle.mapper.specs.Deciding.{isScorable, candidateScore, decides, decided}
 use Rattle.mapper.proofs.Deciding.{says-scorable, decided-found}
 use Rattle.mapper.proofs.Best.{scoreAt, Top, TopBefore, top-cell}
@@ -48,22 +52,22 @@ reordered false b c d = refl
 
 -- ---- the score word
 
-shifted : (gained left right both : ℕ) → both ≡ left + right → both ≤ 2147483648
-    → gained + left + (lift - both) ≡ 2 ^ 44 + (gained + 2147483648 - right)
+shifted : (gained left right both : ℕ) → both ≡ left + right → both ≤ bias
+    → gained + left + (lift - both) ≡ margin + (gained + bias - right)
 shifted gained left right both e l = omega arith
 
--- gain·m + v·x + base, where base has the column's part and 2^44 added: the remainder is the biased score
-word-is : (u v size m x y : ℕ) → x ≤ y → v * (y + 1 + size) ≤ 2147483648 → biased u v size m (suc y - x) < 4294967296
-    → ((u + 2 * v) * m + v * x + (lift - v * (y + 1 + size)) % 4294967296) % 4294967296 ≡ biased u v size m (suc y - x)
+-- gain·m + v·x + base, where base has the column's part and the margin added: the remainder is the biased score
+word-is : (u v size m x y : ℕ) → x ≤ y → v * (y + 1 + size) ≤ bias → biased u v size m (suc y - x) < wordLimit
+    → ((u + 2 * v) * m + v * x + (lift - v * (y + 1 + size)) % wordLimit) % wordLimit ≡ biased u v size m (suc y - x)
 unfolding biased
 word-is u v size m x y a b d =
     let e : y + 1 + size ≡ x + (suc y - x + size) = omega arith in
     let f : v * (y + 1 + size) ≡ v * x + v * (suc y - x + size) = ap (λ (n : ℕ). v * n) e ∙ mul-add v x (suc y - x + size) in
-    let g : (u + 2 * v) * m + v * x + (lift - v * (y + 1 + size)) ≡ 4096 * 4294967296 + ((u + 2 * v) * m + 2147483648 - v * (suc y - x + size)) =
+    let g : (u + 2 * v) * m + v * x + (lift - v * (y + 1 + size)) ≡ 2 * weightLimit * wordLimit + ((u + 2 * v) * m + bias - v * (suc y - x + size)) =
     shifted ((u + 2 * v) * m) (v * x) (v * (suc y - x + size)) (v * (y + 1 + size)) f b in
-    add-mod-mod ((u + 2 * v) * m + v * x) (lift - v * (y + 1 + size)) 4294967296
-    ∙ ap (λ (n : ℕ). n % 4294967296) g
-    ∙ digits-mod 4096 d
+    add-mod-mod ((u + 2 * v) * m + v * x) (lift - v * (y + 1 + size)) wordLimit
+    ∙ ap (λ (n : ℕ). n % wordLimit) g
+    ∙ digits-mod (2 * weightLimit) d
 
 -- m of the hits i to j
 abbrev pub sharedAt : Task → ℕ → ℕ → ℕ
@@ -76,12 +80,13 @@ termsOf task = record { u = task .u; v = task .v; size = length (task .pattern);
 module _ (task : Task) (limited : Limited task) (threshold-fits : mag (task .threshold) < bias) where
   pub score-word : (i j : ℕ) → i ≤ j → j < hitCount task
       → ((task .u + 2 * task .v) * sharedAt task i j + task .v * getD (hits task) i 0 +
-      (lift - task .v * (getD (hits task) j 0 + 1 + length (task .pattern))) % 4294967296) % 4294967296 ≡ scoreAt task i j
+      (lift - task .v * (getD (hits task) j 0 + 1 + length (task .pattern))) % wordLimit) % wordLimit ≡ scoreAt task i j
   unfolding scoreAt biasedOf lengthOf
   score-word i j a l =
       let inside : getD (hits task) j 0 < length (task .text) = hit-within task j l in
-      let long : getD (hits task) j 0 + 1 + length (task .pattern) ≤ 69631 = omega (arith, limited .short-text, limited .short-pattern) in
-      let small : task .v * (getD (hits task) j 0 + 1 + length (task .pattern)) ≤ 1000 * 69631 = mul-le-mul (limited .small-v) long in
+      let long : getD (hits task) j 0 + 1 + length (task .pattern) ≤ textLimit + patternLimit = omega (arith, limited .short-text, limited .short-pattern) in
+      let small : task .v * (getD (hits task) j 0 + 1 + length (task .pattern)) ≤ weightLimit * (textLimit + patternLimit) =
+      mul-le-mul (limited .small-v) long in
       let w = biased-within task limited (getD (hits task) i 0) (getD (hits task) j 0) inside in
       rw (← cell-shared task i j a l)
       (word-is (task .u) (task .v) (length (task .pattern)) (sharedOf task (getD (hits task) i 0) (getD (hits task) j 0)) (getD (hits task) i 0)
@@ -95,15 +100,15 @@ module _ (task : Task) (limited : Limited task) (threshold-fits : mag (task .thr
       let e : sharedAt task i j ≡ bit (ltb j (reach (task .pattern) (hitCodes task) i)) + sharedAt task (suc i) j =
       shared-left-end (task .pattern) (hitCodes task) i j a k ∙ rw (← reach-test (task .pattern) (hitCodes task) i j a k)
       in
-      let small : sharedAt task i j ≤ 4096 =
-      subst (λ (n : ℕ). n ≤ 4096) (cell-shared task i j a l)
+      let small : sharedAt task i j ≤ patternLimit =
+      subst (λ (n : ℕ). n ≤ patternLimit) (cell-shared task i j a l)
       (le-trans (shared-le-size task (getD (hits task) i 0) (getD (hits task) j 0)) (limited .short-pattern)) in
       less (bit (ltb j (reach (task .pattern) (hitCodes task) i))) (sharedAt task i j) (sharedAt task (suc i) j) e small
     where
-      less : (one m n : ℕ) → m ≡ one + n → m ≤ 4096 → (m + 4294967296 - one) % 4294967296 ≡ n
+      less : (one m n : ℕ) → m ≡ one + n → m ≤ patternLimit → (m + wordLimit - one) % wordLimit ≡ n
       less one m n e l =
-          let f : m + 4294967296 - one ≡ 1 * 4294967296 + n = omega arith in ap (λ (k : ℕ). k % 4294967296) f
-          ∙ digits-mod 1 (let g : n < 4294967296 = omega arith in g)
+          let f : m + wordLimit - one ≡ 1 * wordLimit + n = omega arith in ap (λ (k : ℕ). k % wordLimit) f
+          ∙ digits-mod 1 (let g : n < wordLimit = omega arith in g)
 
   threshold-is : (i j : ℕ) → j < hitCount task
       → leZ (task .threshold) (scoreOf task (getD (hits task) i 0) (getD (hits task) j 0)) ≡ leb (biasedZ (task .threshold)) (scoreAt task i j)

@@ -10,22 +10,28 @@ use lib.Dec.{ltb}
 use lib.ListN.{length, getD, set, drop, length-set}
 use lib.Seq.{getD-set-same, getD-set-other}
 use lib.Signed.{mag}
-use Rattle.counts.specs.Lists.{bit}
-use Rattle.counts.proofs.Lists.{eq-or-ne}
+use Rattle.base.specs.Limits.{hitLimit, wordLimit}
+use Rattle.base.specs.Lists.{bit}
+use Rattle.base.proofs.Lists.{eq-or-ne}
 use Rattle.mappings.specs.Score.{Task}
 use Rattle.mappings.specs.Bias.{bias, biasedZ}
-use Rattle.mappings.specs.Cells.{hits, hitCodes, hitCount, cellsOf, isFinalCell, mappingOf, leftEnd, rightEnd, place}
-use Rattle.mappings.specs.Rule.{Answer, found, finished, spent, refused, moreCells, ruleAnswer}
+use Rattle.mappings.specs.Cells.{hits, hitCount, cellsOf, mappingOf, leftEnd, rightEnd}
+use Rattle.mappings.specs.FinalTest.{isFinalCell}
+use Rattle.mappings.specs.HitCodes.{hitCodes}
+use Rattle.mappings.specs.Places.{place}
+use Rattle.mappings.specs.Rule.{Answer, found, finished, spent, refused, ruleAnswer}
+use Rattle.mappings.specs.Steps.{moreCells}
 use Rattle.mappings.proofs.Cells.{cellAt, drop-cells, place-row}
 use Rattle.mappings.proofs.Range.{Limited}
 use Rattle.mappings.proofs.Rule.{rule-found, rule-pass, more-cells}
-use Rattle.start.specs.Tables.{reach, back}
-use Rattle.start.specs.WorkWords.{bestBefore, withCell, bestAfter}
-use Rattle.start.proofs.WorkWords.{Outside, length-bestAfter}
-use Rattle.column.specs.declared.cells.Line.{Line}
-use Rattle.column.specs.Passing.{lowered, lineScore, bestWith, inReach, Update, passRows}
-use Rattle.column.proofs.Passing.{tested}
-use Rattle.column.proofs.Quiet.{candidate-one}
+use Rattle.session_words.specs.Layout.{partLength}
+use Rattle.session_start.specs.Tables.{reach, back}
+use Rattle.session_start.specs.WorkWords.{bestBefore, withCell, bestAfter}
+use Rattle.session_start.proofs.WorkWords.{Outside, length-bestAfter}
+use Rattle.session_cells.specs.declared.cells.Line.{Line}
+use Rattle.session_cells.specs.Passing.{reachAt, bestAt, lowered, lineScore, bestWith, inReach, Update, passRows}
+use Rattle.session_cells.proofs.Passing.{tested}
+use Rattle.session_cells.proofs.Quiet.{candidate-one}
 use Rattle.mapper.proofs.Best.{scoreAt, BestAt, before-top, best-at, best-suc}
 use Rattle.mapper.specs.Walking.{lift}
 use Rattle.mapper.proofs.CellTests.{sharedAt, score-word, shared-next, final-test}
@@ -39,10 +45,10 @@ more-none (refused number) = refl
 module _ (task : Task) (limited : Limited task) (threshold-fits : mag (task .threshold) < bias) where
   -- what the part of the work words that a column is lent holds after q cells
   pub record PartHolds (q : ℕ) (part : List ℕ) : Type 0 where
-    pub number : length part ≡ 6144
+    pub number : length part ≡ partLength
     pub index-word : (i : ℕ) → i < hitCount task → getD part i 0 ≡ getD (hits task) i 0
-    pub reach-word : (i : ℕ) → i < hitCount task → getD part (2048 + i) 0 ≡ reach (task .pattern) (hitCodes task) i
-    pub best-word : (i : ℕ) → i < hitCount task → getD part (4096 + i) 0 ≡ getD (bestAfter task q) i 0
+    pub reach-word : (i : ℕ) → i < hitCount task → getD part (reachAt i) 0 ≡ reach (task .pattern) (hitCodes task) i
+    pub best-word : (i : ℕ) → i < hitCount task → getD part (bestAt i) 0 ≡ getD (bestAfter task q) i 0
 
   -- what the cells of column j share
   abbrev pub sessionLine : ℕ → Line
@@ -50,14 +56,14 @@ module _ (task : Task) (limited : Limited task) (threshold-fits : mag (task .thr
     column = j;
     gain = task .u + 2 * task .v;
     v = task .v;
-    base = (lift - task .v * (getD (hits task) j 0 + 1 + length (task .pattern))) % 4294967296;
+    base = (lift - task .v * (getD (hits task) j 0 + 1 + length (task .pattern))) % wordLimit;
     back = back (task .pattern) (hitCodes task) j;
     threshold = biasedZ (task .threshold);
   }
 
   -- words outside the column in hand stay
   abbrev pub SameOutside : List ℕ → List ℕ → Type 0
-  SameOutside part part′ = (n : ℕ) → Outside 4096 (hitCount task) n → getD part′ n 0 ≡ getD part n 0
+  SameOutside part part′ = (n : ℕ) → Outside (bestAt 0) (hitCount task) n → getD part′ n 0 ≡ getD part n 0
 
   -- what passing n cells from (i, j) on comes to, where q cells have been passed
   pub data Chunk (j i n q : ℕ) (part : List ℕ) (update : Update) : Type 0 where
@@ -84,7 +90,7 @@ module _ (task : Task) (limited : Limited task) (threshold-fits : mag (task .thr
       ∙ best-suc task i j a l
       ∙ ap (λ (n : ℕ). withCell task (bestAfter task n) (cellAt i j)) e
 
-  module _ (j i q m before : ℕ) (part : List ℕ) (a : i ≤ j) (l : j < hitCount task) (small : hitCount task ≤ 2048)
+  module _ (j i q m before : ℕ) (part : List ℕ) (a : i ≤ j) (l : j < hitCount task) (small : hitCount task ≤ hitLimit)
       (at : place (hitCount task) i j ≡ q) (em : m ≡ sharedAt task i j) (eb : before ≡ bestBefore (bestAfter task q) i) (holds : PartHolds q part)
     where
       row-in : i < hitCount task
@@ -128,37 +134,37 @@ module _ (task : Task) (limited : Limited task) (threshold-fits : mag (task .thr
       unfolding cellsOf
       next = subst (λ (n : ℕ). drop n (cellsOf task) ≡ cellAt i j ∷ drop (suc n) (cellsOf task)) at (drop-cells (hitCount task) i j a l)
 
-      next-holds : (best : ℕ) → best ≡ topAt q i j → PartHolds (suc q) (set part (4096 + i) best)
+      next-holds : (best : ℕ) → best ≡ topAt q i j → PartHolds (suc q) (set part (bestAt i) best)
       next-holds best e = record {
-        number = length-set part (4096 + i) best ∙ holds .number;
-        index-word = λ r k. getD-set-other part (4096 + i) r best 0 (λ f. omega arith) ∙ holds .index-word r k;
-        reach-word = λ r k. getD-set-other part (4096 + i) (2048 + r) best 0 (λ f. omega arith) ∙ holds .reach-word r k;
+        number = length-set part (bestAt i) best ∙ holds .number;
+        index-word = λ r k. getD-set-other part (bestAt i) r best 0 (λ f. omega arith) ∙ holds .index-word r k;
+        reach-word = λ r k. getD-set-other part (bestAt i) (reachAt r) best 0 (λ f. omega arith) ∙ holds .reach-word r k;
         best-word = λ r k. rw (best-next i j q a l at) (go r k (eq-or-ne r i));
       }
         where
           go : (r : ℕ) → r < hitCount task → (r ≡ i) ⊎ (r ≡ i → ⊥)
-              → getD (set part (4096 + i) best) (4096 + r) 0 ≡ getD (set (bestAfter task q) i (topAt q i j)) r 0
+              → getD (set part (bestAt i) best) (bestAt r) 0 ≡ getD (set (bestAfter task q) i (topAt q i j)) r 0
           go r k (inl f) =
-              ap (λ (n : ℕ). getD (set part (4096 + i) best) (4096 + n) 0) f
-              ∙ getD-set-same part (4096 + i) best 0 (rw (holds .number) (omega arith))
+              ap (λ (n : ℕ). getD (set part (bestAt i) best) (bestAt n) 0) f
+              ∙ getD-set-same part (bestAt i) best 0 (rw (holds .number) (omega arith))
               ∙ e
               ∙ sym (ap (λ (n : ℕ). getD (set (bestAfter task q) i (topAt q i j)) n 0) f
               ∙ getD-set-same (bestAfter task q) i (topAt q i j) 0 (rw (length-bestAfter task q) row-in))
           go r k (inr n) =
-              getD-set-other part (4096 + i) (4096 + r) best 0 (λ f. n (omega arith))
+              getD-set-other part (bestAt i) (bestAt r) best 0 (λ f. n (omega arith))
               ∙ holds .best-word r k
               ∙ sym (getD-set-other (bestAfter task q) i r (topAt q i j) 0 n)
 
-      next-same : (best : ℕ) → SameOutside part (set part (4096 + i) best)
-      next-same best n (inl o) = getD-set-other part (4096 + i) n best 0 (λ f. omega arith)
-      next-same best n (inr o) = getD-set-other part (4096 + i) n best 0 (λ f. omega arith)
+      next-same : (best : ℕ) → SameOutside part (set part (bestAt i) best)
+      next-same best n (inl o) = getD-set-other part (bestAt i) n best 0 (λ f. omega arith)
+      next-same best n (inr o) = getD-set-other part (bestAt i) n best 0 (λ f. omega arith)
 
       before-next : topAt q i j ≡ bestBefore (bestAfter task (suc q)) (suc i)
       before-next = rw (best-next i j q a l at) (sym (getD-set-same (bestAfter task q) i (topAt q i j) 0 (rw (length-bestAfter task q) row-in)))
 
   -- ---- n cells
 
-  module _ (j : ℕ) (l : j < hitCount task) (small : hitCount task ≤ 2048) where
+  module _ (j : ℕ) (l : j < hitCount task) (small : hitCount task ≤ hitLimit) where
     no-cells : (i q m before : ℕ) (part : List ℕ) → m ≡ sharedAt task i j → PartHolds q part
         → Chunk j i 0 q part (passRows (sessionLine j) 0 i m before part)
     no-cells i q m before part em holds =
@@ -196,7 +202,7 @@ module _ (task : Task) (limited : Limited task) (threshold-fits : mag (task .thr
         let a : i ≤ j = omega arith in
         go (isFinalCell task (cellAt i j)) refl a
         (chunk n (suc i) (suc q) (lowered m (inReach (sessionLine j) part i)) (bestWith part i before (lineScore (sessionLine j) m (getD part i 0)))
-        (set part (4096 + i) (bestWith part i before (lineScore (sessionLine j) m (getD part i 0)))) (omega arith)
+        (set part (bestAt i) (bestWith part i before (lineScore (sessionLine j) m (getD part i 0)))) (omega arith)
         (place-row (hitCount task) i j ∙ ap suc at)
         (m-next j i q m before part a l small at em eb holds)
         (best-is j i q m before part a l small at em eb holds ∙ before-next j i q m before part a l small at em eb holds)
@@ -207,8 +213,8 @@ module _ (task : Task) (limited : Limited task) (threshold-fits : mag (task .thr
         best = bestWith part i before (lineScore (sessionLine j) m (getD part i 0))
 
         go : (b : Bool) → isFinalCell task (cellAt i j) ≡ b → i ≤ j
-            → Chunk j (suc i) n (suc q) (set part (4096 + i) best)
-            (passRows (sessionLine j) n (suc i) (lowered m (inReach (sessionLine j) part i)) best (set part (4096 + i) best))
+            → Chunk j (suc i) n (suc q) (set part (bestAt i) best)
+            (passRows (sessionLine j) n (suc i) (lowered m (inReach (sessionLine j) part i)) best (set part (bestAt i) best))
             → Chunk j i (suc n) q part (passRows (sessionLine j) (suc n) i m before part)
         go true e a rest =
             let h : i + 0 ≡ i = omega arith in
@@ -221,7 +227,7 @@ module _ (task : Task) (limited : Limited task) (threshold-fits : mag (task .thr
             (rule-found task q (cellAt i j) (next j i q m before part a l small at em eb holds) B e))))
         go false e a rest =
             rw (test-is j i q m before part a l small at em eb holds ∙ e)
-            (more-cell i n q part (set part (4096 + i) best)
-            (passRows (sessionLine j) n (suc i) (lowered m (inReach (sessionLine j) part i)) best (set part (4096 + i) best))
+            (more-cell i n q part (set part (bestAt i) best)
+            (passRows (sessionLine j) n (suc i) (lowered m (inReach (sessionLine j) part i)) best (set part (bestAt i) best))
             (next-same j i q m before part a l small at em eb holds best)
             (λ B. rule-pass task q (cellAt i j) (next j i q m before part a l small at em eb holds) B e) rest)

@@ -8,15 +8,16 @@ use mathlib.Core.Path.{_≡_, refl, sym, ap, ap₂, _∙_}
 use mathlib.Core.List.{List, [], _∷_, _++_}
 use lib.ListN.{length, getD, take, drop, length-append, take-append-drop}
 use lib.Seq.{length-take-le, take-all, take-at, drop-at}
-use Rattle.mappings.specs.Limits.{workWords}
+use Rattle.base.specs.Limits.{workWords}
 use Rattle.mappings.specs.Score.{Task}
 use Rattle.mappings.specs.Cells.{hitCount, cellCount}
 use Rattle.mappings.specs.Rule.{Answer, Step, passed, handedOut}
 use Rattle.mappings.specs.Demand.{passedBefore}
 use Rattle.mappings.proofs.Demanded.{demanded-same}
-use Rattle.start.specs.Start.{startWords}
-use Rattle.start.specs.WorkWords.{sessionWords}
-use Rattle.start.proofs.WorkWords.{Holds, words-hold, take-session}
+use Rattle.session_words.specs.FirstWords.{passedAt}
+use Rattle.session_start.specs.Start.{startWords}
+use Rattle.session_start.specs.WorkWords.{sessionWords}
+use Rattle.session_start.proofs.WorkWords.{Holds, words-hold, take-session}
 use Rattle.mapper.specs.Promise.{Accepts}
 use Rattle.mapper.specs.Sessions.{Ran, none, then, wordsAfter}
 use Rattle.mapper.proofs.Accepted.{Admitted, admitted}
@@ -59,34 +60,34 @@ module _ (task : Task) (before : List ℕ) (a : Accepts task before) where
   limits = admitted task (length before) (hitCount task ∷ []) (a .accepts)
 
   -- a copy is the words of a session itself: of the task begun in the original's first 16,384 words, with the copy's own words behind them
-  module _ (copy : List ℕ) (long : 16384 ≤ length copy) where
+  module _ (copy : List ℕ) (long : workWords ≤ length copy) where
     abbrev begun : List ℕ
-    begun = take 16384 before ++ drop 16384 copy
+    begun = take workWords before ++ drop workWords copy
 
-    first-number : length (take 16384 before) ≡ 16384
-    first-number = length-take-le 16384 before (limits .many-words)
+    first-number : length (take workWords before) ≡ workWords
+    first-number = length-take-le workWords before (limits .many-words)
 
-    begun-long : 16384 ≤ length begun
-    begun-long = rw (length-append (take 16384 before) (drop 16384 copy), first-number) (omega arith)
+    begun-long : workWords ≤ length begun
+    begun-long = rw (length-append (take workWords before) (drop workWords copy), first-number) (omega arith)
 
     begun-accepts : Accepts task begun
     begun-accepts = accepts-in task before a begun begun-long
 
-    first-same : (q : ℕ) → take 16384 (sessionWords task before q) ≡ take 16384 (sessionWords task begun q)
+    first-same : (q : ℕ) → take workWords (sessionWords task before q) ≡ take workWords (sessionWords task begun q)
     first-same q =
-        let enough : 16384 ≤ 16384 = omega arith in
-        take-session task (limits .few-hits) before 16384 enough (limits .many-words) q
-        ∙ ap (λ (words : List ℕ). sessionWords task words q) (sym (take-at (take 16384 before) (drop 16384 copy) 16384 first-number))
-        ∙ sym (take-session task (limits .few-hits) begun 16384 enough begun-long q)
+        let enough : workWords ≤ workWords = omega arith in
+        take-session task (limits .few-hits) before workWords enough (limits .many-words) q
+        ∙ ap (λ (words : List ℕ). sessionWords task words q) (sym (take-at (take workWords before) (drop workWords copy) workWords first-number))
+        ∙ sym (take-session task (limits .few-hits) begun workWords enough begun-long q)
 
-    copy-beyond-same : (q : ℕ) → drop 16384 (sessionWords task begun q) ≡ drop 16384 copy
-    copy-beyond-same q = beyond-session task begun begun-accepts q ∙ drop-at (take 16384 before) (drop 16384 copy) 16384 first-number
+    copy-beyond-same : (q : ℕ) → drop workWords (sessionWords task begun q) ≡ drop workWords copy
+    copy-beyond-same q = beyond-session task begun begun-accepts q ∙ drop-at (take workWords before) (drop workWords copy) workWords first-number
 
-    copy-session : (q : ℕ) → take 16384 copy ≡ take 16384 (sessionWords task before q) → copy ≡ sessionWords task begun q
+    copy-session : (q : ℕ) → take workWords copy ≡ take workWords (sessionWords task before q) → copy ≡ sessionWords task begun q
     copy-session q e =
-        sym (take-append-drop 16384 copy)
+        sym (take-append-drop workWords copy)
         ∙ ap₂ (λ (xs ys : List ℕ). xs ++ ys) (e ∙ first-same q) (sym (copy-beyond-same q))
-        ∙ take-append-drop 16384 (sessionWords task begun q)
+        ∙ take-append-drop workWords (sessionWords task begun q)
 
   -- a session after q cells, and any words of which the first 16,384 are a copy of its own, however many they are and whatever stands
   -- behind
@@ -96,7 +97,7 @@ module _ (task : Task) (before : List ℕ) (a : Accepts task before) where
       → Ran words steps one states → Ran copy steps other states′ → Continues q words copy steps one other states states′
   copied q {words} {copy} {states} {states′} {steps} {one} {other} k e long same run run′ =
       let r = ran-on task before a q k e run in
-      let r′ = ran-on task (begun copy long) (begun-accepts copy long) q k (copy-session copy long q (same ∙ ap (take 16384) e)) run′ in
+      let r′ = ran-on task (begun copy long) (begun-accepts copy long) q k (copy-session copy long q (same ∙ ap (take workWords) e)) run′ in
       let same-answers : one ≡ other = r .0 ∙ sym (r′ .0) in
       let at : (n : ℕ) → n ≤ length steps → wordsAfter copy states′ n ≡ sessionWords task (begun copy long) (q + passedBefore one n) =
       λ n l. r′ .1 n l ∙ ap (λ (answers : List Answer). sessionWords task (begun copy long) (q + passedBefore answers n)) (sym same-answers)
@@ -107,14 +108,14 @@ module _ (task : Task) (before : List ℕ) (a : Accepts task before) where
       λ n. words-hold task (begun copy long) (q + passedBefore one n) (limits .few-hits) (begun-long copy long) in
       record {
         same-answers = same-answers;
-        original-q = λ n l. ap (λ (w : List ℕ). getD w 3 0) (r .1 n l) ∙ holds n .passed-word;
-        copy-q = λ n l. ap (λ (w : List ℕ). getD w 3 0) (at n l) ∙ copy-holds n .passed-word;
-        same-words = λ n l. ap (take 16384) (r .1 n l) ∙ first-same copy long (q + passedBefore one n) ∙ sym (ap (take 16384) (at n l));
+        original-q = λ n l. ap (λ (w : List ℕ). getD w passedAt 0) (r .1 n l) ∙ holds n .passed-word;
+        copy-q = λ n l. ap (λ (w : List ℕ). getD w passedAt 0) (at n l) ∙ copy-holds n .passed-word;
+        same-words = λ n l. ap (take workWords) (r .1 n l) ∙ first-same copy long (q + passedBefore one n) ∙ sym (ap (take workWords) (at n l));
         original-beyond = λ n l.
-            (ap (drop 16384) (r .1 n l)
+            (ap (drop workWords) (r .1 n l)
             ∙ beyond-session task before a (q + passedBefore one n)
-            ∙ sym (ap (drop 16384) e ∙ beyond-session task before a q));
-        copy-beyond = λ n l. ap (drop 16384) (at n l) ∙ copy-beyond-same copy long (q + passedBefore one n);
+            ∙ sym (ap (drop workWords) e ∙ beyond-session task before a q));
+        copy-beyond = λ n l. ap (drop workWords) (at n l) ∙ copy-beyond-same copy long (q + passedBefore one n);
       }
 
   -- the same from start on: a copy of the words as any steps have left them

@@ -4,9 +4,8 @@ use mathlib.Core.Path.{_≡_}
 use mathlib.Core.Bool.{true, false, _&&_}
 use lib.Dec.{leb, ltb}
 use borrow.Author.Tests.{le-leb, leb-true, lt-ltb, ltb-true}
-use Rattle.counts.proofs.Lists.{and-left, and-right}
-use Rattle.sketch.specs.Limits.{textLimit}
-use Rattle.mappings.specs.Limits.{weightLimit, patternLimit}
+use Rattle.base.proofs.Lists.{and-left, and-right}
+use Rattle.base.specs.Limits.{textLimit, weightLimit, patternLimit}
 use Rattle.mappings.specs.Score.{lengthOf}
 use Rattle.mapper.specs.declared.update.Terms.{Terms}
 use Rattle.mapper.specs.declared.answer.Stepped.the-variants.{Found, Spent}

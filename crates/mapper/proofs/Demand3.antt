@@ -10,24 +10,26 @@ use lib.Dec.{ltb}
 use lib.ListN.{length, take, drop, length-take, length-drop, take-append-drop, drop-of-length-le}
 use lib.Seq.{ext-getD, getD-drop, length-take-le, take-all}
 use borrow.Author.Tests.{lt-ltb, le-ltb, ltb-true, ltb-false}
-use Rattle.counts.specs.Replies.{accepted}
-use Rattle.minimizers.specs.Kmers.{Entry, codes}
+use Rattle.base.specs.Replies.{accepted}
+use Rattle.kmers.specs.Kmers.{Entry, codes}
 use Rattle.minimizers.specs.Sketch.{sketch}
 use Rattle.sketch.specs.Replies.{sketchCodes, sketchPositions}
 use Rattle.sketch.proofs.Accepted.{Wrote, sketch-wrote}
 use Rattle.strike.specs.Strike.{struck}
 use Rattle.strike.proofs.Accepted.{strike-wrote}
-use Rattle.mappings.specs.Limits.{workWords}
+use Rattle.base.specs.Limits.{workWords}
 use Rattle.mappings.specs.Score.{Task, taskWith}
 use Rattle.mappings.specs.Cells.{hitCount, cellCount}
-use Rattle.mappings.specs.Rule.{Answer, refused, Step, reported, isAccepted, stepAnswer, ruleAnswer, answers}
+use Rattle.mappings.specs.Rule.{Answer, refused, Step, reported, isAccepted, ruleAnswer}
+use Rattle.mappings.specs.Steps.{stepAnswer, answers}
 use Rattle.mappings.specs.Demand.{passedBefore, Demanded}
 use Rattle.mappings.proofs.Demand.{demand}
 use Rattle.mappings.proofs.Rule.{outcome, outcome-within, passing}
-use Rattle.requests.specs.Requests.{Settings, textOf, patternOf, taskOf}
-use Rattle.start.specs.Start.{startReply, startWords}
-use Rattle.start.specs.WorkWords.{sessionWords}
-use Rattle.start.proofs.WorkWords.{words-hold, beyond-free, session-number, take-session, drop-session}
+use Rattle.requests.specs.declared.Settings.{Settings}
+use Rattle.requests.specs.Requests.{textOf, patternOf, taskOf}
+use Rattle.session_start.specs.Start.{startReply, startWords}
+use Rattle.session_start.specs.WorkWords.{sessionWords}
+use Rattle.session_start.proofs.WorkWords.{words-hold, beyond-free, session-number, take-session, drop-session}
 use Rattle.mapper.specs.declared.answer.Stepped.{Stepped}
 use Rattle.mapper.specs.Answers.{answerOf}
 use Rattle.mapper.specs.Step.{tooFewWords}
@@ -46,11 +48,11 @@ module _ (task : Task) (before : List ℕ) (a : Accepts task before) where
   number q = session-number task before q (limits .few-hits) (limits .many-words)
 
   -- start accepts with any other words too, where they are enough
-  pub accepts-in : (other : List ℕ) → 16384 ≤ length other → Accepts task other
+  pub accepts-in : (other : List ℕ) → workWords ≤ length other → Accepts task other
   unfolding startReply
   accepts-in other l =
-      let e : ltb (length other) 16384 ≡ ltb (length before) 16384 =
-      le-ltb (length other) 16384 l ∙ sym (le-ltb (length before) 16384 (limits .many-words)) in
+      let e : ltb (length other) workWords ≡ ltb (length before) workWords =
+      le-ltb (length other) workWords l ∙ sym (le-ltb (length before) workWords (limits .many-words)) in
       record { accepts = rw e (a .accepts); threshold-fits = a .threshold-fits }
 
   -- what a step of a list answers and leaves, where q cells have been passed
@@ -59,22 +61,23 @@ module _ (task : Task) (before : List ℕ) (a : Accepts task before) where
 
   module _ (q : ℕ) (step : Step) (answer : Stepped) (words : List ℕ)
       (promise : StepPromise (take (step .lent) (sessionWords task before q)) (step .budget) answer words) where
-    refused-step : step .lent < 16384 → StepsOn q step (answerOf answer) (words ++ drop (step .lent) (sessionWords task before q))
+    refused-step : step .lent < workWords → StepsOn q step (answerOf answer) (words ++ drop (step .lent) (sessionWords task before q))
     unfolding stepAnswer isAccepted tooFewWords
     refused-step l =
-        let few : length (take (step .lent) (sessionWords task before q)) < 16384 = rw (length-take (step .lent) (sessionWords task before q)) (omega arith) in
-        let p = promise .few (lt-ltb (length (take (step .lent) (sessionWords task before q))) 16384 few) in
+        let few : length (take (step .lent) (sessionWords task before q)) < workWords =
+        rw (length-take (step .lent) (sessionWords task before q)) (omega arith) in
+        let p = promise .few (lt-ltb (length (take (step .lent) (sessionWords task before q))) workWords few) in
         let z : q ≡ q + 0 = omega arith in
-        rw (lt-ltb (step .lent) 16384 l) (
+        rw (lt-ltb (step .lent) workWords l) (
           p .0,
           ap (λ (xs : List ℕ). xs ++ drop (step .lent) (sessionWords task before q)) (p .1)
               ∙ take-append-drop (step .lent) (sessionWords task before q) ∙ ap (sessionWords task before) z,
         )
 
-    accepted-step : 16384 ≤ step .lent → q ≤ cellCount (hitCount task)
+    accepted-step : workWords ≤ step .lent → q ≤ cellCount (hitCount task)
         → StepsOn q step (answerOf answer) (words ++ drop (step .lent) (sessionWords task before q))
     unfolding stepAnswer isAccepted
-    accepted-step l k = rw (le-ltb (step .lent) 16384 l) (go (ltb (length before) (step .lent)) refl)
+    accepted-step l k = rw (le-ltb (step .lent) workWords l) (go (ltb (length before) (step .lent)) refl)
       where
         q′ : ℕ
         q′ = q + reported (ruleAnswer task q (step .budget))
@@ -101,11 +104,11 @@ module _ (task : Task) (before : List ℕ) (a : Accepts task before) where
             )
 
     one-step : q ≤ cellCount (hitCount task) → StepsOn q step (answerOf answer) (words ++ drop (step .lent) (sessionWords task before q))
-    one-step k = go (ltb (step .lent) 16384) refl
+    one-step k = go (ltb (step .lent) workWords) refl
       where
-        go : (b : Bool) → ltb (step .lent) 16384 ≡ b → StepsOn q step (answerOf answer) (words ++ drop (step .lent) (sessionWords task before q))
-        go true e = refused-step (ltb-true (step .lent) 16384 e)
-        go false e = accepted-step (ltb-false (step .lent) 16384 e) k
+        go : (b : Bool) → ltb (step .lent) workWords ≡ b → StepsOn q step (answerOf answer) (words ++ drop (step .lent) (sessionWords task before q))
+        go true e = refused-step (ltb-true (step .lent) workWords e)
+        go false e = accepted-step (ltb-false (step .lent) workWords e) k
 
   -- q stays among the cells
   within-step : (q : ℕ) (step : Step) → q ≤ cellCount (hitCount task) → q + reported (stepAnswer task q step) ≤ cellCount (hitCount task)
@@ -150,15 +153,15 @@ module _ (task : Task) (before : List ℕ) (a : Accepts task before) where
           further n (le-of-suc-le-suc l) ∙ ap (sessionWords task before) count
 
   -- beyond the first 16,384 a session's words are those before start
-  pub beyond-session : (q : ℕ) → drop 16384 (sessionWords task before q) ≡ drop 16384 before
+  pub beyond-session : (q : ℕ) → drop workWords (sessionWords task before q) ≡ drop workWords before
   beyond-session q =
       let holds = words-hold task before q (limits .few-hits) (limits .many-words) .held in
-      ext-getD 0 (drop 16384 (sessionWords task before q)) (drop 16384 before)
-      (length-drop 16384 (sessionWords task before q) ∙ ap (λ (n : ℕ). n - 16384) (holds .number) ∙ sym (length-drop 16384 before))
+      ext-getD 0 (drop workWords (sessionWords task before q)) (drop workWords before)
+      (length-drop workWords (sessionWords task before q) ∙ ap (λ (n : ℕ). n - workWords) (holds .number) ∙ sym (length-drop workWords before))
       (λ i k.
-      (getD-drop 16384 (sessionWords task before q) i 0
-      ∙ holds .free-word (16384 + i) (beyond-free task (limits .few-hits) before 16384 (omega arith) (limits .many-words) (16384 + i) (omega arith))
-      ∙ sym (getD-drop 16384 before i 0)))
+      (getD-drop workWords (sessionWords task before q) i 0
+      ∙ holds .free-word (workWords + i) (beyond-free task (limits .few-hits) before workWords (omega arith) (limits .many-words) (workWords + i) (omega arith))
+      ∙ sym (getD-drop workWords before i 0)))
 
   -- ---- any codes that start accepts
 
@@ -183,7 +186,7 @@ module _ (task : Task) (before : List ℕ) (a : Accepts task before) where
         demanded = demanded;
         words = λ n l. subst (FirstWords task (passedBefore heard n)) (sym (at n l)) (first-words (passedBefore heard n));
         unchanged = λ n l few. at (suc n) l ∙ ap (sessionWords task before) (demanded .unmoved n l few) ∙ sym (at n (omega arith));
-        beyond = λ n l. ap (drop 16384) (at n l) ∙ beyond-session (passedBefore heard n) ∙ sym (ap (drop 16384) fresh ∙ beyond-session 0);
+        beyond = λ n l. ap (drop workWords) (at n l) ∙ beyond-session (passedBefore heard n) ∙ sym (ap (drop workWords) fresh ∙ beyond-session 0);
       }
 
 -- ---- from letters: by the laws of sketch and strike, what they write is what start is given

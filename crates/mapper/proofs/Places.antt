@@ -1,15 +1,15 @@
 -- The place of a session after q cells is the cell with number q + 1, or behind the last column.
--- Assumes nothing.
 use Prim.Native.Nat.{ℕ, zero, suc, _+_, _-_, _≤_, _<_}
 use native.Mathlib.Nat.{not-suc-le-zero}
 use native.Mathlib.Omega.{arith}
 use mathlib.Core.Path.{_≡_, refl, sym, subst}
 use mathlib.Core.Logic.{_⊎_, inl, inr}
 use borrow.Author.Tests.{lt-ltb, le-ltb}
-use Rattle.counts.proofs.Lists.{eq-or-ne}
-use Rattle.mappings.specs.Cells.{cellCount, place}
+use Rattle.base.proofs.Lists.{eq-or-ne}
+use Rattle.mappings.specs.Cells.{cellCount}
+use Rattle.mappings.specs.Places.{place}
 use Rattle.mappings.proofs.Cells.{cellCount-suc, cellCount-mono}
-use Rattle.start.specs.WorkWords.{columnsLeft, nextRow}
+use Rattle.session_start.specs.WorkWords.{columnsLeft, nextRow}
 
 -- the columns left and the row of the next cell
 pub record PlaceIs (h q columns row : ℕ) : Type 0 where

@@ -9,15 +9,19 @@ use mathlib.Core.List.{List, [], _∷_}
 use lib.Dec.{ltb}
 use lib.ListN.{length, getD}
 use borrow.Author.Tests.{lt-ltb, le-ltb, ltb-true}
-use Rattle.counts.proofs.Lists.{clash, eq-or-ne}
+use Rattle.base.specs.Limits.{weightLimit, hitLimit, workWords}
+use Rattle.base.proofs.Lists.{clash, eq-or-ne}
 use Rattle.mappings.specs.Score.{Task}
 use Rattle.mappings.specs.Cells.{hitCount, cells, cellCount}
-use Rattle.mappings.specs.Rule.{Answer, reported, moreCells, ruleAnswer}
+use Rattle.mappings.specs.Rule.{Answer, reported, ruleAnswer}
+use Rattle.mappings.specs.Steps.{moreCells}
 use Rattle.mappings.proofs.Cells.{cellAt, stands}
 use Rattle.mappings.proofs.HitCodes.{cell-shared}
-use Rattle.start.specs.Start.{badWeights}
-use Rattle.start.specs.WorkWords.{columnsLeft, nextRow, nextShared, sessionWords}
-use Rattle.start.proofs.WorkWords.{Holds, words-hold}
+use Rattle.session_words.specs.FirstWords.{hitsAt}
+use Rattle.session_words.specs.Layout.{columnsAt, rowAt, mAt}
+use Rattle.session_start.specs.Start.{badWeights}
+use Rattle.session_start.specs.WorkWords.{columnsLeft, nextRow, nextShared, sessionWords}
+use Rattle.session_start.proofs.WorkWords.{Holds, words-hold}
 use Rattle.mapper.specs.declared.answer.Stepped.the-variants.{Spent, TooFewWords, BadWords}
 use Rattle.mapper.specs.Answers.{answerOf}
 use Rattle.mapper.specs.Step.{tooFewWords, badWords}
@@ -36,7 +40,7 @@ use Rattle.mapper.proofs.Within.{Kept, kept-walk}
 pub record InSession (task : Task) (before : List ℕ) (q : ℕ) (work : List ℕ) : Type 0 where
   pub limits : Admitted task (length before) (hitCount task ∷ [])
   pub held : Holds task before q work
-  pub number : 16384 ≤ length work
+  pub number : workWords ≤ length work
 
 pub in-session : (task : Task) (before : List ℕ) (q : ℕ) (work : List ℕ) → Accepts task before → work ≡ sessionWords task before q
     → InSession task before q work
@@ -46,7 +50,7 @@ in-session task before q work a e =
     record {
       limits = l;
       held = subst (Holds task before q) (sym e) h;
-      number = subst (λ (w : List ℕ). 16384 ≤ length w) (sym e) (rw (h .held .number) (l .many-words));
+      number = subst (λ (w : List ℕ). workWords ≤ length w) (sym e) (rw (h .held .number) (l .many-words));
     }
 
 -- the place lies within the columns
@@ -100,32 +104,32 @@ good-session task before q work s l =
       b .u-word,
       b .v-word,
       s .held .passed-word,
-      le-ltb 2048 (hitCount task) (m .few-hits),
+      le-ltb hitLimit (hitCount task) (m .few-hits),
       le-ltb (task .u) 1 (m .lowest-u),
-      le-ltb 1000 (task .u) (m .limited .small-u),
+      le-ltb weightLimit (task .u) (m .limited .small-u),
       le-ltb (task .v) 1 (m .lowest-v),
-      le-ltb 1000 (task .v) (m .limited .small-v),
+      le-ltb weightLimit (task .v) (m .limited .small-v),
     )
     (le-ltb (cellCount (hitCount task)) q l)
 
 -- ---- the ways
 
 module _ (work : List ℕ) (budget : ℕ) where
-  pub few-promise : length work < 16384 → StepPromise work budget TooFewWords work
+  pub few-promise : length work < workWords → StepPromise work budget TooFewWords work
   unfolding tooFewWords
   few-promise l = record {
     few = λ e. (refl, refl);
-    bad = λ e f. clash (lt-ltb (length work) 16384 l) e;
+    bad = λ e f. clash (lt-ltb (length work) workWords l) e;
     session = λ task before q a k e. absurd (let s = in-session task before q work a e in omega (arith, s .number));
     number = refl;
     beyond = refl;
   }
 
-  module _ (l : 16384 ≤ length work) where
+  module _ (l : workWords ≤ length work) where
     pub bad-promise : badWords work ≡ true → StepPromise work budget BadWords work
     unfolding tooFewWords
     bad-promise b = record {
-      few = λ e. clash e (le-ltb (length work) 16384 l);
+      few = λ e. clash e (le-ltb (length work) workWords l);
       bad = λ e f. (refl, refl);
       session = λ task before q a k e. clash b (good-session task before q work (in-session task before q work a e) k);
       number = refl;
@@ -134,10 +138,10 @@ module _ (work : List ℕ) (budget : ℕ) where
 
     module _ (good : badWords work ≡ false) where
       -- a place that lies in no column is no session's
-      pub lost-promise : (getD work 0 0 < getD work 7 0) ⊎ (getD work 7 0 < getD work 8 0) → StepPromise work budget (Spent 0) work
+      pub lost-promise : (getD work hitsAt 0 < getD work columnsAt 0) ⊎ (getD work columnsAt 0 < getD work rowAt 0) → StepPromise work budget (Spent 0) work
       unfolding tooFewWords
       lost-promise out = record {
-        few = λ e. clash e (le-ltb (length work) 16384 l);
+        few = λ e. clash e (le-ltb (length work) workWords l);
         bad = λ e f. clash f good;
         session = λ task before q a k e. absurd (lost task before q (in-session task before q work a e) out);
         number = refl;
@@ -145,7 +149,7 @@ module _ (work : List ℕ) (budget : ℕ) where
       }
         where
           lost : (task : Task) (before : List ℕ) (q : ℕ) → InSession task before q work
-              → (getD work 0 0 < getD work 7 0) ⊎ (getD work 7 0 < getD work 8 0) → ⊥
+              → (getD work hitsAt 0 < getD work columnsAt 0) ⊎ (getD work columnsAt 0 < getD work rowAt 0) → ⊥
           lost task before q s (inl o) =
               omega (arith, s .held .held .h-word, s .held .columns-word, columns-within (hitCount task) q)
           lost task before q s (inr o) =
@@ -153,12 +157,12 @@ module _ (work : List ℕ) (budget : ℕ) where
 
       -- the walk from the place in the words
       abbrev pub walked : Walk
-      walked = walkOn (termsIn work) budget (getD work 7 0) (getD work 8 0) (getD work 9 0) budget work
+      walked = walkOn (termsIn work) budget (getD work columnsAt 0) (getD work rowAt 0) (getD work mAt 0) budget work
 
       pub walk-promise : StepPromise work budget (walked .answer) (walked .words)
       unfolding tooFewWords termsIn
       walk-promise = record {
-        few = λ e. clash e (le-ltb (length work) 16384 l);
+        few = λ e. clash e (le-ltb (length work) workWords l);
         bad = λ e f. clash f good;
         session = λ task before q a k e. ruled task before q a k (in-session task before q work a e);
         number = kept .number;
@@ -166,7 +170,7 @@ module _ (work : List ℕ) (budget : ℕ) where
       }
         where
           kept : Kept work (walked .words)
-          kept = kept-walk (termsIn work) budget (getD work 7 0) (getD work 8 0) (getD work 9 0) budget work l
+          kept = kept-walk (termsIn work) budget (getD work columnsAt 0) (getD work rowAt 0) (getD work mAt 0) budget work l
 
           terms-are : (task : Task) (before : List ℕ) (q : ℕ) → InSession task before q work → termsIn work ≡ termsOf task
           terms-are task before q s =
@@ -180,12 +184,12 @@ module _ (work : List ℕ) (budget : ℕ) where
               let m = s .limits in
               let held = s .held .held in
               let none : budget - budget ≡ 0 = omega arith in
-              let at : PlaceAt task q (getD work 7 0) (getD work 8 0) (getD work 9 0) =
+              let at : PlaceAt task q (getD work columnsAt 0) (getD work rowAt 0) (getD work mAt 0) =
               rw (s .held .columns-word, s .held .row-word, s .held .shared-word) (placed task q k) in
               let r : Ruled task (m .limited) (a .threshold-fits) (m .few-hits) before (m .many-words) q budget q budget walked =
               rw (terms-are task before q s)
-              (walk-rule task (m .limited) (a .threshold-fits) (m .few-hits) before (m .many-words) q budget (getD work 7 0) q (getD work 8 0)
-              (getD work 9 0) budget work held (s .held .passed-word) (omega arith) (le-refl budget) at)
+              (walk-rule task (m .limited) (a .threshold-fits) (m .few-hits) before (m .many-words) q budget (getD work columnsAt 0) q (getD work rowAt 0)
+              (getD work mAt 0) budget work held (s .held .passed-word) (omega arith) (le-refl budget) at)
               in
               let answer : answerOf (walked .answer) ≡ ruleAnswer task q budget =
               r .answer-is ∙ ap (λ (n : ℕ). moreCells n (ruleAnswer task q budget)) none ∙ more-none (ruleAnswer task q budget) in

@@ -9,24 +9,30 @@ use lib.Dec.{ltb}
 use lib.ListN.{length, getD}
 use lib.Signed.{mag}
 use borrow.Author.Tests.{ne-eqb, ltb-true, ltb-false}
-use Rattle.counts.proofs.Lists.{eq-or-ne}
+use Rattle.base.specs.Limits.{hitLimit, workWords, wordLimit}
+use Rattle.base.proofs.Lists.{eq-or-ne}
 use Rattle.mappings.specs.Score.{Task, scoreOf, sharedOf}
 use Rattle.mappings.specs.Bias.{bias}
-use Rattle.mappings.specs.Cells.{hits, hitCount, cellCount, mappingOf, isFinalCell, leftEnd, rightEnd, place}
-use Rattle.mappings.specs.Rule.{found, finished, spent, reported, moreCells, ruleAnswer}
+use Rattle.mappings.specs.Cells.{hits, hitCount, cellCount, mappingOf, leftEnd, rightEnd}
+use Rattle.mappings.specs.FinalTest.{isFinalCell}
+use Rattle.mappings.specs.Places.{place}
+use Rattle.mappings.specs.Rule.{found, finished, spent, reported, ruleAnswer}
+use Rattle.mappings.specs.Steps.{moreCells}
 use Rattle.mappings.proofs.Cells.{cellAt, cellCount-mono, place-row, place-column, place-last, place-within}
 use Rattle.mappings.proofs.HitCodes.{cell-shared}
 use Rattle.mappings.proofs.Range.{Limited}
 use Rattle.mappings.proofs.Rule.{rule-no-budget, rule-none-left, more-cells}
-use Rattle.start.specs.Tables.{whole}
-use Rattle.start.specs.WorkWords.{bestBefore, bestAfter, columnsLeft, nextRow, nextShared, sessionWords}
-use Rattle.start.proofs.WorkWords.{HoldsBlocks, hold-words}
+use Rattle.session_words.specs.FirstWords.{passedAt}
+use Rattle.session_words.specs.Layout.{indexFrom}
+use Rattle.session_start.specs.Tables.{whole}
+use Rattle.session_start.specs.WorkWords.{bestBefore, bestAfter, columnsLeft, nextRow, nextShared, sessionWords}
+use Rattle.session_start.proofs.WorkWords.{HoldsBlocks, hold-words}
 use Rattle.mapper.specs.declared.place.Place.{Place}
 use Rattle.mapper.specs.declared.answer.Stepped.{Stepped}
 use Rattle.mapper.specs.declared.answer.Stepped.the-variants.{Found}
 use Rattle.mapper.specs.Deciding.{decided}
 use Rattle.mapper.specs.Answers.{answerOf}
-use Rattle.column.specs.Passing.{lowered, seenBefore, Update}
+use Rattle.session_cells.specs.Passing.{lowered, seenBefore, Update}
 use Rattle.mapper.specs.Walking.{topShared, settled, saved, lineOf, Walk, spentWalk, finishedWalk, foundWalk, partOf, withPart, columnUpdate, walkOn}
 use Rattle.mapper.proofs.CellTests.{sharedAt, termsOf, final-decided}
 use Rattle.mapper.proofs.Chunk.{PartHolds, sessionLine, Chunk, all-passed, one-found, chunk, more-none}
@@ -88,12 +94,12 @@ passed-from : (q₀ budget left n rest q : ℕ) → rest ≡ left - n → n ≤ 
     → q₀ + (budget - rest) ≡ q + n
 passed-from q₀ budget left n rest q e a b f = omega arith
 
-module _ (task : Task) (limited : Limited task) (threshold-fits : mag (task .threshold) < bias) (small : hitCount task ≤ 2048) (before : List ℕ)
-    (many : 16384 ≤ length before) where
+module _ (task : Task) (limited : Limited task) (threshold-fits : mag (task .threshold) < bias) (small : hitCount task ≤ hitLimit) (before : List ℕ)
+    (many : workWords ≤ length before) where
   -- the number of cells is far below 2^32
-  few-cells : (q : ℕ) → q ≤ cellCount (hitCount task) → q < 4294967296
+  few-cells : (q : ℕ) → q ≤ cellCount (hitCount task) → q < wordLimit
   unfolding cellCount
-  few-cells q l = let m : cellCount (hitCount task) ≤ 2098176 = cellCount-mono (hitCount task) 2048 small in omega arith
+  few-cells q l = let m : cellCount (hitCount task) ≤ cellCount hitLimit = cellCount-mono (hitCount task) hitLimit small in omega arith
 
   -- the line of a column, read from the words
   line-is : (q j : ℕ) (work : List ℕ) → j < hitCount task → HoldsBlocks task before q work
@@ -111,7 +117,7 @@ module _ (task : Task) (limited : Limited task) (threshold-fits : mag (task .thr
 
   -- the words with the place of q saved are those of the session after q cells
   saved-is : (q cells : ℕ) (work : List ℕ) (p : Place) → HoldsBlocks task before q work → q ≤ cellCount (hitCount task)
-      → getD work 3 0 + cells ≡ q → PlaceAt task q (p .columns) (p .row) (p .m) → saved work p cells ≡ sessionWords task before q
+      → getD work passedAt 0 + cells ≡ q → PlaceAt task q (p .columns) (p .row) (p .m) → saved work p cells ≡ sessionWords task before q
   saved-is q cells work p h l e at =
       let w = place-words task q (p .columns) (p .row) (p .m) at in
       hold-words task before q small many (saved work p cells)
@@ -123,7 +129,7 @@ module _ (task : Task) (limited : Limited task) (threshold-fits : mag (task .thr
       pub answer-is : answerOf (walk .answer) ≡ moreCells (budget - left) (ruleAnswer task q left)
       pub words-are : walk .words ≡ sessionWords task before (q₀ + reported (answerOf (walk .answer)))
 
-    no-column : (q row m left : ℕ) (work : List ℕ) → HoldsBlocks task before q work → getD work 3 0 ≡ q₀ → q₀ + (budget - left) ≡ q
+    no-column : (q row m left : ℕ) (work : List ℕ) → HoldsBlocks task before q work → getD work passedAt 0 ≡ q₀ → q₀ + (budget - left) ≡ q
         → PlaceAt task q 0 row m → Ruled q left (finishedWalk work (record { columns = 0; row = row; m = m }) (budget - left))
     unfolding finishedWalk
     no-column q row m left work h e₀ e at =
@@ -137,7 +143,7 @@ module _ (task : Task) (limited : Limited task) (threshold-fits : mag (task .thr
         }
 
     -- the budget ends at a cell
-    at-budget : (q j row m cells : ℕ) (work : List ℕ) → HoldsBlocks task before q work → getD work 3 0 ≡ q₀ → q₀ + cells ≡ q
+    at-budget : (q j row m cells : ℕ) (work : List ℕ) → HoldsBlocks task before q work → getD work passedAt 0 ≡ q₀ → q₀ + cells ≡ q
         → PlaceAt task q (suc j) row m
         → (answerOf (spentWalk work (record { columns = suc j; row = row; m = m }) cells .answer) ≡ moreCells cells (ruleAnswer task q 0))
         × (spentWalk work (record { columns = suc j; row = row; m = m }) cells .words ≡ sessionWords task before (q₀ + cells))
@@ -153,7 +159,7 @@ module _ (task : Task) (limited : Limited task) (threshold-fits : mag (task .thr
         )
 
     -- so does a walk that began at q and passed the cells up to there
-    spent-ruled : (q left q′ passed j row m cells : ℕ) (work : List ℕ) → HoldsBlocks task before q′ work → getD work 3 0 ≡ q₀
+    spent-ruled : (q left q′ passed j row m cells : ℕ) (work : List ℕ) → HoldsBlocks task before q′ work → getD work passedAt 0 ≡ q₀
         → q₀ + cells ≡ q′ → PlaceAt task q′ (suc j) row m → ruleAnswer task q left ≡ moreCells passed (ruleAnswer task q′ 0)
         → cells ≡ budget - left + passed → Ruled q left (spentWalk work (record { columns = suc j; row = row; m = m }) cells)
     unfolding spentWalk
@@ -189,7 +195,7 @@ module _ (task : Task) (limited : Limited task) (threshold-fits : mag (task .thr
             (next-column q j words l (ap (λ (n : ℕ). place (hitCount task) (suc n) j) (sym f) ∙ e) h)
 
     -- a final cell of the column
-    at-final : (q j row k m left : ℕ) (work : List ℕ) (update : Update) → HoldsBlocks task before q work → getD work 3 0 ≡ q₀
+    at-final : (q j row k m left : ℕ) (work : List ℕ) (update : Update) → HoldsBlocks task before q work → getD work passedAt 0 ≡ q₀
         → q₀ + (budget - left) ≡ q → left ≤ budget → suc k ≤ left → j < hitCount task → row + k ≤ j
         → place (hitCount task) row j ≡ q
         → update .answer .row ≡ suc (row + k) → update .answer .m ≡ sharedAt task (row + k) j → isFinalCell task (cellAt (row + k) j) ≡ true
@@ -205,17 +211,18 @@ module _ (task : Task) (limited : Limited task) (threshold-fits : mag (task .thr
         let answer : ruleAnswer task q left ≡ found (mappingOf task (cellAt (row + k) j)) (suc k) =
         ap (ruleAnswer task q) whole-budget ∙ rule (left - suc k) in
         let row-in : row + k < hitCount task = omega arith in
-        let left-end : getD words (4096 + update .answer .row - 1) 0 ≡ getD (hits task) (row + k) 0 =
-        (let f : 4096 + suc (row + k) - 1 ≡ 4096 + (row + k) = omega arith in ap (λ (n : ℕ). getD words (4096 + n - 1) 0) er
+        let left-end : getD words (indexFrom + update .answer .row - 1) 0 ≡ getD (hits task) (row + k) 0 =
+        (let f : indexFrom + suc (row + k) - 1 ≡ indexFrom + (row + k) = omega arith in ap (λ (n : ℕ). getD words (indexFrom + n - 1) 0) er
         ∙ ap (λ (n : ℕ). getD words n 0) f ∙ h′ .index-word (row + k) row-in)
         in
-        let right-end : getD words (4096 + suc j - 1) 0 ≡ getD (hits task) j 0 =
-        (let f : 4096 + suc j - 1 ≡ 4096 + j = omega arith in ap (λ (n : ℕ). getD words n 0) f ∙ h′ .index-word j l)
+        let right-end : getD words (indexFrom + suc j - 1) 0 ≡ getD (hits task) j 0 =
+        (let f : indexFrom + suc j - 1 ≡ indexFrom + j = omega arith in ap (λ (n : ℕ). getD words n 0) f ∙ h′ .index-word j l)
         in
         let shares : sharedAt task (row + k) j ≡ sharedOf task (getD (hits task) (row + k) 0) (getD (hits task) j 0) =
         sym (cell-shared task (row + k) j inside l) in
         let passed = budget - (left - (update .answer .row - row)) in
-        let decides : decided (termsOf task) (getD words (4096 + update .answer .row - 1) 0) (getD words (4096 + suc j - 1) 0) (update .answer .m) passed
+        let decides : decided (termsOf task) (getD words (indexFrom + update .answer .row - 1) 0) (getD words (indexFrom + suc j - 1) 0)
+        (update .answer .m) passed
         ≡ Found (getD (hits task) (row + k) 0) (getD (hits task) j 0) (scoreOf task (getD (hits task) (row + k) 0) (getD (hits task) j 0))
         (sharedAt task (row + k) j) passed =
         rw (left-end, right-end, em) (final-decided task limited threshold-fits (row + k) j inside l final passed)
@@ -229,7 +236,7 @@ module _ (task : Task) (limited : Limited task) (threshold-fits : mag (task .thr
         (settled words (suc j) (update .answer .row) (lowered (update .answer .m) 1) .m) =
         rw er (settled-at (q + suc k) j (row + k) (update .answer .m) words l inside further lower′ h′)
         in
-        let count : getD words 3 0 + (budget - (left - (update .answer .row - row))) ≡ q + suc k =
+        let count : getD words passedAt 0 + (budget - (left - (update .answer .row - row))) ≡ q + suc k =
         rw (passed-back task limited threshold-fits small before many q work (update .part) h, e₀, cells) (omega arith) in
         let total : q + suc k ≡ q₀ + (budget - (left - (update .answer .row - row))) = rw cells (omega arith) in
         record {
@@ -257,7 +264,7 @@ module _ (task : Task) (limited : Limited task) (threshold-fits : mag (task .thr
         seen (suc i) l p = p .best-word i l
 
     -- the other cells of the column are passed, and the budget ends there or the next column begins
-    pub walk-rule : (columns q row m left : ℕ) (work : List ℕ) → HoldsBlocks task before q work → getD work 3 0 ≡ q₀
+    pub walk-rule : (columns q row m left : ℕ) (work : List ℕ) → HoldsBlocks task before q work → getD work passedAt 0 ≡ q₀
         → q₀ + (budget - left) ≡ q → left ≤ budget → PlaceAt task q columns row m
         → Ruled q left (walkOn (termsOf task) budget columns row m left work)
     walk-rule zero q row m left work h e₀ e fits at = no-column q row m left work h e₀ e at

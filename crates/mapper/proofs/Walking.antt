@@ -10,18 +10,21 @@ use lib.Dec.{ltb}
 use borrow.Author.Tests.{ne-eqb, lt-ltb, le-ltb}
 use lib.ListN.{length, getD, drop, set, length-drop}
 use lib.Seq.{getD-set-other, length-take-le}
-use Rattle.column.specs.Passing.{seenBefore, columnPass}
-use Rattle.column.specs.declared.cells.Line.{Line}
-use Rattle.column.specs.declared.cells.Passed.{Passed}
-use Rattle.column.proofs.Passing.{bounded}
-use Rattle.column.proofs.Fitting.{fits-all, pass-fits}
+use Rattle.base.specs.Limits.{weightLimit, hitLimit, workWords, wordLimit}
+use Rattle.session_words.specs.FirstWords.{uAt, vAt, passedAt}
+use Rattle.session_words.specs.Layout.{columnsAt, rowAt, mAt, indexFrom, partLength}
+use Rattle.session_cells.specs.Passing.{seenBefore, columnPass}
+use Rattle.session_cells.specs.declared.cells.Line.{Line}
+use Rattle.session_cells.specs.declared.cells.Passed.{Passed}
+use Rattle.session_cells.proofs.Passing.{bounded}
+use Rattle.session_cells.proofs.Fitting.{fits-all, pass-fits}
 use Rattle.mapper.specs.declared.update.Terms.{Terms}
 use Rattle.mapper.specs.declared.place.Place.{Place}
 use Rattle.mapper.specs.Walking.{termsIn, saved, settled, topShared, spentWalk, finishedWalk, foundWalk, withPart, partOf, lineOf, columnUpdate, walkOn}
 
 -- the terms read from words with small weights
-pub small-terms : (work : List ℕ) (terms : Terms) → terms ≡ termsIn work → (getD work 1 0 ≤ 1000) × (getD work 2 0 ≤ 1000)
-    → (terms .u ≤ 1000) × (terms .v ≤ 1000)
+pub small-terms : (work : List ℕ) (terms : Terms) → terms ≡ termsIn work → (getD work uAt 0 ≤ weightLimit) × (getD work vAt 0 ≤ weightLimit)
+    → (terms .u ≤ weightLimit) × (terms .v ≤ weightLimit)
 unfolding termsIn
 small-terms work terms e small = rw e small
 
@@ -96,18 +99,18 @@ update-stops terms columns row m left work p h r e =
 -- ---- a column as the code passes it
 
 -- the part that a column is lent has its three blocks
-part-length : (work : List ℕ) → 16384 ≤ length work → length (partOf work) ≡ 6144
+part-length : (work : List ℕ) → workWords ≤ length work → length (partOf work) ≡ partLength
 unfolding partOf
-part-length work l = length-take-le 6144 (drop 4096 work) (let n = length-drop 4096 work in omega arith)
+part-length work l = length-take-le partLength (drop indexFrom work) (let n = length-drop indexFrom work in omega arith)
 
 module _ (terms : Terms) (columns row m left : ℕ) (work : List ℕ) (line : Line) (n : ℕ) where
-  pub update-is : 0 < columns → columns ≤ 2048 → row ≤ columns → 16384 ≤ length work
+  pub update-is : 0 < columns → columns ≤ hitLimit → row ≤ columns → workWords ≤ length work
       → line ≡ lineOf work terms (columns - 1)
       → n ≡ min left (columns - row)
       → columnPass line row (row + n) m (partOf work) ≡ columnUpdate terms (columns - 1) row m left work
   unfolding columnUpdate
   update-is h small r long l k =
-      let s : row + n ≤ 2048 = omega arith in
+      let s : row + n ≤ hitLimit = omega arith in
       let from : row ≤ row + n = omega arith in
       let g : row + n - row ≡ min left (suc (columns - 1) - row) = omega arith in
       pass-fits line row (row + n) m (partOf work) (fits-all (partOf work) row (row + n) (part-length work long) from s)
@@ -119,13 +122,13 @@ pub saved-other : (work : List ℕ) (place : Place) (cells n : ℕ) → (n ≡ 3
     → getD (saved work place cells) n 0 ≡ getD work n 0
 unfolding saved
 saved-other work place cells n a b c d =
-    let saved₃ = set work 3 ((getD work 3 0 + cells) % 4294967296) in
-    let saved₇ = set saved₃ 7 (place .columns) in
-    let saved₈ = set saved₇ 8 (place .row) in
-    getD-set-other saved₈ 9 n (place .m) 0 d
-    ∙ getD-set-other saved₇ 8 n (place .row) 0 c
-    ∙ getD-set-other saved₃ 7 n (place .columns) 0 b
-    ∙ getD-set-other work 3 n ((getD work 3 0 + cells) % 4294967296) 0 a
+    let saved₃ = set work passedAt ((getD work passedAt 0 + cells) % wordLimit) in
+    let saved₇ = set saved₃ columnsAt (place .columns) in
+    let saved₈ = set saved₇ rowAt (place .row) in
+    getD-set-other saved₈ mAt n (place .m) 0 d
+    ∙ getD-set-other saved₇ rowAt n (place .row) 0 c
+    ∙ getD-set-other saved₃ columnsAt n (place .columns) 0 b
+    ∙ getD-set-other work passedAt n ((getD work passedAt 0 + cells) % wordLimit) 0 a
 
 pub saved-behind : (work : List ℕ) (place : Place) (cells n : ℕ) → 10 ≤ n → getD (saved work place cells) n 0 ≡ getD work n 0
 saved-behind work place cells n l = saved-other work place cells n (λ e. omega arith) (λ e. omega arith) (λ e. omega arith) (λ e. omega arith)

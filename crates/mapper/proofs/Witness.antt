@@ -9,12 +9,14 @@ use lib.Dec.{ltb}
 use lib.IntN.{pos}
 use lib.ListN.{length, take, drop, replicate, length-replicate}
 use borrow.Author.Tests.{ltb-true, ltb-false}
-use Rattle.counts.specs.Replies.{accepted}
-use Rattle.mappings.specs.Limits.{workWords}
+use Rattle.base.specs.Replies.{accepted}
+use Rattle.base.specs.Limits.{workWords}
 use Rattle.mappings.specs.Rule.{Answer, Step}
+use Rattle.strike.proofs.Compute.{strike-computes}
 use Rattle.mappings.proofs.Compute.{mappings-compute}
-use Rattle.requests.specs.Requests.{Settings, taskOf}
-use Rattle.start.specs.Start.{badWeights, startReply, startWords}
+use Rattle.requests.specs.declared.Settings.{Settings}
+use Rattle.requests.specs.Requests.{taskOf}
+use Rattle.session_start.specs.Start.{badWeights, startReply, startWords}
 use Rattle.mapper.specs.declared.answer.Stepped.{Stepped}
 use Rattle.mapper.specs.declared.answer.Stepped.the-variants.{TooFewWords, BadWords}
 use Rattle.mapper.specs.Answers.{answerOf}
@@ -52,12 +54,12 @@ buffers = record {
 
 -- start with the number of work words written out, so that no list of them is computed
 starts : startReply (startTask asked text read buffers 4 3 4) workWords ≡ accepted (4 ∷ [])
-unfolding mappings-compute badWeights startReply textCodes textPositions readCodes struckCodes startTask
+unfolding strike-computes mappings-compute badWeights startReply textCodes textPositions readCodes struckCodes startTask
 starts = refl
 
 -- four entries of the text, three of the read, four that strike keeps, and four hits
 pub all-accept : AllAccept asked text read buffers 4 3 4 4
-unfolding mappings-compute textCodes textPositions
+unfolding strike-computes mappings-compute textCodes textPositions
 all-accept = record {
   sketch-text = refl;
   sketch-read = refl;

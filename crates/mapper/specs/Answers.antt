@@ -1,5 +1,4 @@
 -- What step's answer is in document 01: its case, number and values.
--- Assumes nothing.
 use Rattle.mappings.specs.Rule.{Answer, found, finished, spent, refused}
 use Rattle.mapper.specs.declared.answer.Stepped.{Stepped}
 use Rattle.mapper.specs.declared.answer.Stepped.the-variants.{Found, Finished, Spent, TooFewWords, BadWords}

@@ -4,9 +4,8 @@ use mathlib.Core.Bool.{Bool, cond, _&&_}
 use lib.Dec.{leb, ltb}
 use lib.IntN.{ℤ}
 use lib.Signed.{leZ}
-use Rattle.sketch.specs.Limits.{textLimit}
-use Rattle.mappings.specs.Bias.{unbiased}
-use Rattle.mappings.specs.Limits.{weightLimit, patternLimit}
+use Rattle.base.specs.Limits.{textLimit, weightLimit, patternLimit}
+use Rattle.mappings.specs.Unbiased.{unbiased}
 use Rattle.mappings.specs.Score.{linear, lengthOf}
 use Rattle.mapper.specs.declared.update.Terms.{Terms}
 use Rattle.mapper.specs.declared.answer.Stepped.{Stepped}

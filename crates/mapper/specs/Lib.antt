@@ -1,9 +1,8 @@
--- What step answers, and when it refuses, as document 01 says it.
+-- What step answers, when it refuses and what it promises, and demand 3 over lists of such steps, as document 01 says it.
 pub mod Answers
 pub mod Step
--- what a walk does to any words, as the code goes
-pub mod Deciding
-pub mod Walking
--- what step promises, and demand 3 over lists of such steps
 pub mod Promise
 pub mod Sessions
+-- what only code or proofs speak of: what a walk does to any words
+pub mod Deciding
+pub mod Walking

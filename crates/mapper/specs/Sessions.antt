@@ -4,17 +4,17 @@ use mathlib.Core.Path.{_≡_}
 use mathlib.Core.List.{List, [], _∷_, _++_}
 use lib.ListN.{length, getD, take, drop}
 use lib.Signed.{mag}
-use Rattle.counts.specs.Replies.{accepted}
+use Rattle.base.specs.Replies.{accepted}
 use Rattle.sketch.specs.Replies.{sketchReply, sketchCodes, sketchPositions}
 use Rattle.strike.specs.Strike.{strikeReply, strikeCodes}
-use Rattle.mappings.specs.Limits.{workWords}
-use Rattle.mappings.specs.Bias.{bias}
+use Rattle.base.specs.Limits.{workWords, signedLimit}
 use Rattle.mappings.specs.Score.{Task, taskWith}
 use Rattle.mappings.specs.Cells.{hitCount}
 use Rattle.mappings.specs.Rule.{Answer, Step}
 use Rattle.mappings.specs.Demand.{stepAt, passedBefore, Demanded}
-use Rattle.requests.specs.Requests.{Settings}
-use Rattle.start.specs.Start.{startReply}
+use Rattle.requests.specs.declared.Settings.{Settings}
+use Rattle.session_words.specs.FirstWords.{hitsAt, uAt, vAt, passedAt}
+use Rattle.session_start.specs.Start.{startReply}
 use Rattle.mapper.specs.declared.answer.Stepped.{Stepped}
 use Rattle.mapper.specs.Answers.{answerOf}
 use Rattle.mapper.specs.Promise.{StepPromise}
@@ -66,14 +66,14 @@ module _ (settings : Settings) (text read : List ℕ) (lent : Lent) (n m s : ℕ
     pub sketch-read : sketchReply (settings .k) (settings .w) read (length (lent .read-codes)) (length (lent .read-positions)) ≡ accepted (m ∷ [])
     pub strike : strikeReply textCodes textPositions (settings .c) (length (lent .struck-codes)) (length (lent .struck-positions)) ≡ accepted (s ∷ [])
     pub start : startReply startTask (length (lent .work)) ≡ accepted (h ∷ [])
-    pub threshold-fits : mag (settings .threshold) < bias
+    pub threshold-fits : mag (settings .threshold) < signedLimit
 
 -- words 0 to 3 of a session after q cells: h, u, v and the cells passed since start
 pub record FirstWords (task : Task) (q : ℕ) (words : List ℕ) : Type 0 where
-  pub word0 : getD words 0 0 ≡ hitCount task
-  pub word1 : getD words 1 0 ≡ task .u
-  pub word2 : getD words 2 0 ≡ task .v
-  pub word3 : getD words 3 0 ≡ q
+  pub word0 : getD words hitsAt 0 ≡ hitCount task
+  pub word1 : getD words uAt 0 ≡ task .u
+  pub word2 : getD words vAt 0 ≡ task .v
+  pub word3 : getD words passedAt 0 ≡ q
 
 -- demand 3 of a task: what is demanded of the answers, and how the work words stand, from the words of the fresh session on
 pub record Demand3 (task : Task) (fresh : List ℕ) (steps : List Step) (answers : List Answer) (states : List (List ℕ)) : Type 0 where

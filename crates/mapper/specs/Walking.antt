@@ -1,13 +1,16 @@
 -- What a step does to any work words from a place on, made by start and steps or not: column after column.
-use Prim.Native.Nat.{ℕ, zero, suc, _+_, _-_, _*_, _%_, _^_, min}
+use Prim.Native.Nat.{ℕ, zero, suc, _+_, _-_, _*_, _%_, min}
 use mathlib.Core.Bool.{cond}
 use mathlib.Core.List.{List, _++_}
 use lib.Dec.{ltb, eqb}
 use lib.ListN.{getD, take, drop, set}
+use Rattle.base.specs.Limits.{wordLimit, weightLimit}
 use Rattle.mappings.specs.Bias.{bias}
-use Rattle.column.specs.Passing.{lowered, seenBefore, Update, passRows}
-use Rattle.column.specs.declared.cells.Line.{Line}
-use Rattle.column.specs.declared.cells.Passed.{Passed}
+use Rattle.session_words.specs.FirstWords.{uAt, vAt, passedAt}
+use Rattle.session_words.specs.Layout.{sizeAt, thresholdAt, columnsAt, rowAt, mAt, backFrom, indexFrom, wholeFrom, partLength}
+use Rattle.session_cells.specs.Passing.{lowered, seenBefore, Update, passRows}
+use Rattle.session_cells.specs.declared.cells.Line.{Line}
+use Rattle.session_cells.specs.declared.cells.Passed.{Passed}
 use Rattle.mapper.specs.declared.place.Place.{Place}
 use Rattle.mapper.specs.declared.update.Terms.{Terms}
 use Rattle.mapper.specs.declared.answer.Stepped.{Stepped}
@@ -17,7 +20,7 @@ use Rattle.mapper.specs.Deciding.{decided}
 -- m of the first cell of the last of these columns
 abbrev pub topShared : List ℕ → ℕ → ℕ
 topShared work zero = 0
-topShared work (suc j) = getD work (10240 + j) 0
+topShared work (suc j) = getD work (wholeFrom + j) 0
 
 -- the place where the next cell stands in this column, or at the top of the next column where this one is passed
 unfoldable pub settled : List ℕ → ℕ → ℕ → ℕ → Place
@@ -30,22 +33,27 @@ settled work columns row m =
 unfoldable pub saved : List ℕ → Place → ℕ → List ℕ
 saved work place cells =
     set
-    (set (set (set work 3 ((getD work 3 0 + cells) % 4294967296)) 7 (place .columns)) 8 (place .row))
-    9
+    (set (set (set work passedAt ((getD work passedAt 0 + cells) % wordLimit)) columnsAt (place .columns)) rowAt (place .row))
+    mAt
     (place .m)
 
 -- what the scores of the session in these words share
 unfoldable pub termsIn : List ℕ → Terms
 termsIn work = record {
-  u = getD work 1 0;
-  v = getD work 2 0;
-  size = getD work 5 0;
-  threshold = getD work 6 0;
+  u = getD work uAt 0;
+  v = getD work vAt 0;
+  size = getD work sizeAt 0;
+  threshold = getD work thresholdAt 0;
 }
 
--- added to the base of a column's score words: 2^31, their bias, and 2^44, which keeps the base of any words above 0
+-- a multiple of 2^32, which words do not show, that is more than v·(b + 1 + |p|): v is at most 1,000, and b and |p| are words, whatever
+-- they hold
+abbrev pub margin : ℕ
+margin = 2 * weightLimit * wordLimit
+
+-- added to the base of a column's score words, so that it does not fall below 0: the margin, and the bias
 abbrev pub lift : ℕ
-lift = 2 ^ 44 + bias
+lift = margin + bias
 
 -- what the cells of column j share
 unfoldable pub lineOf : List ℕ → Terms → ℕ → Line
@@ -53,8 +61,8 @@ lineOf work terms j = record {
   column = j;
   gain = terms .u + 2 * terms .v;
   v = terms .v;
-  base = (lift - terms .v * (getD work (4096 + j) 0 + 1 + terms .size)) % 4294967296;
-  back = getD work (2048 + j) 0;
+  base = (lift - terms .v * (getD work (indexFrom + j) 0 + 1 + terms .size)) % wordLimit;
+  back = getD work (backFrom + j) 0;
   threshold = terms .threshold;
 }
 
@@ -72,16 +80,16 @@ finishedWalk work place cells = record { answer = Finished cells; words = saved 
 -- at a candidate
 unfoldable pub foundWalk : Terms → List ℕ → ℕ → Passed → ℕ → Walk
 foundWalk terms work columns p cells = record {
-  answer = decided terms (getD work (4096 + p .row - 1) 0) (getD work (4096 + columns - 1) 0) (p .m) cells;
+  answer = decided terms (getD work (indexFrom + p .row - 1) 0) (getD work (indexFrom + columns - 1) 0) (p .m) cells;
   words = saved work (settled work columns (p .row) (lowered (p .m) 1)) cells;
 }
 
 -- the part of the work words that a column's update is lent, and the words with that part put back
 unfoldable pub partOf : List ℕ → List ℕ
-partOf work = take 6144 (drop 4096 work)
+partOf work = take partLength (drop indexFrom work)
 
 unfoldable pub withPart : List ℕ → List ℕ → List ℕ
-withPart work part = take 4096 work ++ (part ++ drop 6144 (drop 4096 work))
+withPart work part = take indexFrom work ++ (part ++ drop partLength (drop indexFrom work))
 
 -- the update of the last of these columns, from this row on, with this much of the budget left
 unfoldable pub columnUpdate : Terms → ℕ → ℕ → ℕ → ℕ → List ℕ → Update

@@ -1,4 +1,4 @@
-// The answer of a step. Assumes nothing.
+// The answer of a step.
 
 // What a step answers.
 pub enum Stepped {

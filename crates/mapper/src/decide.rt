@@ -3,14 +3,11 @@ use crate::answer::Stepped;
 use crate::score::score;
 use crate::score::unbiased;
 use crate::update::Terms;
-use layout::WEIGHT_LIMIT;
+use base::PATTERN_LIMIT;
+use base::TEXT_LIMIT;
+use base::WEIGHT_LIMIT;
 ghost use mathlib.Core.Path.{_≡_};
 ghost use Rattle.mapper.specs.Deciding.{isScorable, decided as decidedAnswer};
-
-// The greatest |p|, and the greatest number of entries of a text.
-const SIZE_LIMIT: u32 = 4096;
-
-const LEN_LIMIT: u32 = 65535;
 
 // Weights and counts are such as sessions have, so that the score of [a, b] fits 32 signed bits.
 fn is_scorable(terms: Terms, a: u32, b: u32, m: u32) -> bool
@@ -22,13 +19,13 @@ fn is_scorable(terms: Terms, a: u32, b: u32, m: u32) -> bool
     if WEIGHT_LIMIT < terms.v {
         return false;
     }
-    if SIZE_LIMIT < terms.size {
+    if (PATTERN_LIMIT as u32) < terms.size {
         return false;
     }
     if b < a {
         return false;
     }
-    if LEN_LIMIT <= b - a {
+    if TEXT_LIMIT as u32 <= b - a {
         return false;
     }
     if terms.size < m {

@@ -1,4 +1,4 @@
-// Mapping sessions: `session::step` passes cells in the work words that start wrote. Assumes nothing.
+// Mapping sessions: `session::step` passes cells in the work words that start wrote.
 pub mod answer;
 mod decide;
 mod place;

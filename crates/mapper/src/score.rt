@@ -1,12 +1,15 @@
 // The score of an interval, signed, and the threshold out of its word, which holds it plus 2^31.
+use session_words::BIAS;
+use session_words::MINUS_ONE;
 ghost use mathlib.Core.Path.{_≡_};
 ghost use Prim.Native.Nat.{_≤_};
+ghost use Rattle.base.specs.Limits.{textLimit, patternLimit, weightLimit};
 ghost use Rattle.mappings.specs.Score.{linear};
-ghost use Rattle.mappings.specs.Bias.{unbiased as unbiasedOf};
+ghost use Rattle.mappings.specs.Unbiased.{unbiased as unbiasedOf};
 
 // The score of an interval: u·m − v·d with d = len + |p| − 2m.
 pub fn score(u: u32, v: u32, size: u32, m: u32, len: u32) -> i32
-    requires { ⌜ (u ≤ 1000) × (v ≤ 1000) × (size ≤ 4096) × (len ≤ 65535) × (m ≤ size) × (m ≤ len) ⌝ }
+    requires { ⌜ (u ≤ weightLimit) × (v ≤ weightLimit) × (size ≤ patternLimit) × (len ≤ textLimit) × (m ≤ size) × (m ≤ len) ⌝ }
     ensures { λ r. ⌜ r ≡ linear u v size m len ⌝ }
 {
     let d = len + size - 2 * m;
@@ -17,9 +20,9 @@ pub fn score(u: u32, v: u32, size: u32, m: u32, len: u32) -> i32
 pub fn unbiased(word: u32) -> i32
     ensures { λ r. ⌜ r ≡ unbiasedOf word ⌝ }
 {
-    if 2147483648 <= word {
-        (word - 2147483648) as i32
+    if BIAS <= word {
+        (word - BIAS) as i32
     } else {
-        -1 - (2147483647 - word) as i32
+        -1 - (MINUS_ONE - word) as i32
     }
 }

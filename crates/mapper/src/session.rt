@@ -3,28 +3,29 @@ use crate::answer::Stepped;
 use crate::place::Place;
 use crate::walk::walk;
 use crate::walk::walk_one;
-use layout::COLUMNS;
-use layout::HIT_LIMIT;
-use layout::HITS;
-use layout::PASSED;
-use layout::ROW;
-use layout::SHARED;
-use layout::U;
-use layout::V;
-use layout::WEIGHT_LIMIT;
-use layout::WORK_WORDS;
-use layout::wide;
+use base::HIT_LIMIT;
+use base::WEIGHT_LIMIT;
+use base::WORK_WORDS;
+use session_words::COLUMNS;
+use session_words::HITS;
+use session_words::PASSED;
+use session_words::ROW;
+use session_words::SHARED;
+use session_words::U;
+use session_words::V;
+use session_words::wide;
 ghost use mathlib.Core.Path.{_≡_};
-ghost use Prim.Native.Nat.{_+_, _≤_};
+ghost use Prim.Native.Nat.{_+_, _≤_, _<_};
 ghost use mathlib.Core.Bool.{_&&_};
 ghost use lib.Dec.{eqb, ltb};
 ghost use lib.ListN.{length};
+ghost use Rattle.base.specs.Limits.{workWords, wordLimit};
 ghost use Rattle.mapper.specs.Step.{badWords};
 ghost use Rattle.mapper.specs.Promise.{StepPromise};
 
 // Words 0 to 3 hold h over 2,048, u or v outside 1 to 1,000, or more cells passed than h(h + 1)/2.
 fn bad_words(work: &[u32]) -> bool
-    requires { ⌜ 16384 ≤ length (now work) ⌝ }
+    requires { ⌜ workWords ≤ length (now work) ⌝ }
     ensures { λ r. ⌜ r ≡ badWords (now (work .entry)) ⌝ }
 {
     let h = wide(work[HITS]);
@@ -52,7 +53,7 @@ fn bad_words(work: &[u32]) -> bool
 
 // The budget is one cell, and the column of that cell has a further row.
 fn one_inside(budget: u32, row: usize, columns: usize) -> bool
-    requires { ⌜ row ≤ 4294967295 ⌝ }
+    requires { ⌜ row < wordLimit ⌝ }
     ensures { λ r. ⌜ r ≡ (ltb (row + 1) columns && eqb budget 1) ⌝ }
 {
     if columns <= row + 1 {

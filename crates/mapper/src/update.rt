@@ -1,21 +1,25 @@
 // The update of a column in the work words: cells of it are passed in the blocks that it is lent.
 use crate::place::Place;
-use column::cells::Line;
-use column::cells::Passed;
-use column::cells::pass;
-use column::cells::pass_one;
-use layout::BACK;
-use layout::INDEX;
-use layout::PART_END;
-use layout::SIZE;
-use layout::THRESHOLD;
-use layout::U;
-use layout::V;
-use layout::wide;
-use layout::wider;
+use base::WEIGHT_LIMIT;
+use base::WORD_LIMIT;
+use session_cells::cells::Line;
+use session_cells::cells::Passed;
+use session_cells::cells::pass;
+use session_cells::cells::pass_one;
+use session_words::BACK;
+use session_words::BIAS;
+use session_words::INDEX;
+use session_words::PART_END;
+use session_words::SIZE;
+use session_words::THRESHOLD;
+use session_words::U;
+use session_words::V;
+use session_words::wide;
+use session_words::wider;
 ghost use mathlib.Core.Path.{_≡_};
 ghost use Prim.Native.Nat.{_-_, _≤_, _<_, min};
 ghost use lib.ListN.{length};
+ghost use Rattle.base.specs.Limits.{weightLimit, hitLimit, workWords};
 ghost use Rattle.mapper.specs.Walking.{termsIn, lineOf, columnUpdate, withPart};
 
 // What the scores of a session share: the weights, the pattern's length, and the threshold's word.
@@ -28,7 +32,7 @@ pub struct Terms {
 
 // What the scores of the session in these words share.
 pub fn terms_of(work: &[u32]) -> Terms
-    requires { ⌜ 16384 ≤ length (now work) ⌝ }
+    requires { ⌜ workWords ≤ length (now work) ⌝ }
     ensures { λ r. ⌜ r ≡ termsIn (now (work .entry)) ⌝ }
 {
     Terms {
@@ -39,8 +43,9 @@ pub fn terms_of(work: &[u32]) -> Terms
     }
 }
 
-// Added to the base of a column's score words: 2^31, their bias, and 2^44, which keeps the base of any words above 0.
-const LIFT: u64 = 17594333528064;
+// Added to the base of a column's score words: their bias, and a multiple of 2^32, which the words do not show, that is more than can be
+// lost: the weight is at most WEIGHT_LIMIT, and two words with one are less than twice WORD_LIMIT, whatever the words hold.
+const LIFT: u64 = 2 * WEIGHT_LIMIT as u64 * WORD_LIMIT + BIAS as u64;
 
 // The smaller of two.
 fn smaller(a: usize, b: usize) -> usize
@@ -51,7 +56,7 @@ fn smaller(a: usize, b: usize) -> usize
 
 // What the cells of column j share.
 fn line_of(work: &[u32], terms: Terms, j: usize) -> Line
-    requires { ⌜ (16384 ≤ length (now work)) × (j < 2048) × (terms .u ≤ 1000) × (terms .v ≤ 1000) ⌝ }
+    requires { ⌜ (workWords ≤ length (now work)) × (j < hitLimit) × (terms .u ≤ weightLimit) × (terms .v ≤ weightLimit) ⌝ }
     ensures { λ r. ⌜ r ≡ lineOf (now (work .entry)) terms j ⌝ }
 {
     let u = terms.u;
@@ -61,7 +66,7 @@ fn line_of(work: &[u32], terms: Terms, j: usize) -> Line
         column: j as u32,
         gain: u + 2 * v,
         v,
-        base: ((LIFT - lost) % 4294967296) as u32,
+        base: ((LIFT - lost) % WORD_LIMIT) as u32,
         back: wide(work[BACK + j]),
         threshold: terms.threshold,
     }
@@ -69,10 +74,11 @@ fn line_of(work: &[u32], terms: Terms, j: usize) -> Line
 
 // Passes cells of the last of the place's columns from its row on: at most `left` of them, and up to the first candidate.
 pub fn update(work: &mut [u32], terms: Terms, place: Place, left: usize) -> Passed
-    requires { ⌜ (16384 ≤ length (now work)) × (1 ≤ place .columns) × (place .columns ≤ 2048) × (place .row ≤ place .columns) ⌝ }
-    requires { ⌜ (terms .u ≤ 1000) × (terms .v ≤ 1000) ⌝ }
+    requires { ⌜ (workWords ≤ length (now work)) × (1 ≤ place .columns) × (place .columns ≤ hitLimit) × (place .row ≤ place .columns) ⌝ }
+    requires { ⌜ (terms .u ≤ weightLimit) × (terms .v ≤ weightLimit) ⌝ }
     ensures { λ r. ⌜ r ≡ columnUpdate terms (place .columns - 1) (place .row) (place .m) left (now (work .entry)) .answer ⌝ }
-    ensures { λ _. ⌜ now (work .exit) ≡ withPart (now (work .entry)) (columnUpdate terms (place .columns - 1) (place .row) (place .m) left (now (work .entry)) .part) ⌝ }
+    ensures { λ _. ⌜ now (work .exit) ≡ withPart (now (work .entry))
+        (columnUpdate terms (place .columns - 1) (place .row) (place .m) left (now (work .entry)) .part) ⌝ }
 {
     let line = line_of(work, terms, place.columns - 1);
     let row = place.row;
@@ -82,10 +88,11 @@ pub fn update(work: &mut [u32], terms: Terms, place: Place, left: usize) -> Pass
 
 // The same of one cell.
 pub fn update_one(work: &mut [u32], terms: Terms, place: Place) -> Passed
-    requires { ⌜ (16384 ≤ length (now work)) × (place .columns ≤ 2048) × (place .row < place .columns) ⌝ }
-    requires { ⌜ (terms .u ≤ 1000) × (terms .v ≤ 1000) ⌝ }
+    requires { ⌜ (workWords ≤ length (now work)) × (place .columns ≤ hitLimit) × (place .row < place .columns) ⌝ }
+    requires { ⌜ (terms .u ≤ weightLimit) × (terms .v ≤ weightLimit) ⌝ }
     ensures { λ r. ⌜ r ≡ columnUpdate terms (place .columns - 1) (place .row) (place .m) 1 (now (work .entry)) .answer ⌝ }
-    ensures { λ _. ⌜ now (work .exit) ≡ withPart (now (work .entry)) (columnUpdate terms (place .columns - 1) (place .row) (place .m) 1 (now (work .entry)) .part) ⌝ }
+    ensures { λ _. ⌜ now (work .exit) ≡ withPart (now (work .entry))
+        (columnUpdate terms (place .columns - 1) (place .row) (place .m) 1 (now (work .entry)) .part) ⌝ }
 {
     let line = line_of(work, terms, place.columns - 1);
     pass_one(&mut work[INDEX..PART_END], line, place.row, place.m)

@@ -9,17 +9,19 @@ use crate::update::Terms;
 use crate::update::terms_of;
 use crate::update::update;
 use crate::update::update_one;
-use column::cells::Passed;
-use column::score::lowered;
-use layout::INDEX;
+use session_cells::cells::Passed;
+use session_cells::score::lowered;
+use session_words::INDEX;
 ghost use mathlib.Core.Path.{_≡_};
 ghost use Prim.Native.Nat.{_+_, _≤_, _<_};
 ghost use lib.ListN.{length, getD};
+ghost use Rattle.base.specs.Limits.{weightLimit, hitLimit, workWords, wordLimit};
+ghost use Rattle.session_words.specs.FirstWords.{uAt, vAt};
 ghost use Rattle.mapper.specs.Walking.{termsIn, spentWalk, finishedWalk, foundWalk, walkOn};
 
 // The budget's cells are passed.
 fn spent(work: &mut [u32], place: Place, cells: usize) -> Stepped
-    requires { ⌜ (16384 ≤ length (now work)) × (place .columns ≤ 2048) × (place .row ≤ 4294967295) × (cells ≤ 4294967295) ⌝ }
+    requires { ⌜ (workWords ≤ length (now work)) × (place .columns ≤ hitLimit) × (place .row < wordLimit) × (cells < wordLimit) ⌝ }
     ensures { λ r. ⌜ r ≡ spentWalk (now (work .entry)) place cells .answer ⌝ }
     ensures { λ r. ⌜ now (work .exit) ≡ spentWalk (now (work .entry)) place cells .words ⌝ }
 {
@@ -29,7 +31,7 @@ fn spent(work: &mut [u32], place: Place, cells: usize) -> Stepped
 
 // No cell remains.
 fn finished(work: &mut [u32], place: Place, cells: usize) -> Stepped
-    requires { ⌜ (16384 ≤ length (now work)) × (place .columns ≤ 2048) × (place .row ≤ 4294967295) × (cells ≤ 4294967295) ⌝ }
+    requires { ⌜ (workWords ≤ length (now work)) × (place .columns ≤ hitLimit) × (place .row < wordLimit) × (cells < wordLimit) ⌝ }
     ensures { λ r. ⌜ r ≡ finishedWalk (now (work .entry)) place cells .answer ⌝ }
     ensures { λ r. ⌜ now (work .exit) ≡ finishedWalk (now (work .entry)) place cells .words ⌝ }
 {
@@ -39,7 +41,7 @@ fn finished(work: &mut [u32], place: Place, cells: usize) -> Stepped
 
 // The cell passed last, in the last of these columns, is a candidate: it is decided.
 fn found(work: &mut [u32], terms: Terms, columns: usize, p: Passed, cells: usize) -> Stepped
-    requires { ⌜ (16384 ≤ length (now work)) × (1 ≤ columns) × (columns ≤ 2048) × (1 ≤ p .row) × (p .row ≤ 2048) × (cells ≤ 4294967295) ⌝ }
+    requires { ⌜ (workWords ≤ length (now work)) × (1 ≤ columns) × (columns ≤ hitLimit) × (1 ≤ p .row) × (p .row ≤ hitLimit) × (cells < wordLimit) ⌝ }
     ensures { λ r. ⌜ r ≡ foundWalk terms (now (work .entry)) columns p cells .answer ⌝ }
     ensures { λ r. ⌜ now (work .exit) ≡ foundWalk terms (now (work .entry)) columns p cells .words ⌝ }
 {
@@ -53,10 +55,11 @@ fn found(work: &mut [u32], terms: Terms, columns: usize, p: Passed, cells: usize
 
 // The cells from this place on, at most `budget` of them.
 pub fn walk(work: &mut [u32], start: Place, budget: usize) -> Stepped
-    requires { ⌜ (16384 ≤ length (now work)) × (budget ≤ 4294967295) × (start .columns ≤ 2048) × (start .row ≤ start .columns) ⌝ }
-    requires { ⌜ (getD (now work) 1 0 ≤ 1000) × (getD (now work) 2 0 ≤ 1000) ⌝ }
+    requires { ⌜ (workWords ≤ length (now work)) × (budget < wordLimit) × (start .columns ≤ hitLimit) × (start .row ≤ start .columns) ⌝ }
+    requires { ⌜ (getD (now work) uAt 0 ≤ weightLimit) × (getD (now work) vAt 0 ≤ weightLimit) ⌝ }
     ensures { λ r. ⌜ r ≡ walkOn (termsIn (now (work .entry))) budget (start .columns) (start .row) (start .m) budget (now (work .entry)) .answer ⌝ }
-    ensures { λ r. ⌜ now (work .exit) ≡ walkOn (termsIn (now (work .entry))) budget (start .columns) (start .row) (start .m) budget (now (work .entry)) .words ⌝ }
+    ensures { λ r. ⌜ now (work .exit)
+        ≡ walkOn (termsIn (now (work .entry))) budget (start .columns) (start .row) (start .m) budget (now (work .entry)) .words ⌝ }
 {
     let terms = terms_of(work);
     let mut columns = start.columns;
@@ -93,8 +96,8 @@ pub fn walk(work: &mut [u32], start: Place, budget: usize) -> Stepped
 
 // The walk of one cell in a column that has a further row.
 pub fn walk_one(work: &mut [u32], start: Place) -> Stepped
-    requires { ⌜ (16384 ≤ length (now work)) × (start .columns ≤ 2048) × (start .row + 1 < start .columns) ⌝ }
-    requires { ⌜ (getD (now work) 1 0 ≤ 1000) × (getD (now work) 2 0 ≤ 1000) ⌝ }
+    requires { ⌜ (workWords ≤ length (now work)) × (start .columns ≤ hitLimit) × (start .row + 1 < start .columns) ⌝ }
+    requires { ⌜ (getD (now work) uAt 0 ≤ weightLimit) × (getD (now work) vAt 0 ≤ weightLimit) ⌝ }
     ensures { λ r. ⌜ r ≡ walkOn (termsIn (now (work .entry))) 1 (start .columns) (start .row) (start .m) 1 (now (work .entry)) .answer ⌝ }
     ensures { λ r. ⌜ now (work .exit) ≡ walkOn (termsIn (now (work .entry))) 1 (start .columns) (start .row) (start .m) 1 (now (work .entry)) .words ⌝ }
 {

@@ -1,6 +1,5 @@
 -- The cells of h hits: how many there are, where each stands in their order, and that each stands there once. Each final interval
 -- is a cell.
--- Assumes nothing.
 use Prim.Native.Nat.{ℕ, zero, suc, _+_, _-_, _*_, _/_, _≤_, _<_}
 use native.Mathlib.Nat.{le-refl, add-mul-div-left, not-suc-le-zero, le-suc-iff, le-of-eq, le-of-suc-le-suc, le-step}
 use native.Mathlib.Omega.{arith}
@@ -12,11 +11,12 @@ use lib.Dec.{ltb}
 use lib.ListN.{length, getD, drop, length-append, length-map, List·getD-map, List·getD-append, drop-of-length-le}
 use lib.Seq.{getD-append-add, drop-cons}
 use borrow.Author.Tests.{ltb-true, ltb-false}
-use Rattle.counts.specs.Lists.{range}
-use Rattle.counts.proofs.Lists.{length-range, getD-range, decided}
+use Rattle.base.specs.Lists.{range}
+use Rattle.base.proofs.Lists.{length-range, getD-range, decided}
 use Rattle.mappings.specs.Score.{Task}
 use Rattle.mappings.specs.Definition1.{Final}
-use Rattle.mappings.specs.Cells.{hitCount, Cell, column, cells, cellCount, place, cellsOf, leftEnd, rightEnd}
+use Rattle.mappings.specs.Cells.{hitCount, Cell, column, cells, cellCount, cellsOf, leftEnd, rightEnd}
+use Rattle.mappings.specs.Places.{place}
 use Rattle.mappings.proofs.Rising.{getD-mem, mem-getD}
 use Rattle.mappings.proofs.Trim.{IsHit}
 use Rattle.mappings.proofs.Hits.{hit-index, hit-once, hit-order}
@@ -112,7 +112,8 @@ unfolding cellCount
 stands zero n d l = absurd (not-suc-le-zero l)
 stands (suc h) n d l = go (λ q. stands h (n - suc h) d q) (decided (ltb n (suc h)))
   where
-    go : (n - suc h < cellCount h → Stands h (n - suc h) (getD (cells h) (n - suc h) d)) → (ltb n (suc h) ≡ true) ⊎ (ltb n (suc h) ≡ false) → Stands (suc h) n (getD (cells (suc h)) n d)
+    go : (n - suc h < cellCount h → Stands h (n - suc h) (getD (cells h) (n - suc h) d)) → (ltb n (suc h) ≡ true) ⊎ (ltb n (suc h) ≡ false)
+        → Stands (suc h) n (getD (cells (suc h)) n d)
     go rec (inl t) =
         let q : n < suc h = ltb-true n (suc h) t in
         rw (cells-first h n d q) (record { ordered = le-of-suc-le-suc q; within = le-refl (suc h); number = place-first h n })
@@ -125,7 +126,8 @@ stands (suc h) n d l = go (λ q. stands h (n - suc h) d q) (decided (ltb n (suc 
         rw same (record {
           ordered = r .ordered;
           within = le-step (r .within);
-          number = place-later h (getD (cells h) (n - suc h) d .row) (getD (cells h) (n - suc h) d .column) (r .within) ∙ ap (λ (k : ℕ). suc h + k) (r .number) ∙ sym e;
+          number = place-later h (getD (cells h) (n - suc h) d .row) (getD (cells h) (n - suc h) d .column) (r .within)
+              ∙ ap (λ (k : ℕ). suc h + k) (r .number) ∙ sym e;
         })
 
 -- each cell stands there once
@@ -191,20 +193,27 @@ drop-all-cells h = drop-of-length-le (cells h) (le-of-eq (length-cells h))
 -- ---- final intervals are cells
 
 -- the cell of two hits
-hits-cell : (task : Task) (a b : ℕ) → a ≤ b → b < length (task .text) → IsHit (task .pattern) (task .text) a → IsHit (task .pattern) (task .text) b → (cell : Cell) × List·Memᴰ cell (cellsOf task) × (leftEnd task cell ≡ a) × (rightEnd task cell ≡ b)
+hits-cell : (task : Task) (a b : ℕ) → a ≤ b → b < length (task .text) → IsHit (task .pattern) (task .text) a → IsHit (task .pattern) (task .text) b
+    → (cell : Cell) × List·Memᴰ cell (cellsOf task) × (leftEnd task cell ≡ a) × (rightEnd task cell ≡ b)
 unfolding cellsOf leftEnd rightEnd
 hits-cell task a b l k hit-a hit-b =
     let first = hit-index task a (omega arith) hit-a in
-    let last = hit-index task b k hit-b in
-    (cellAt (first .0) (last .0), mem-cells (hitCount task) (first .0) (last .0) (hit-order task (first .0) (last .0) (first .1) (rw (first .2, last .2) l)) (last .1), first .2, last .2)
+    let last = hit-index task b k hit-b in (
+      cellAt (first .0) (last .0),
+      mem-cells (hitCount task) (first .0) (last .0) (hit-order task (first .0) (last .0) (first .1) (rw (first .2, last .2) l)) (last .1),
+      first .2,
+      last .2,
+    )
 
 pub final-cell : (task : Task) (a b : ℕ) → Final task a b → (cell : Cell) × List·Memᴰ cell (cellsOf task) × (leftEnd task cell ≡ a) × (rightEnd task cell ≡ b)
 final-cell task a b f = hits-cell task a b (f .ordered) (f .within) (final-hit-left task a b f) (final-hit-right task a b f)
 
 -- different cells have different ends
-pub ends-once : (task : Task) {cell other : Cell} → List·Memᴰ cell (cellsOf task) → List·Memᴰ other (cellsOf task) → leftEnd task cell ≡ leftEnd task other → rightEnd task cell ≡ rightEnd task other → cell ≡ other
+pub ends-once : (task : Task) {cell other : Cell} → List·Memᴰ cell (cellsOf task) → List·Memᴰ other (cellsOf task) → leftEnd task cell ≡ leftEnd task other
+    → rightEnd task cell ≡ rightEnd task other → cell ≡ other
 unfolding cellsOf leftEnd rightEnd
 ends-once task {cell} {other} m n e f =
     let k = cells-mem (hitCount task) m in
     let l = cells-mem (hitCount task) n in
-    ap₂ cellAt (hit-once task (cell .row) (other .row) (omega arith) (omega arith) e) (hit-once task (cell .column) (other .column) (omega arith) (omega arith) f)
+    ap₂ cellAt (hit-once task (cell .row) (other .row) (omega arith) (omega arith) e)
+    (hit-once task (cell .column) (other .column) (omega arith) (omega arith) f)

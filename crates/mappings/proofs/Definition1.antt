@@ -1,6 +1,5 @@
 -- Definition 1's test is its statement; a final interval ends on hits; and to be maximal among all intervals is to be maximal among
 -- cells.
--- Assumes nothing.
 use Prim.Native.Nat.{ℕ, zero, suc, _+_, _-_, _≤_, _<_, zero-le}
 use native.Mathlib.Nat.{le-trans, le-refl}
 use native.Mathlib.Omega.{arith}
@@ -11,12 +10,13 @@ use lib.Dec.{leb, ltb, eqb}
 use lib.ListN.{length, getD}
 use lib.Signed.{leZ}
 use borrow.Author.Tests.{leb-true, le-leb, ltb-true, lt-ltb}
-use Rattle.counts.specs.Lists.{bit, every, range}
-use Rattle.counts.specs.Counts.{occ}
-use Rattle.counts.proofs.Lists.{same-test, and-both, and-left, and-right, every-mem, mem-every, mem-range, range-mem}
-use Rattle.counts.proofs.Counts.{bit-same}
+use Rattle.base.specs.Lists.{bit, every, range}
+use Rattle.base.specs.Counts.{occ}
+use Rattle.base.proofs.Lists.{same-test, and-both, and-left, and-right, every-mem, mem-every, mem-range, range-mem}
+use Rattle.base.proofs.Counts.{bit-same}
 use Rattle.mappings.specs.Score.{Task, interval, linear, sharedOf, scoreOf}
-use Rattle.mappings.specs.Definition1.{Reasonable, AtMost, Final, isReasonable, isMaximal, isFinal}
+use Rattle.mappings.specs.Definition1.{Reasonable, AtMost, Final}
+use Rattle.mappings.specs.FinalTest.{isReasonable, isMaximal, isFinal}
 use Rattle.mappings.specs.Cells.{hits, hitCount}
 use Rattle.mappings.proofs.Integers.{leZ-trans}
 use Rattle.mappings.proofs.Shared.{more-left, more-right}
@@ -31,7 +31,8 @@ maximal-statement : (task : Task) (a b : ℕ) → isMaximal task a b ≡ true �
 unfolding isMaximal AtMost
 maximal-statement task a b e c d h k l =
     every-mem (λ (x : ℕ). leZ (scoreOf task c x) (scoreOf task a b))
-    (every-mem (λ (y : ℕ). every (λ (x : ℕ). leZ (scoreOf task y x) (scoreOf task a b)) (range b (length (task .text) - b))) e (mem-range 0 (suc a) zero-le (omega arith)))
+    (every-mem (λ (y : ℕ). every (λ (x : ℕ). leZ (scoreOf task y x) (scoreOf task a b)) (range b (length (task .text) - b))) e
+    (mem-range 0 (suc a) zero-le (omega arith)))
     (mem-range b (length (task .text) - b) k (omega arith))
 
 statement-maximal : (task : Task) (a b : ℕ) → Maximal task a b → isMaximal task a b ≡ true
@@ -46,19 +47,27 @@ statement-maximal task a b m =
     m c d (omega arith) (s .0) (omega arith))))
 
 -- six tests pass together when each does
-all-six : (b₁ b₂ b₃ b₄ b₅ b₆ : Bool) → (b₁ && b₂ && b₃ && b₄ && b₅ && b₆) ≡ true → (b₁ ≡ true) × (b₂ ≡ true) × (b₃ ≡ true) × (b₄ ≡ true) × (b₅ ≡ true) × (b₆ ≡ true)
+all-six : (b₁ b₂ b₃ b₄ b₅ b₆ : Bool) → (b₁ && b₂ && b₃ && b₄ && b₅ && b₆) ≡ true
+    → (b₁ ≡ true) × (b₂ ≡ true) × (b₃ ≡ true) × (b₄ ≡ true) × (b₅ ≡ true) × (b₆ ≡ true)
 all-six b₁ b₂ b₃ b₄ b₅ b₆ h₆ =
     let h₅ = and-left (b₁ && b₂ && b₃ && b₄ && b₅) b₆ h₆ in
     let h₄ = and-left (b₁ && b₂ && b₃ && b₄) b₅ h₅ in
     let h₃ = and-left (b₁ && b₂ && b₃) b₄ h₄ in
-    let h₂ = and-left (b₁ && b₂) b₃ h₃ in
-    (and-left b₁ b₂ h₂, and-right b₁ b₂ h₂, and-right (b₁ && b₂) b₃ h₃, and-right (b₁ && b₂ && b₃) b₄ h₄, and-right (b₁ && b₂ && b₃ && b₄) b₅ h₅, and-right (b₁ && b₂ && b₃ && b₄ && b₅) b₆ h₆)
+    let h₂ = and-left (b₁ && b₂) b₃ h₃ in (
+      and-left b₁ b₂ h₂,
+      and-right b₁ b₂ h₂,
+      and-right (b₁ && b₂) b₃ h₃,
+      and-right (b₁ && b₂ && b₃) b₄ h₄,
+      and-right (b₁ && b₂ && b₃ && b₄) b₅ h₅,
+      and-right (b₁ && b₂ && b₃ && b₄ && b₅) b₆ h₆,
+    )
 
 -- the test tells that [a, b] is final
 pub test-final : (task : Task) (a b : ℕ) → isFinal task a b ≡ true → Final task a b
 unfolding isFinal isReasonable Reasonable AtMost
 test-final task a b e =
-    let each = all-six (leb a b) (ltb b (length (task .text))) (leZ (task .threshold) (scoreOf task a b)) (isReasonable task a b a) (isReasonable task a b b) (isMaximal task a b) e in
+    let each = all-six (leb a b) (ltb b (length (task .text))) (leZ (task .threshold) (scoreOf task a b)) (isReasonable task a b a)
+    (isReasonable task a b b) (isMaximal task a b) e in
     record {
       ordered = leb-true a b (each .0);
       within = ltb-true b (length (task .text)) (each .1);
@@ -85,14 +94,16 @@ final-test task a b f =
 -- the code at an end occurs in the interval
 occ-left-end : (t : List ℕ) (a b : ℕ) → a ≤ b → b < length t → 1 ≤ occ (getD t a 0) (interval t a b)
 occ-left-end t a b h k =
-    let e : occ (getD t a 0) (interval t a b) ≡ bit (eqb (getD t a 0) (getD t a 0)) + occ (getD t a 0) (interval t (suc a) b) = more-left t a b h k (getD t a 0) in
+    let e : occ (getD t a 0) (interval t a b) ≡ bit (eqb (getD t a 0) (getD t a 0)) + occ (getD t a 0) (interval t (suc a) b) =
+    more-left t a b h k (getD t a 0) in
     let one : bit (eqb (getD t a 0) (getD t a 0)) ≡ 1 = bit-same (getD t a 0) in
     omega arith
 
 occ-right-end : (t : List ℕ) (a b : ℕ) → a ≤ b → b < length t → 1 ≤ occ (getD t b 0) (interval t a b)
 occ-right-end t a zero h k = let same : a ≡ 0 = omega arith in rw same (occ-left-end t 0 0 (le-refl 0) k)
 occ-right-end t a (suc b) h k =
-    let e : occ (getD t (suc b) 0) (interval t a (suc b)) ≡ bit (eqb (getD t (suc b) 0) (getD t (suc b) 0)) + occ (getD t (suc b) 0) (interval t a b) = more-right t a b h k (getD t (suc b) 0) in
+    let e : occ (getD t (suc b) 0) (interval t a (suc b)) ≡ bit (eqb (getD t (suc b) 0) (getD t (suc b) 0)) + occ (getD t (suc b) 0) (interval t a b) =
+    more-right t a b h k (getD t (suc b) 0) in
     let one : bit (eqb (getD t (suc b) 0) (getD t (suc b) 0)) ≡ 1 = bit-same (getD t (suc b) 0) in
     omega arith
 
@@ -130,12 +141,18 @@ cell-maximal task i j h k m c d p q l =
     let first = hit-index task (r .left) (omega (arith, hit-within task i (omega arith))) (r .hit-left) in
     let last = hit-index task (r .right) (omega arith) (r .hit-right) in
     let wider : leZ (scoreOf task (x (first .0)) (x (last .0))) (scoreOf task (x i) (x j)) ≡ true =
-    m (first .0) (last .0) (hit-order task (first .0) i (first .1) (rw (first .2) (r .contains-left))) (hit-order task j (last .0) k (rw (last .2) (r .contains-right))) (last .1)
+    m (first .0) (last .0) (hit-order task (first .0) i (first .1) (rw (first .2) (r .contains-left)))
+    (hit-order task j (last .0) k (rw (last .2) (r .contains-right))) (last .1)
     in
     leZ-trans (scoreOf task c d) (scoreOf task (r .left) (r .right)) (scoreOf task (x i) (x j)) (r .more) (rw (first .2, last .2) at wider)
 
 -- a cell's test: three conditions, and any test of being maximal among cells
-pub cell-final : (task : Task) (i j : ℕ) → i ≤ j → j < hitCount task → (top : Bool) → (top ≡ true → MaximalCell task i j) → (MaximalCell task i j → top ≡ true) → isFinal task (getD (hits task) i 0) (getD (hits task) j 0) ≡ (leZ (task .threshold) (scoreOf task (getD (hits task) i 0) (getD (hits task) j 0)) && isReasonable task (getD (hits task) i 0) (getD (hits task) j 0) (getD (hits task) i 0) && isReasonable task (getD (hits task) i 0) (getD (hits task) j 0) (getD (hits task) j 0) && top)
+pub cell-final : (task : Task) (i j : ℕ) → i ≤ j → j < hitCount task → (top : Bool) → (top ≡ true → MaximalCell task i j)
+    → (MaximalCell task i j → top ≡ true)
+    → isFinal task (getD (hits task) i 0) (getD (hits task) j 0)
+    ≡ (leZ (task .threshold) (scoreOf task (getD (hits task) i 0) (getD (hits task) j 0))
+    && isReasonable task (getD (hits task) i 0) (getD (hits task) j 0) (getD (hits task) i 0)
+    && isReasonable task (getD (hits task) i 0) (getD (hits task) j 0) (getD (hits task) j 0) && top)
 unfolding isFinal
 cell-final task i j h k top f g =
     let a : ℕ = getD (hits task) i 0 in

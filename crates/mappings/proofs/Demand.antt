@@ -7,10 +7,11 @@ use mathlib.Core.Logic.{_↔_}
 use mathlib.Core.List.{List}
 use lib.ListN.{length, take}
 use lib.Seq.{take-all}
-use Rattle.mappings.specs.Limits.{workWords}
+use Rattle.base.specs.Limits.{workWords}
 use Rattle.mappings.specs.Score.{Task}
 use Rattle.mappings.specs.Cells.{cells, cellsOf, hitCount}
-use Rattle.mappings.specs.Rule.{Answer, reported, Step, stepAnswer, answers, passed, handedOut}
+use Rattle.mappings.specs.Rule.{Answer, reported, Step, passed, handedOut}
+use Rattle.mappings.specs.Steps.{stepAnswer, answers}
 use Rattle.mappings.specs.Demand.{Found, Finished, stepAt, answerAt, passedBefore, Demanded}
 use Rattle.mappings.proofs.Cells.{length-cells}
 use Rattle.mappings.proofs.Rule.{total, finalsOf}

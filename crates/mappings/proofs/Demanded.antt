@@ -6,12 +6,13 @@ use native.Mathlib.Omega.{arith}
 use mathlib.Core.Path.{_≡_, refl, sym, ap, ap₂, _∙_, subst}
 use mathlib.Core.List.{List, [], _∷_, _++_, List·Memᴰ, List·Memᴰ·head, List·Memᴰ·tail, Memᴰ·append-right}
 use lib.ListN.{length, getD, take, drop, replicate, length-take, take-append-drop}
-use Rattle.counts.specs.Lists.{keep}
-use Rattle.mappings.specs.Limits.{workWords}
+use Rattle.base.specs.Lists.{keep}
+use Rattle.base.specs.Limits.{workWords}
 use Rattle.mappings.specs.Score.{Task}
 use Rattle.mappings.specs.Definition1.{Final}
 use Rattle.mappings.specs.Cells.{Cell, Mapping, mappingOf, cells, cellsOf, hitCount}
-use Rattle.mappings.specs.Rule.{Answer, found, finished, spent, refused, reported, Step, isAccepted, stepAnswer, answers, passed, handedOut}
+use Rattle.mappings.specs.Rule.{Answer, found, finished, spent, refused, reported, Step, isAccepted, passed, handedOut}
+use Rattle.mappings.specs.Steps.{stepAnswer, answers}
 use Rattle.mappings.specs.Demand.{FinalsAmong, no-cells, with-final, without, EachOnce, Found, Finished, HasFinished, Among, stepAt, answerAt}
 use Rattle.mappings.specs.Demand.{passedBefore, isAmple, Demanded}
 use Rattle.mappings.proofs.Cells.{length-cells}

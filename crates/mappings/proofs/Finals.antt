@@ -1,5 +1,4 @@
 -- The final mappings among cells, by the test and by the statement: the same list, in which each stands once.
--- Assumes nothing.
 use Prim.Native.Nat.{ℕ, zero, suc, _<_, suc-le-suc}
 use native.Mathlib.Nat.{zero-lt-suc, suc-inj, suc-ne-zero}
 use mathlib.Core.Path.{_≡_, refl, sym, ap, _∙_, subst}
@@ -7,11 +6,12 @@ use mathlib.Core.Logic.{_⊎_, inl, inr}
 use mathlib.Core.Bool.{Bool, true, false}
 use mathlib.Core.List.{List, [], _∷_, map, List·Memᴰ, List·Memᴰ·head, List·Memᴰ·tail, Memᴰ·append-left}
 use lib.ListN.{length, getD, take, drop, take-append-drop}
-use Rattle.counts.specs.Lists.{addIf, keep}
-use Rattle.counts.proofs.Lists.{decided, clash, keep-mem, mem-keep}
+use Rattle.base.specs.Lists.{addIf, keep}
+use Rattle.base.proofs.Lists.{decided, clash, keep-mem, mem-keep}
 use Rattle.mappings.specs.Score.{Task}
 use Rattle.mappings.specs.Definition1.{Final}
-use Rattle.mappings.specs.Cells.{Cell, Mapping, mappingOf, cells, cellsOf, hitCount, leftEnd, rightEnd, isFinalCell}
+use Rattle.mappings.specs.Cells.{Cell, Mapping, mappingOf, cells, cellsOf, hitCount, leftEnd, rightEnd}
+use Rattle.mappings.specs.FinalTest.{isFinalCell}
 use Rattle.mappings.specs.Demand.{FinalsAmong, no-cells, with-final, without, EachOnce, Among}
 use Rattle.mappings.proofs.Rising.{mem-getD}
 use Rattle.mappings.proofs.Definition1.{test-final, final-test}
@@ -24,17 +24,20 @@ unfolding isFinalCell
 finals-among task [] = no-cells
 finals-among task (cell ∷ rest) = go (finals-among task rest) (decided (isFinalCell task cell))
   where
-    go : FinalsAmong task rest (finalsOf task rest) → (isFinalCell task cell ≡ true) ⊎ (isFinalCell task cell ≡ false) → FinalsAmong task (cell ∷ rest) (finalsOf task (cell ∷ rest))
+    go : FinalsAmong task rest (finalsOf task rest) → (isFinalCell task cell ≡ true) ⊎ (isFinalCell task cell ≡ false)
+        → FinalsAmong task (cell ∷ rest) (finalsOf task (cell ∷ rest))
     go rec (inl e) = rw e (with-final (test-final task (leftEnd task cell) (rightEnd task cell) e) rec)
     go rec (inr e) = rw e (without (λ f. clash (final-test task (leftEnd task cell) (rightEnd task cell) f) e) rec)
 
 pub finals-list : (task : Task) {cells : List Cell} {mappings : List Mapping} → FinalsAmong task cells mappings → mappings ≡ finalsOf task cells
 unfolding isFinalCell
 finals-list task no-cells = refl
-finals-list task (with-final {cell = cell} f among) = rw (final-test task (leftEnd task cell) (rightEnd task cell) f) (ap (λ (l : List Mapping). mappingOf task cell ∷ l) (finals-list task among))
+finals-list task (with-final {cell = cell} f among) =
+    rw (final-test task (leftEnd task cell) (rightEnd task cell) f) (ap (λ (l : List Mapping). mappingOf task cell ∷ l) (finals-list task among))
 finals-list task (without {cell = cell} {cells = rest} n among) = go (finals-list task among) (decided (isFinalCell task cell))
   where
-    go : {mappings : List Mapping} → mappings ≡ finalsOf task rest → (isFinalCell task cell ≡ true) ⊎ (isFinalCell task cell ≡ false) → mappings ≡ finalsOf task (cell ∷ rest)
+    go : {mappings : List Mapping} → mappings ≡ finalsOf task rest → (isFinalCell task cell ≡ true) ⊎ (isFinalCell task cell ≡ false)
+        → mappings ≡ finalsOf task (cell ∷ rest)
     go rec (inl e) = absurd (n (test-final task (leftEnd task cell) (rightEnd task cell) e))
     go rec (inr e) = rw e rec
 
@@ -66,7 +69,8 @@ different-keep f (cell ∷ rest) h = go (f cell) (different-keep f rest (h .1))
     go true rec = (λ m. h .0 (keep-mem f rest m .0), rec)
     go false rec = rec
 
-map-mem : (task : Task) {mapping : Mapping} (l : List Cell) → List·Memᴰ mapping (map (mappingOf task) l) → (cell : Cell) × List·Memᴰ cell l × (mapping ≡ mappingOf task cell)
+map-mem : (task : Task) {mapping : Mapping} (l : List Cell) → List·Memᴰ mapping (map (mappingOf task) l)
+    → (cell : Cell) × List·Memᴰ cell l × (mapping ≡ mappingOf task cell)
 map-mem task (cell ∷ rest) (List·Memᴰ·head e) = (cell, List·Memᴰ·head refl, e)
 map-mem task (cell ∷ rest) (List·Memᴰ·tail m) = let r = map-mem task rest m in (r .0, List·Memᴰ·tail (r .1), r .2)
 

@@ -1,6 +1,5 @@
 -- An interval between hits has the m and the counts of the hits' codes in it: entries that are no hits add nothing. So cells are decided by
 -- the codes of the hits alone.
--- Assumes nothing.
 use Prim.Native.Nat.{ℕ, zero, suc, _+_, _≤_, _<_}
 use native.Mathlib.Nat.{le-of-suc-le-suc, not-suc-le-zero, le-step, not-le-of-lt, zero-add}
 use native.Mathlib.Omega.{arith}
@@ -12,13 +11,14 @@ use lib.Dec.{ltb, leb, eqb}
 use lib.ListN.{length, getD, take, drop, take-append-drop}
 use lib.Seq.{take-suc, take-take, drop-at, length-take-le}
 use borrow.Author.Tests.{lt-ltb, ltb-false}
-use Rattle.counts.specs.Lists.{bit, addIf, keep}
-use Rattle.counts.specs.Counts.{occ}
-use Rattle.counts.proofs.Lists.{keep-append}
-use Rattle.counts.proofs.Counts.{bit-other}
+use Rattle.base.specs.Lists.{bit, addIf, keep}
+use Rattle.base.specs.Counts.{occ}
+use Rattle.base.proofs.Lists.{keep-append}
+use Rattle.base.proofs.Counts.{bit-other}
 use Rattle.mappings.specs.Score.{Task, interval, shared, sharedOf}
-use Rattle.mappings.specs.Definition1.{isReasonable}
-use Rattle.mappings.specs.Cells.{hitsFrom, hits, hitCount, hitCodes}
+use Rattle.mappings.specs.FinalTest.{isReasonable}
+use Rattle.mappings.specs.Cells.{hitsFrom, hits, hitCount}
+use Rattle.mappings.specs.HitCodes.{hitCodes}
 use Rattle.mappings.proofs.Shared.{shared-same}
 use Rattle.mappings.proofs.Hits.{hit-within, hit-in-pattern, hit-at-most}
 
@@ -31,7 +31,8 @@ module _ (p : List ℕ) where
   length-hits at [] = refl
   length-hits at (x ∷ xs) = go (isIn x) (length-hits (suc at) xs)
     where
-      go : (b : Bool) → length (hitsFrom p (suc at) xs) ≡ length (keep isIn xs) → length (addIf b at (hitsFrom p (suc at) xs)) ≡ length (addIf b x (keep isIn xs))
+      go : (b : Bool) → length (hitsFrom p (suc at) xs) ≡ length (keep isIn xs)
+          → length (addIf b at (hitsFrom p (suc at) xs)) ≡ length (addIf b x (keep isIn xs))
       go true e = ap suc e
       go false e = e
 
@@ -46,7 +47,9 @@ module _ (p : List ℕ) where
   hit-before at [] i h = absurd (not-suc-le-zero h)
   hit-before at (x ∷ xs) i h = go (isIn x) refl i h (λ k l. hit-before (suc at) xs k l)
     where
-      go : (b : Bool) → isIn x ≡ b → (i : ℕ) → i < length (addIf b at (hitsFrom p (suc at) xs)) → ((k : ℕ) → k < length (hitsFrom p (suc at) xs) → Before (suc at) xs (getD (hitsFrom p (suc at) xs) k 0) k) → Before at (x ∷ xs) (getD (addIf b at (hitsFrom p (suc at) xs)) i 0) i
+      go : (b : Bool) → isIn x ≡ b → (i : ℕ) → i < length (addIf b at (hitsFrom p (suc at) xs))
+          → ((k : ℕ) → k < length (hitsFrom p (suc at) xs) → Before (suc at) xs (getD (hitsFrom p (suc at) xs) k 0) k)
+          → Before at (x ∷ xs) (getD (addIf b at (hitsFrom p (suc at) xs)) i 0) i
       go true e zero h rec = record { index = 0; is = omega arith; code = rw e; before = refl }
       go true e (suc i) h rec =
           let r : Before (suc at) xs (getD (hitsFrom p (suc at) xs) i 0) i = rec i (le-of-suc-le-suc h) in
@@ -100,7 +103,8 @@ module _ (task : Task) where
       ∙ sym (take-suc (hitCodes task) i 0 (rw length-hitCodes h))
 
   -- the hits of [x i, x j] are those from i to j
-  keep-interval : (i j : ℕ) → i ≤ j → j < hitCount task → keep (isIn (task .pattern)) (interval (task .text) (getD (hits task) i 0) (getD (hits task) j 0)) ≡ interval (hitCodes task) i j
+  keep-interval : (i j : ℕ) → i ≤ j → j < hitCount task
+      → keep (isIn (task .pattern)) (interval (task .text) (getD (hits task) i 0) (getD (hits task) j 0)) ≡ interval (hitCodes task) i j
   unfolding interval
   keep-interval i j l h =
       let a : ℕ = getD (hits task) i 0 in
@@ -117,19 +121,26 @@ module _ (task : Task) where
       sym (ap (drop i) joined ∙ drop-at (take i (hitCodes task)) inside i (length-take-le i (hitCodes task) (omega (arith, length-hitCodes))))
 
   -- a code of p occurs in [x i, x j] as often as among its hits
-  cell-occ : (i j y : ℕ) → i ≤ j → j < hitCount task → 1 ≤ occ y (task .pattern) → occ y (interval (task .text) (getD (hits task) i 0) (getD (hits task) j 0)) ≡ occ y (interval (hitCodes task) i j)
+  cell-occ : (i j y : ℕ) → i ≤ j → j < hitCount task → 1 ≤ occ y (task .pattern)
+      → occ y (interval (task .text) (getD (hits task) i 0) (getD (hits task) j 0)) ≡ occ y (interval (hitCodes task) i j)
   cell-occ i j y l h k =
       sym (occ-keep (task .pattern) y (interval (task .text) (getD (hits task) i 0) (getD (hits task) j 0)) k)
       ∙ ap (occ y) (keep-interval i j l h)
 
   -- m of a cell, by the codes of its hits
-  pub cell-shared : (i j : ℕ) → i ≤ j → j < hitCount task → sharedOf task (getD (hits task) i 0) (getD (hits task) j 0) ≡ shared (task .pattern) (interval (hitCodes task) i j)
+  pub cell-shared : (i j : ℕ) → i ≤ j → j < hitCount task
+      → sharedOf task (getD (hits task) i 0) (getD (hits task) j 0) ≡ shared (task .pattern) (interval (hitCodes task) i j)
   unfolding sharedOf
-  cell-shared i j l h = shared-same (task .pattern) (interval (task .text) (getD (hits task) i 0) (getD (hits task) j 0)) (interval (hitCodes task) i j) (λ y k. cell-occ i j y l h k)
+  cell-shared i j l h =
+      shared-same (task .pattern) (interval (task .text) (getD (hits task) i 0) (getD (hits task) j 0)) (interval (hitCodes task) i j)
+      (λ y k. cell-occ i j y l h k)
 
   -- a hit of a cell is reasonable by the codes of its hits
-  pub cell-reasonable : (i j n : ℕ) → i ≤ j → j < hitCount task → n < hitCount task → isReasonable task (getD (hits task) i 0) (getD (hits task) j 0) (getD (hits task) n 0) ≡ leb (occ (getD (hitCodes task) n 0) (interval (hitCodes task) i j)) (occ (getD (hitCodes task) n 0) (task .pattern))
+  pub cell-reasonable : (i j n : ℕ) → i ≤ j → j < hitCount task → n < hitCount task
+      → isReasonable task (getD (hits task) i 0) (getD (hits task) j 0) (getD (hits task) n 0)
+      ≡ leb (occ (getD (hitCodes task) n 0) (interval (hitCodes task) i j)) (occ (getD (hitCodes task) n 0) (task .pattern))
   unfolding isReasonable
   cell-reasonable i j n l h k =
       rw (getD-hitCodes n k)
-      (ap (λ (c : ℕ). leb c (occ (getD (task .text) (getD (hits task) n 0) 0) (task .pattern))) (cell-occ i j (getD (task .text) (getD (hits task) n 0) 0) l h (hit-in-pattern task n k)))
+      (ap (λ (c : ℕ). leb c (occ (getD (task .text) (getD (hits task) n 0) 0) (task .pattern)))
+      (cell-occ i j (getD (task .text) (getD (hits task) n 0) 0) l h (hit-in-pattern task n k)))

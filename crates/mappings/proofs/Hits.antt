@@ -1,5 +1,4 @@
 -- The hits of a task: they rise strictly, and are the indices of the text whose code is in the pattern.
--- Assumes nothing.
 use Prim.Native.Nat.{ℕ, suc, _+_, _≤_, _<_, zero-le}
 use native.Mathlib.Nat.{eq-or-lt-of-le, le-of-eq, le-of-lt}
 use native.Mathlib.Omega.{arith}
@@ -11,9 +10,9 @@ use lib.Dec.{ltb}
 use lib.ListN.{length, getD, drop}
 use lib.Seq.{getD-drop, drop-drop}
 use borrow.Author.Tests.{ltb-true, lt-ltb}
-use Rattle.counts.specs.Lists.{addIf, keep, range}
-use Rattle.counts.specs.Counts.{occ}
-use Rattle.counts.proofs.Lists.{keep-mem, mem-keep, range-mem, mem-range}
+use Rattle.base.specs.Lists.{addIf, keep, range}
+use Rattle.base.specs.Counts.{occ}
+use Rattle.base.proofs.Lists.{keep-mem, mem-keep, range-mem, mem-range}
 use Rattle.mappings.specs.Score.{Task}
 use Rattle.mappings.specs.Cells.{hitsFrom, hits, hitCount}
 use Rattle.mappings.proofs.Trim.{IsHit}
@@ -64,7 +63,8 @@ module _ (task : Task) where
   hit-index x h k =
       mem-getD 0 (hits task)
       (rw (hits-keep task)
-      (mem-keep (isHit (task .pattern) (task .text)) (mem-range 0 (length (task .text)) zero-le (omega arith)) (lt-ltb 0 (occ (getD (task .text) x 0) (task .pattern)) k)))
+      (mem-keep (isHit (task .pattern) (task .text)) (mem-range 0 (length (task .text)) zero-le (omega arith))
+      (lt-ltb 0 (occ (getD (task .text) x 0) (task .pattern)) k)))
 
   -- by one number only
   pub hit-once : (i j : ℕ) → i < hitCount task → j < hitCount task → getD (hits task) i 0 ≡ getD (hits task) j 0 → i ≡ j

@@ -1,5 +1,4 @@
 -- The order of ℤ by the test that computes, and scores ordered by natural numbers, with and without a bias.
--- Assumes nothing.
 use Prim.Native.Nat.{ℕ, zero, suc, _+_, _-_, _*_, _≤_, _<_, zero-le}
 use native.Mathlib.Nat.{le-refl, le-antisymm, mul-sub, mul-le-mul-left}
 use native.Mathlib.Omega.{arith}
@@ -9,9 +8,10 @@ use lib.Dec.{leb, ltb}
 use lib.IntN.{ℤ, pos, negsuc, subℕ, _-ℤ_}
 use lib.Signed.{leZ, mag}
 use borrow.Author.Tests.{ltb-true, ltb-false, le-ltb, leb-true, le-leb, lt-leb}
-use Rattle.counts.proofs.Lists.{same-test}
+use Rattle.base.proofs.Lists.{same-test}
 use Rattle.mappings.specs.Score.{distance, linear}
-use Rattle.mappings.specs.Bias.{bias, biased, unbiased, biasedZ}
+use Rattle.mappings.specs.Bias.{bias, biased, biasedZ}
+use Rattle.mappings.specs.Unbiased.{unbiased}
 
 -- ---- the order
 

@@ -1,5 +1,4 @@
 -- How large m, the score and its biased word become where start accepts the task.
--- Assumes nothing.
 use Prim.Native.Nat.{ℕ, _+_, _-_, _*_, _≤_, _<_}
 use native.Mathlib.Nat.{mul-le-mul}
 use native.Mathlib.Omega.{arith}
@@ -9,10 +8,10 @@ use lib.ListN.{length}
 use lib.IntN.{pos, negsuc}
 use lib.Signed.{leZ, mag}
 use borrow.Author.Tests.{le-leb}
-use Rattle.sketch.specs.Limits.{textLimit}
-use Rattle.mappings.specs.Limits.{weightLimit, patternLimit}
+use Rattle.base.specs.Limits.{textLimit, weightLimit, patternLimit}
 use Rattle.mappings.specs.Score.{Task, interval, distance, linear, lengthOf, sharedOf, scoreOf}
-use Rattle.mappings.specs.Bias.{bias, biased, biasedOf, unbiased, biasedZ}
+use Rattle.mappings.specs.Bias.{bias, biased, biasedOf, biasedZ}
+use Rattle.mappings.specs.Unbiased.{unbiased}
 use Rattle.mappings.specs.Definition1.{AtMost}
 use Rattle.mappings.proofs.Integers.{differences-order, linear-biased, biased-order, unbiased-order, unbiased-biasedZ}
 use Rattle.mappings.proofs.Shared.{shared-le-length, shared-le-pattern, length-interval}
@@ -43,53 +42,64 @@ pub record Limited (task : Task) : Type 0 where
   pub short-text : length (task .text) ≤ textLimit
   pub short-pattern : length (task .pattern) ≤ patternLimit
 
+-- v·d is at most 69,631,000, and u·m at most 4,096,000
+abbrev mostLost : ℕ
+mostLost = weightLimit * (textLimit + patternLimit)
+
+abbrev mostGained : ℕ
+mostGained = weightLimit * patternLimit
+
 module _ (task : Task) (limited : Limited task) (a b : ℕ) (h : b < length (task .text)) where
-  -- len + |p| is at most 69,631
-  lengths : lengthOf a b + length (task .pattern) ≤ 69631
+  lengths : lengthOf a b + length (task .pattern) ≤ textLimit + patternLimit
   unfolding lengthOf
   lengths = omega (arith, limited .short-text, limited .short-pattern)
 
-  weighed : task .v * (lengthOf a b + length (task .pattern)) ≤ 69631000
+  weighed : task .v * (lengthOf a b + length (task .pattern)) ≤ mostLost
   weighed = mul-le-mul (limited .small-v) lengths
 
-  gained : task .u * sharedOf task a b ≤ 4096000
-  gained = mul-le-mul {m₂ = 4096} (limited .small-u) (omega (arith, shared-le-size task a b, limited .short-pattern))
+  gained : task .u * sharedOf task a b ≤ mostGained
+  gained = mul-le-mul {m₂ = patternLimit} (limited .small-u) (omega (arith, shared-le-size task a b, limited .short-pattern))
 
-  -- the score is −69,631,000 to 4,096,000
-  pub score-low : AtMost (negsuc 69630999) (scoreOf task a b)
+  pub score-low : AtMost (negsuc (mostLost - 1)) (scoreOf task a b)
   unfolding AtMost scoreOf linear distance
   score-low =
       let m : ℕ = sharedOf task a b in
       let d : ℕ = lengthOf a b + length (task .pattern) - 2 * m in
-      let l : task .v * d ≤ 69631000 = mul-le-mul {m₂ = 69631} (limited .small-v) (omega (arith, lengths)) in
-      differences-order 0 69631000 (task .u * m) (task .v * d) ∙ le-leb (0 + task .v * d) (task .u * m + 69631000) (omega arith)
+      let l : task .v * d ≤ mostLost = mul-le-mul {m₂ = textLimit + patternLimit} (limited .small-v) (omega (arith, lengths)) in
+      differences-order 0 mostLost (task .u * m) (task .v * d) ∙ le-leb (0 + task .v * d) (task .u * m + mostLost) (omega arith)
 
-  pub score-high : AtMost (scoreOf task a b) (pos 4096000)
+  pub score-high : AtMost (scoreOf task a b) (pos mostGained)
   unfolding AtMost scoreOf linear distance
   score-high =
       let m : ℕ = sharedOf task a b in
       let d : ℕ = lengthOf a b + length (task .pattern) - 2 * m in
-      differences-order (task .u * m) (task .v * d) 4096000 0 ∙ le-leb (task .u * m + 0) (4096000 + task .v * d) (omega (arith, gained))
+      differences-order (task .u * m) (task .v * d) mostGained 0 ∙ le-leb (task .u * m + 0) (mostGained + task .v * d) (omega (arith, gained))
 
   -- the score is what its biased word stands for
   pub score-biased : scoreOf task a b ≡ unbiased (biasedOf task a b)
   unfolding scoreOf biasedOf
-  score-biased = linear-biased (task .u) (task .v) (length (task .pattern)) (sharedOf task a b) (lengthOf a b) (twice-shared task a b h) (omega (arith, weighed))
+  score-biased =
+      linear-biased (task .u) (task .v) (length (task .pattern)) (sharedOf task a b) (lengthOf a b) (twice-shared task a b h) (omega (arith, weighed))
 
   -- the word is 32 bits wide and not 0
   pub biased-within : (0 < biasedOf task a b) × (biasedOf task a b < 2 * bias)
   unfolding biasedOf biased
   biased-within =
-      let e : (task .u + 2 * task .v) * sharedOf task a b ≤ 12288000 = mul-le-mul {n₂ = 3000} {m₂ = 4096} (omega (arith, limited .small-u, limited .small-v)) (omega (arith, shared-le-size task a b, limited .short-pattern)) in
+      let e : (task .u + 2 * task .v) * sharedOf task a b ≤ 3 * mostGained =
+      mul-le-mul {n₂ = 3 * weightLimit} {m₂ = patternLimit} (omega (arith, limited .small-u, limited .small-v))
+      (omega (arith, shared-le-size task a b, limited .short-pattern)) in
       omega (arith, weighed)
 
 -- scores order as their words do
-pub scores-order : (task : Task) → Limited task → (a b c d : ℕ) → b < length (task .text) → d < length (task .text) → leZ (scoreOf task a b) (scoreOf task c d) ≡ leb (biasedOf task a b) (biasedOf task c d)
+pub scores-order : (task : Task) → Limited task → (a b c d : ℕ) → b < length (task .text) → d < length (task .text)
+    → leZ (scoreOf task a b) (scoreOf task c d) ≡ leb (biasedOf task a b) (biasedOf task c d)
 unfolding scoreOf biasedOf
 scores-order task limited a b c d h k =
     biased-order (task .u) (task .v) (length (task .pattern)) (sharedOf task a b) (lengthOf a b) (sharedOf task c d) (lengthOf c d)
     (twice-shared task a b h) (omega (arith, weighed task limited a b h)) (twice-shared task c d k) (omega (arith, weighed task limited c d k))
 
 -- and against a threshold of 32 bits
-pub threshold-order : (task : Task) → Limited task → mag (task .threshold) < bias → (a b : ℕ) → b < length (task .text) → leZ (task .threshold) (scoreOf task a b) ≡ leb (biasedZ (task .threshold)) (biasedOf task a b)
-threshold-order task limited l a b h = ap₂ leZ (sym (unbiased-biasedZ (task .threshold) l)) (score-biased task limited a b h) ∙ unbiased-order (biasedZ (task .threshold)) (biasedOf task a b)
+pub threshold-order : (task : Task) → Limited task → mag (task .threshold) < bias → (a b : ℕ) → b < length (task .text)
+    → leZ (task .threshold) (scoreOf task a b) ≡ leb (biasedZ (task .threshold)) (biasedOf task a b)
+threshold-order task limited l a b h = ap₂ leZ (sym (unbiased-biasedZ (task .threshold) l)) (score-biased task limited a b h)
+    ∙ unbiased-order (biasedZ (task .threshold)) (biasedOf task a b)

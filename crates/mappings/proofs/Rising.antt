@@ -1,5 +1,4 @@
 -- Elements of a list by their index, and lists of numbers that rise strictly.
--- Assumes nothing.
 use Prim.Native.Nat.{ℕ, zero, suc, _≤_, _<_, suc-le-suc}
 use native.Mathlib.Nat.{not-suc-le-zero, le-of-suc-le-suc, lt-irrefl, zero-lt-suc}
 use native.Mathlib.Omega.{arith}
@@ -10,8 +9,8 @@ use mathlib.Core.List.{List, [], _∷_, List·Memᴰ, List·Memᴰ·head, List·
 use lib.Dec.{ltb}
 use lib.ListN.{length, getD}
 use borrow.Author.Tests.{ltb-true, ltb-false}
-use Rattle.counts.specs.Lists.{addIf, keep, range}
-use Rattle.counts.proofs.Lists.{keep-mem, range-mem, decided}
+use Rattle.base.specs.Lists.{addIf, keep, range}
+use Rattle.base.proofs.Lists.{keep-mem, range-mem, decided}
 
 module _ {A : Type 0} (d : A) where
   pub getD-mem : (l : List A) (i : ℕ) → i < length l → List·Memᴰ (getD l i d) l

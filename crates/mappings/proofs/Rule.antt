@@ -1,5 +1,4 @@
 -- The rule of a step, unrolled by one cell; what a step passes, finds and reports.
--- Assumes nothing.
 use Prim.Native.Nat.{ℕ, zero, suc, _+_, _≤_, _<_, zero-le}
 use native.Mathlib.Nat.{eq-or-lt-of-le, ne-of-lt, le-of-eq, le-of-lt}
 use native.Mathlib.Omega.{arith}
@@ -8,14 +7,16 @@ use mathlib.Core.Logic.{_⊎_, inl, inr}
 use mathlib.Core.Bool.{Bool, true, false, cond}
 use mathlib.Core.List.{List, [], _∷_, map}
 use lib.Dec.{eqb}
-use lib.ListN.{length, getD, take, drop}
+use lib.ListN.{getD, take, drop}
 use lib.Seq.{take-nil, drop-cons}
 use borrow.Author.Tests.{eq-eqb, ne-eqb}
-use Rattle.counts.specs.Lists.{keep}
-use Rattle.counts.proofs.Lists.{decided}
+use Rattle.base.specs.Lists.{keep}
+use Rattle.base.proofs.Lists.{decided}
 use Rattle.mappings.specs.Score.{Task}
-use Rattle.mappings.specs.Cells.{Cell, Mapping, mappingOf, cellsOf, hitCount, cellCount, isFinalCell}
-use Rattle.mappings.specs.Rule.{Answer, found, finished, spent, refused, reported, moreCells, First, none, first, firstFinal, lookedAt, ruled, ruleAnswer, handedOut}
+use Rattle.mappings.specs.Cells.{Cell, Mapping, mappingOf, cellsOf, hitCount, cellCount}
+use Rattle.mappings.specs.FinalTest.{isFinalCell}
+use Rattle.mappings.specs.Rule.{Answer, found, finished, spent, refused, reported, lookedAt, answerFrom, ruleAnswer, handedOut}
+use Rattle.mappings.specs.Steps.{moreCells}
 use Rattle.mappings.proofs.Cells.{cellAt, length-cells, drop-all-cells}
 
 -- h(h + 1)/2 of a task
@@ -28,23 +29,9 @@ finalsOf task cells = map (mappingOf task) (keep (isFinalCell task) cells)
 
 -- ---- one cell
 
--- numbers count on from one more
-numberedOn : First → First
-numberedOn none = none
-numberedOn (first n cell) = first (suc n) cell
-
-first-numbered : (task : Task) (n : ℕ) (l : List Cell) → firstFinal task (suc n) l ≡ numberedOn (firstFinal task n l)
-unfolding numberedOn
-first-numbered task n [] = refl
-first-numbered task n (cell ∷ rest) = go (isFinalCell task cell) (first-numbered task (suc n) rest)
-  where
-    go : (b : Bool) → firstFinal task (suc (suc n)) rest ≡ numberedOn (firstFinal task (suc n) rest) → cond b (first (suc (suc n)) cell) (firstFinal task (suc (suc n)) rest) ≡ numberedOn (cond b (first (suc n) cell) (firstFinal task (suc n) rest))
-    go true e = refl
-    go false e = e
-
-ruled-numbered : (task : Task) (q n : ℕ) (f : First) → ruled task q (suc n) (numberedOn f) ≡ moreCells 1 (ruled task (suc q) n f)
-unfolding numberedOn
-ruled-numbered task q n none =
+-- one cell passed before the step or in it: the answer is the same, with one cell more reported
+answer-numbered : (task : Task) (q n : ℕ) (l : List Cell) → answerFrom task q (suc n) l ≡ moreCells 1 (answerFrom task (suc q) n l)
+answer-numbered task q n [] =
     let along : q + suc n ≡ suc q + n = omega arith in
     let one : suc n ≡ 1 + n = omega arith in
     rw (along, one) (go (eqb (suc q + n) (total task)))
@@ -52,7 +39,13 @@ ruled-numbered task q n none =
     go : (b : Bool) → cond b (finished (1 + n)) (spent (1 + n)) ≡ moreCells 1 (cond b (finished n) (spent n))
     go true = refl
     go false = refl
-ruled-numbered task q n (first k cell) = ap (found (mappingOf task cell)) (omega arith)
+answer-numbered task q n (cell ∷ rest) = go (isFinalCell task cell) (answer-numbered task q (suc n) rest)
+  where
+    go : (b : Bool) → answerFrom task q (suc (suc n)) rest ≡ moreCells 1 (answerFrom task (suc q) (suc n) rest)
+        → cond b (found (mappingOf task cell) (suc (suc n))) (answerFrom task q (suc (suc n)) rest)
+        ≡ moreCells 1 (cond b (found (mappingOf task cell) (suc n)) (answerFrom task (suc q) (suc n) rest))
+    go true e = ap (found (mappingOf task cell)) (omega arith)
+    go false e = e
 
 module _ (task : Task) (q : ℕ) where
   -- no budget: nothing is passed
@@ -64,8 +57,9 @@ module _ (task : Task) (q : ℕ) where
   pub rule-none-left : (B : ℕ) → q ≡ total task → ruleAnswer task q B ≡ finished 0
   unfolding ruleAnswer lookedAt cellsOf
   rule-none-left B e =
-      let nothing : take B (drop q (cellsOf task)) ≡ [] = ap (λ (n : ℕ). take B (drop n (cellsOf task))) e ∙ ap (take B) (drop-all-cells (hitCount task)) ∙ take-nil B in
-      ap (λ (l : List Cell). ruled task q (length l) (firstFinal task 0 l)) nothing
+      let nothing : take B (drop q (cellsOf task)) ≡ [] = ap (λ (n : ℕ). take B (drop n (cellsOf task))) e ∙ ap (take B) (drop-all-cells (hitCount task))
+      ∙ take-nil B in
+      ap (answerFrom task q 0) nothing
       ∙ rw (eq-eqb (q + 0) (total task) (omega arith))
 
   module _ (cell : Cell) (next : drop q (cellsOf task) ≡ cell ∷ drop (suc q) (cellsOf task)) where
@@ -76,14 +70,12 @@ module _ (task : Task) (q : ℕ) where
     -- the next cell is final: found
     pub rule-found : (B : ℕ) → isFinalCell task cell ≡ true → ruleAnswer task q (suc B) ≡ found (mappingOf task cell) 1
     unfolding ruleAnswer
-    rule-found B e = ap (λ (l : List Cell). ruled task q (length l) (firstFinal task 0 l)) (looked-next B) ∙ rw e
+    rule-found B e = ap (answerFrom task q 0) (looked-next B) ∙ rw e
 
     -- the next cell is not final: the answer from there on, with one cell more
     pub rule-pass : (B : ℕ) → isFinalCell task cell ≡ false → ruleAnswer task q (suc B) ≡ moreCells 1 (ruleAnswer task (suc q) B)
     unfolding ruleAnswer
-    rule-pass B e =
-        ap (λ (l : List Cell). ruled task q (length l) (firstFinal task 0 l)) (looked-next B)
-        ∙ rw (e, first-numbered task 0 (lookedAt task (suc q) B)) (ruled-numbered task q (length (lookedAt task (suc q) B)) (firstFinal task 0 (lookedAt task (suc q) B)))
+    rule-pass B e = ap (answerFrom task q 0) (looked-next B) ∙ rw e (answer-numbered task q 0 (lookedAt task (suc q) B))
 
 -- cells reported add up
 pub more-cells : (n k : ℕ) (answer : Answer) → moreCells n (moreCells k answer) ≡ moreCells (n + k) answer
@@ -98,8 +90,10 @@ more-cells n k (refused number) = refl
 pub data Passing (task : Task) : ℕ → ℕ → Answer → Type 0 where
   none-left : {q B : ℕ} → q ≡ total task → Passing task q B (finished 0)
   no-budget : {q : ℕ} → q < total task → Passing task q 0 (spent 0)
-  final : {q B : ℕ} (cell : Cell) → q < total task → drop q (cellsOf task) ≡ cell ∷ drop (suc q) (cellsOf task) → isFinalCell task cell ≡ true → Passing task q (suc B) (found (mappingOf task cell) 1)
-  pass : {q B : ℕ} {answer : Answer} (cell : Cell) → q < total task → drop q (cellsOf task) ≡ cell ∷ drop (suc q) (cellsOf task) → isFinalCell task cell ≡ false → Passing task (suc q) B answer → Passing task q (suc B) (moreCells 1 answer)
+  final : {q B : ℕ} (cell : Cell) → q < total task → drop q (cellsOf task) ≡ cell ∷ drop (suc q) (cellsOf task) → isFinalCell task cell ≡ true
+      → Passing task q (suc B) (found (mappingOf task cell) 1)
+  pass : {q B : ℕ} {answer : Answer} (cell : Cell) → q < total task → drop q (cellsOf task) ≡ cell ∷ drop (suc q) (cellsOf task)
+      → isFinalCell task cell ≡ false → Passing task (suc q) B answer → Passing task q (suc B) (moreCells 1 answer)
 
 next-cell : (task : Task) (q : ℕ) → q < total task → drop q (cellsOf task) ≡ getD (cellsOf task) q (cellAt 0 0) ∷ drop (suc q) (cellsOf task)
 unfolding cellsOf
@@ -113,7 +107,8 @@ passing task q zero h = go (eq-or-lt-of-le h)
     go (inr l) = rw (rule-no-budget task q, ne-eqb q (total task) (ne-of-lt l)) (no-budget l)
 passing task q (suc B) h = go (λ l. passing task (suc q) B l) (eq-or-lt-of-le h) (getD (cellsOf task) q (cellAt 0 0)) (λ l. next-cell task q l)
   where
-    go : (q < total task → Passing task (suc q) B (ruleAnswer task (suc q) B)) → (q ≡ total task) ⊎ (q < total task) → (cell : Cell) → (q < total task → drop q (cellsOf task) ≡ cell ∷ drop (suc q) (cellsOf task)) → Passing task q (suc B) (ruleAnswer task q (suc B))
+    go : (q < total task → Passing task (suc q) B (ruleAnswer task (suc q) B)) → (q ≡ total task) ⊎ (q < total task) → (cell : Cell)
+        → (q < total task → drop q (cellsOf task) ≡ cell ∷ drop (suc q) (cellsOf task)) → Passing task q (suc B) (ruleAnswer task q (suc B))
     go rec (inl e) cell next = rw (rule-none-left task q (suc B) e) (none-left e)
     go rec (inr l) cell next = at (decided (isFinalCell task cell))
       where
@@ -160,7 +155,8 @@ module _ (task : Task) where
   same-found (refused n) = refl
 
   -- a step hands out the final mappings among the cells that it reports
-  pub passing-list : {q B : ℕ} {answer : Answer} → Passing task q B answer → handedOut (answer ∷ []) ≡ finalsOf task (take (reported answer) (drop q (cellsOf task)))
+  pub passing-list : {q B : ℕ} {answer : Answer} → Passing task q B answer
+      → handedOut (answer ∷ []) ≡ finalsOf task (take (reported answer) (drop q (cellsOf task)))
   passing-list (none-left e) = refl
   passing-list (no-budget l) = refl
   passing-list (final cell l next e) = rw (next, e)

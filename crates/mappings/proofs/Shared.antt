@@ -1,5 +1,4 @@
 -- m of one entry more, at either end of an interval; m over any list of codes that covers the pattern's; its bounds.
--- Assumes nothing.
 use Prim.Native.Nat.{ℕ, suc, _+_, _-_, _*_, _≤_, _<_, min, suc-le-suc}
 use native.Mathlib.Nat.{le-of-eq, min-comm}
 use native.Mathlib.Omega.{arith}
@@ -11,10 +10,10 @@ use lib.Dec.{eqb, ltb, leb}
 use lib.ListN.{length, getD, take, drop}
 use lib.Seq.{slice-cons, length-slice, length-take-le, take-suc, drop-append-le}
 use borrow.Author.Tests.{le-ltb, ltb-true, ltb-false, eq-eqb, eqb-true, eqb-false}
-use Rattle.counts.specs.Lists.{bit, addIf, sum}
-use Rattle.counts.specs.Counts.{occ, distinct}
-use Rattle.counts.proofs.Lists.{eq-or-ne, bit-le-one}
-use Rattle.counts.proofs.Counts.{occ-append, occ-mem, bit-other, bit-same}
+use Rattle.base.specs.Lists.{bit, addIf, sum}
+use Rattle.base.specs.Counts.{occ, distinct}
+use Rattle.base.proofs.Lists.{eq-or-ne, bit-le-one}
+use Rattle.base.proofs.Counts.{occ-append, occ-mem, bit-other, bit-same}
 use Rattle.mappings.specs.Score.{interval, shared}
 
 -- ---- the sum over a list of codes
@@ -41,7 +40,8 @@ min-one-more n c = go (ltb c n) refl
     go false e = let h : n ≤ c = ltb-false c n e in omega arith
 
 -- at one code: the smaller count grows where the code is x and p has more of it than s
-code-one-more : (p s s′ : List ℕ) (x y : ℕ) → OneMore x s s′ → min (occ y p) (occ y s′) ≡ bit (eqb x y) * bit (ltb (occ x s) (occ x p)) + min (occ y p) (occ y s)
+code-one-more : (p s s′ : List ℕ) (x y : ℕ) → OneMore x s s′
+    → min (occ y p) (occ y s′) ≡ bit (eqb x y) * bit (ltb (occ x s) (occ x p)) + min (occ y p) (occ y s)
 code-one-more p s s′ x y h = go (eq-or-ne x y)
   where
     go : (x ≡ y) ⊎ (x ≢ y) → min (occ y p) (occ y s′) ≡ bit (eqb x y) * bit (ltb (occ x s) (occ x p)) + min (occ y p) (occ y s)
@@ -65,7 +65,8 @@ occ-distinct : (y : ℕ) (p : List ℕ) → occ y (distinct p) ≡ min 1 (occ y 
 occ-distinct y [] = refl
 occ-distinct y (z ∷ zs) = go (occ-distinct y zs) (eq-or-ne y z) (eqb (occ z zs) 0) refl
   where
-    go : occ y (distinct zs) ≡ min 1 (occ y zs) → (y ≡ z) ⊎ (y ≢ z) → (b : Bool) → eqb (occ z zs) 0 ≡ b → occ y (addIf b z (distinct zs)) ≡ min 1 (bit (eqb y z) + occ y zs)
+    go : occ y (distinct zs) ≡ min 1 (occ y zs) → (y ≡ z) ⊎ (y ≢ z) → (b : Bool) → eqb (occ z zs) 0 ≡ b
+        → occ y (addIf b z (distinct zs)) ≡ min 1 (bit (eqb y z) + occ y zs)
     go rec (inl e) true t =
         let same : bit (eqb y z) ≡ 1 = ap bit (eq-eqb y z e) in
         let gone : occ y zs ≡ 0 = ap (λ (x : ℕ). occ x zs) e ∙ eqb-true (occ z zs) 0 t in
@@ -130,7 +131,8 @@ pub shared-same : (p s s′ : List ℕ) → ((y : ℕ) → 1 ≤ occ y p → occ
 unfolding shared
 shared-same p s s′ h =
     sum-same (λ y. min (occ y p) (occ y s)) (λ y. min (occ y p) (occ y s′)) (distinct p)
-    (λ y m. ap (min (occ y p)) (h y (let e : 1 ≤ occ y (distinct p) = occ-mem y (distinct p) m in let f : occ y (distinct p) ≡ min 1 (occ y p) = occ-distinct y p in omega arith)))
+    (λ y m. ap (min (occ y p))
+    (h y (let e : 1 ≤ occ y (distinct p) = occ-mem y (distinct p) m in let f : occ y (distinct p) ≡ min 1 (occ y p) = occ-distinct y p in omega arith)))
 
 shared-comm : (p s : List ℕ) → shared p s ≡ shared s p
 shared-comm p s =
@@ -183,19 +185,25 @@ more-right t a b h k y =
     ∙ occ-append y (interval t a b) (getD t (suc b) 0 ∷ [])
     ∙ omega arith
 
-shared-left : (p t : List ℕ) (a b : ℕ) → a ≤ b → b < length t → shared p (interval t a b) ≡ bit (ltb (occ (getD t a 0) (interval t (suc a) b)) (occ (getD t a 0) p)) + shared p (interval t (suc a) b)
+shared-left : (p t : List ℕ) (a b : ℕ) → a ≤ b → b < length t
+    → shared p (interval t a b) ≡ bit (ltb (occ (getD t a 0) (interval t (suc a) b)) (occ (getD t a 0) p)) + shared p (interval t (suc a) b)
 shared-left p t a b h k = shared-one-more p (interval t (suc a) b) (interval t a b) (getD t a 0) (more-left t a b h k)
 
-shared-right : (p t : List ℕ) (a b : ℕ) → a ≤ suc b → suc b < length t → shared p (interval t a (suc b)) ≡ bit (ltb (occ (getD t (suc b) 0) (interval t a b)) (occ (getD t (suc b) 0) p)) + shared p (interval t a b)
+shared-right : (p t : List ℕ) (a b : ℕ) → a ≤ suc b → suc b < length t
+    → shared p (interval t a (suc b)) ≡ bit (ltb (occ (getD t (suc b) 0) (interval t a b)) (occ (getD t (suc b) 0) p)) + shared p (interval t a b)
 shared-right p t a b h k = shared-one-more p (interval t a b) (interval t a (suc b)) (getD t (suc b) 0) (more-right t a b h k)
 
 -- the same by the whole interval: m grows exactly where the new end is reasonable
-pub shared-left-end : (p t : List ℕ) (a b : ℕ) → a ≤ b → b < length t → shared p (interval t a b) ≡ bit (leb (occ (getD t a 0) (interval t a b)) (occ (getD t a 0) p)) + shared p (interval t (suc a) b)
+pub shared-left-end : (p t : List ℕ) (a b : ℕ) → a ≤ b → b < length t
+    → shared p (interval t a b) ≡ bit (leb (occ (getD t a 0) (interval t a b)) (occ (getD t a 0) p)) + shared p (interval t (suc a) b)
 shared-left-end p t a b h k =
-    let e : occ (getD t a 0) (interval t a b) ≡ suc (occ (getD t a 0) (interval t (suc a) b)) = more-left t a b h k (getD t a 0) ∙ rw (bit-same (getD t a 0)) (omega arith) in
+    let e : occ (getD t a 0) (interval t a b) ≡ suc (occ (getD t a 0) (interval t (suc a) b)) = more-left t a b h k (getD t a 0)
+    ∙ rw (bit-same (getD t a 0)) (omega arith) in
     shared-left p t a b h k ∙ rw e
 
-pub shared-right-end : (p t : List ℕ) (a b : ℕ) → a ≤ suc b → suc b < length t → shared p (interval t a (suc b)) ≡ bit (leb (occ (getD t (suc b) 0) (interval t a (suc b))) (occ (getD t (suc b) 0) p)) + shared p (interval t a b)
+pub shared-right-end : (p t : List ℕ) (a b : ℕ) → a ≤ suc b → suc b < length t
+    → shared p (interval t a (suc b)) ≡ bit (leb (occ (getD t (suc b) 0) (interval t a (suc b))) (occ (getD t (suc b) 0) p)) + shared p (interval t a b)
 shared-right-end p t a b h k =
-    let e : occ (getD t (suc b) 0) (interval t a (suc b)) ≡ suc (occ (getD t (suc b) 0) (interval t a b)) = more-right t a b h k (getD t (suc b) 0) ∙ rw (bit-same (getD t (suc b) 0)) (omega arith) in
+    let e : occ (getD t (suc b) 0) (interval t a (suc b)) ≡ suc (occ (getD t (suc b) 0) (interval t a b)) = more-right t a b h k (getD t (suc b) 0)
+    ∙ rw (bit-same (getD t (suc b) 0)) (omega arith) in
     shared-right p t a b h k ∙ rw e

@@ -1,5 +1,4 @@
 -- Lists of steps by the rule, from any number q of cells passed: what they hand out, how far they come, and that they finish.
--- Assumes nothing.
 use Prim.Native.Nat.{ℕ, zero, suc, _+_, _≤_, _<_, suc-le-suc}
 use native.Mathlib.Nat.{le-of-suc-le-suc, not-suc-le-zero, ne-of-lt, le-add-left, zero-lt-suc}
 use native.Mathlib.Omega.{arith}
@@ -11,12 +10,14 @@ use lib.Dec.{ltb}
 use lib.ListN.{length, take, drop}
 use lib.Seq.{take-add, drop-drop}
 use borrow.Author.Tests.{lt-ltb, le-ltb, ltb-true, ltb-false, not-true}
-use Rattle.counts.specs.Lists.{addIf, keep}
-use Rattle.counts.proofs.Lists.{decided, clash, and-left, and-right, keep-append, map-append}
-use Rattle.mappings.specs.Limits.{workWords}
+use Rattle.base.specs.Lists.{addIf, keep}
+use Rattle.base.proofs.Lists.{decided, clash, and-left, and-right, keep-append, map-append}
+use Rattle.base.specs.Limits.{workWords}
 use Rattle.mappings.specs.Score.{Task}
-use Rattle.mappings.specs.Cells.{Cell, mappingOf, cellsOf, isFinalCell}
-use Rattle.mappings.specs.Rule.{Answer, found, finished, spent, refused, reported, ruleAnswer, Step, isAccepted, stepAnswer, answers, passed, handedOut}
+use Rattle.mappings.specs.Cells.{Cell, mappingOf, cellsOf}
+use Rattle.mappings.specs.FinalTest.{isFinalCell}
+use Rattle.mappings.specs.Rule.{Answer, found, finished, spent, refused, reported, ruleAnswer, Step, isAccepted, passed, handedOut}
+use Rattle.mappings.specs.Steps.{stepAnswer, answers}
 use Rattle.mappings.specs.Demand.{Found, Finished, HasFinished, stepAt, answerAt, passedBefore, isAmple}
 use Rattle.mappings.proofs.Rule.{total, finalsOf, Passing, passing, Outcome, as-found, as-finished, as-spent, outcome, outcome-within, passing-list}
 

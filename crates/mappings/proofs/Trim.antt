@@ -1,7 +1,6 @@
 -- An end whose code is not in the pattern can be cut off an interval: m stays, and the score does not fall. So each interval that
 -- contains two hits scores at most as much as one that ends on hits and contains them. For any score that does not rise
 -- when the interval grows and m stays; the linear score is one.
--- Assumes nothing.
 use Prim.Native.Nat.{ℕ, zero, suc, _+_, _-_, _*_, _≤_, _<_}
 use native.Mathlib.Nat.{le-refl, le-of-lt, le-step, not-le-of-lt, mul-le-mul-left}
 use native.Mathlib.Omega.{arith}
@@ -14,7 +13,7 @@ use lib.ListN.{length, getD}
 use lib.IntN.{ℤ}
 use lib.Signed.{leZ}
 use borrow.Author.Tests.{ltb-true, ltb-false, le-leb}
-use Rattle.counts.specs.Counts.{occ}
+use Rattle.base.specs.Counts.{occ}
 use Rattle.mappings.specs.Score.{interval, shared, distance, linear, lengthOf}
 use Rattle.mappings.proofs.Integers.{leZ-refl, leZ-trans, differences-order}
 use Rattle.mappings.proofs.Shared.{shared-foreign, more-left, more-right}
@@ -65,14 +64,16 @@ module _ {S : Type 0} (atMost : S → S → Bool) (score : ℕ → ℕ → S) (l
   cut-left : (c d : ℕ) → c ≤ d → d < length t → occ (getD t c 0) p ≡ 0 → atMost (scoreAt score p t c d) (scoreAt score p t (suc c) d) ≡ true
   unfolding lengthOf
   cut-left c d h k e =
-      let m : shared p (interval t c d) ≡ shared p (interval t (suc c) d) = shared-foreign p (interval t (suc c) d) (interval t c d) (getD t c 0) e (more-left t c d h k) in
+      let m : shared p (interval t c d) ≡ shared p (interval t (suc c) d) =
+      shared-foreign p (interval t (suc c) d) (interval t c d) (getD t c 0) e (more-left t c d h k) in
       let l : suc d - c ≡ suc (suc d - suc c) = omega arith in
       rw (m, l) (laws .longer (shared p (interval t (suc c) d)) (suc d - suc c))
 
   cut-right : (c d : ℕ) → c ≤ d → suc d < length t → occ (getD t (suc d) 0) p ≡ 0 → atMost (scoreAt score p t c (suc d)) (scoreAt score p t c d) ≡ true
   unfolding lengthOf
   cut-right c d h k e =
-      let m : shared p (interval t c (suc d)) ≡ shared p (interval t c d) = shared-foreign p (interval t c d) (interval t c (suc d)) (getD t (suc d) 0) e (more-right t c d (omega arith) k) in
+      let m : shared p (interval t c (suc d)) ≡ shared p (interval t c d) =
+      shared-foreign p (interval t c d) (interval t c (suc d)) (getD t (suc d) 0) e (more-right t c d (omega arith) k) in
       let l : suc (suc d) - c ≡ suc (suc d - c) = omega arith in
       rw (m, l) (laws .longer (shared p (interval t c d)) (suc d - c))
 
@@ -83,7 +84,8 @@ module _ {S : Type 0} (atMost : S → S → Bool) (score : ℕ → ℕ → S) (l
   trim-left (suc n) c a d e h k hit = go (trim-left n (suc c) a d (omega arith) h k hit) (ltb 0 (occ (getD t c 0) p)) refl
     where
       go : LeftEnd atMost score p t (suc c) a d → (b : Bool) → ltb 0 (occ (getD t c 0) p) ≡ b → LeftEnd atMost score p t c a d
-      go r true e₁ = record { end = c; from = le-refl c; to = omega arith; hit = ltb-true 0 (occ (getD t c 0) p) e₁; more = laws .reflexive (scoreAt score p t c d) }
+      go r true e₁ =
+          record { end = c; from = le-refl c; to = omega arith; hit = ltb-true 0 (occ (getD t c 0) p) e₁; more = laws .reflexive (scoreAt score p t c d) }
       go r false e₁ =
           let none : occ (getD t c 0) p ≤ 0 = ltb-false 0 (occ (getD t c 0) p) e₁ in
           record {
@@ -91,7 +93,8 @@ module _ {S : Type 0} (atMost : S → S → Bool) (score : ℕ → ℕ → S) (l
             from = le-of-lt (r .from);
             to = r .to;
             hit = r .hit;
-            more = laws .transitive (scoreAt score p t c d) (scoreAt score p t (suc c) d) (scoreAt score p t (r .end) d) (cut-left c d (omega arith) k (omega arith)) (r .more);
+            more = laws .transitive (scoreAt score p t c d) (scoreAt score p t (suc c) d) (scoreAt score p t (r .end) d)
+                (cut-left c d (omega arith) k (omega arith)) (r .more);
           }
 
   trim-right : (d c b : ℕ) → c ≤ b → b ≤ d → d < length t → IsHit p t b → RightEnd atMost score p t c b d
@@ -101,7 +104,15 @@ module _ {S : Type 0} (atMost : S → S → Bool) (score : ℕ → ℕ → S) (l
   trim-right (suc d) c b h₁ h₂ k hit = go (λ h. trim-right d c b h₁ h (le-of-lt k) hit) (ltb 0 (occ (getD t (suc d) 0) p)) refl
     where
       go : (b ≤ d → RightEnd atMost score p t c b d) → (x : Bool) → ltb 0 (occ (getD t (suc d) 0) p) ≡ x → RightEnd atMost score p t c b (suc d)
-      go rec true e = record { end = suc d; from = h₂; to = le-refl (suc d); hit = ltb-true 0 (occ (getD t (suc d) 0) p) e; more = laws .reflexive (scoreAt score p t c (suc d)) }
+      go rec true e =
+          record {
+            end = suc d;
+            from = h₂;
+            to = le-refl (suc d);
+            hit = ltb-true 0 (occ (getD t (suc d) 0) p) e;
+            more =
+                laws .reflexive (scoreAt score p t c (suc d));
+          }
       go rec false e =
           let none : occ (getD t (suc d) 0) p ≤ 0 = ltb-false 0 (occ (getD t (suc d) 0) p) e in
           let other : b ≢ suc d = λ same. not-le-of-lt (rw same at hit) none in
@@ -111,7 +122,8 @@ module _ {S : Type 0} (atMost : S → S → Bool) (score : ℕ → ℕ → S) (l
             from = r .from;
             to = le-step (r .to);
             hit = r .hit;
-            more = laws .transitive (scoreAt score p t c (suc d)) (scoreAt score p t c d) (scoreAt score p t c (r .end)) (cut-right c d (omega arith) k (omega arith)) (r .more);
+            more = laws .transitive (scoreAt score p t c (suc d)) (scoreAt score p t c d) (scoreAt score p t c (r .end))
+                (cut-right c d (omega arith) k (omega arith)) (r .more);
           }
 
   -- each interval that contains two hits scores at most as much as one that ends on hits and contains them

@@ -1,15 +1,12 @@
 -- Hits of the text, and cells: pairs of hits in the order in which a session passes them.
--- Assumes nothing.
-use Prim.Native.Nat.{ℕ, zero, suc, _+_, _-_, _*_, _/_}
-use mathlib.Core.Bool.{Bool}
+use Prim.Native.Nat.{ℕ, zero, suc, _*_, _/_}
 use mathlib.Core.List.{List, [], _∷_, _++_, map}
 use lib.Dec.{ltb}
 use lib.ListN.{length, getD}
 use lib.IntN.{ℤ}
-use Rattle.counts.specs.Lists.{addIf, keep, range}
-use Rattle.counts.specs.Counts.{occ}
+use Rattle.base.specs.Lists.{addIf, range}
+use Rattle.base.specs.Counts.{occ}
 use Rattle.mappings.specs.Score.{Task, scoreOf, sharedOf}
-use Rattle.mappings.specs.Definition1.{isFinal}
 
 -- the hits among these entries of the text, the first of which has index `at`: the indices whose code is in p
 abbrev pub hitsFrom : List ℕ → ℕ → List ℕ → List ℕ
@@ -22,10 +19,6 @@ hits task = hitsFrom (task .pattern) 0 (task .text)
 -- h
 unfoldable pub hitCount : Task → ℕ
 hitCount task = length (hits task)
-
--- the codes of the hits, in their order
-unfoldable pub hitCodes : Task → List ℕ
-hitCodes task = keep (λ (x : ℕ). ltb 0 (occ x (task .pattern))) (task .text)
 
 -- a cell (i, j), i ≤ j, by the numbers of its two hits, from 0
 pub record Cell : Type 0 where
@@ -45,10 +38,6 @@ cells (suc j) = column j (suc j) ++ cells j
 unfoldable pub cellCount : ℕ → ℕ
 cellCount h = h * suc h / 2
 
--- how many of the cells of h hits stand before cell (i, j)
-unfoldable pub place : ℕ → ℕ → ℕ → ℕ
-place h i j = cellCount h - cellCount (suc j) + i
-
 -- the cells of a task, in the order of the list
 unfoldable pub cellsOf : Task → List Cell
 cellsOf task = cells (hitCount task)
@@ -59,10 +48,6 @@ leftEnd task cell = getD (hits task) (cell .row) 0
 
 unfoldable pub rightEnd : Task → Cell → ℕ
 rightEnd task cell = getD (hits task) (cell .column) 0
-
--- cell (i, j) is final when [i, j] is
-unfoldable pub isFinalCell : Task → Cell → Bool
-isFinalCell task cell = isFinal task (leftEnd task cell) (rightEnd task cell)
 
 -- a mapping as it is handed out
 pub record Mapping : Type 0 where

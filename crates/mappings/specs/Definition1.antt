@@ -1,14 +1,11 @@
--- ESKEMAP's Definition 1 as document 01 states it, and as a test that computes.
--- Assumes nothing.
-use Prim.Native.Nat.{ℕ, suc, _-_, _≤_, _<_}
-use mathlib.Core.Bool.{Bool, true, _&&_}
+-- ESKEMAP's Definition 1 as document 01 states it.
+use Prim.Native.Nat.{ℕ, _≤_, _<_}
+use mathlib.Core.Bool.{true}
 use mathlib.Core.Path.{_≡_}
-use lib.Dec.{leb, ltb}
 use lib.ListN.{length, getD}
 use lib.IntN.{ℤ}
 use lib.Signed.{leZ}
-use Rattle.counts.specs.Lists.{every, range}
-use Rattle.counts.specs.Counts.{occ}
+use Rattle.base.specs.Counts.{occ}
 use Rattle.mappings.specs.Score.{Task, interval, scoreOf}
 
 -- t[i] occurs in [a, b] at most as often as in p
@@ -27,23 +24,3 @@ pub record Final (task : Task) (a b : ℕ) : Type 0 where
   pub left : Reasonable task a b a
   pub right : Reasonable task a b b
   pub maximal : (c d : ℕ) → c ≤ a → b ≤ d → d < length (task .text) → AtMost (scoreOf task c d) (scoreOf task a b)
-
--- the same as tests
-unfoldable pub isReasonable : Task → ℕ → ℕ → ℕ → Bool
-isReasonable task a b i = leb (occ (getD (task .text) i 0) (interval (task .text) a b)) (occ (getD (task .text) i 0) (task .pattern))
-
--- no interval [c, d] with c from 0 to a and d from b to the text's end scores more than [a, b]
-unfoldable pub isMaximal : Task → ℕ → ℕ → Bool
-isMaximal task a b =
-    every
-    (λ (c : ℕ). every (λ (d : ℕ). leZ (scoreOf task c d) (scoreOf task a b)) (range b (length (task .text) - b)))
-    (range 0 (suc a))
-
-unfoldable pub isFinal : Task → ℕ → ℕ → Bool
-isFinal task a b =
-    leb a b
-    && ltb b (length (task .text))
-    && leZ (task .threshold) (scoreOf task a b)
-    && isReasonable task a b a
-    && isReasonable task a b b
-    && isMaximal task a b

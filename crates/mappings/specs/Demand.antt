@@ -1,5 +1,4 @@
 -- Demand 3: one claim about a whole list of steps from a fresh session, over the answers that the steps gave.
--- Assumes nothing.
 use Prim.Native.Nat.{ℕ, suc, _+_, _≤_, _<_}
 use mathlib.Core.Bool.{Bool, _&&_}
 use mathlib.Core.Path.{_≡_}
@@ -7,8 +6,8 @@ use mathlib.Core.Logic.{_↔_}
 use mathlib.Core.List.{List, [], _∷_, List·Memᴰ}
 use lib.Dec.{ltb}
 use lib.ListN.{length, getD, take}
-use Rattle.counts.specs.Lists.{keep}
-use Rattle.mappings.specs.Limits.{workWords}
+use Rattle.base.specs.Lists.{keep}
+use Rattle.base.specs.Limits.{workWords}
 use Rattle.mappings.specs.Score.{Task}
 use Rattle.mappings.specs.Definition1.{Final}
 use Rattle.mappings.specs.Cells.{Cell, Mapping, mappingOf, cellsOf, hitCount, cellCount, leftEnd, rightEnd}
@@ -21,8 +20,10 @@ FinalCell task cell = Final task (leftEnd task cell) (rightEnd task cell)
 -- these mappings are exactly the final ones among these cells, in the cells' order, each with its a, b, score and m
 pub data FinalsAmong (task : Task) : List Cell → List Mapping → Type 0 where
   no-cells : FinalsAmong task [] []
-  with-final : {cell : Cell} {cells : List Cell} {mappings : List Mapping} → FinalCell task cell → FinalsAmong task cells mappings → FinalsAmong task (cell ∷ cells) (mappingOf task cell ∷ mappings)
-  without : {cell : Cell} {cells : List Cell} {mappings : List Mapping} → ¬ FinalCell task cell → FinalsAmong task cells mappings → FinalsAmong task (cell ∷ cells) mappings
+  with-final : {cell : Cell} {cells : List Cell} {mappings : List Mapping} → FinalCell task cell → FinalsAmong task cells mappings
+      → FinalsAmong task (cell ∷ cells) (mappingOf task cell ∷ mappings)
+  without : {cell : Cell} {cells : List Cell} {mappings : List Mapping} → ¬ FinalCell task cell → FinalsAmong task cells mappings
+      → FinalsAmong task (cell ∷ cells) mappings
 
 -- no two of these mappings have the same a and the same b
 abbrev pub EachOnce : List Mapping → Type 0
@@ -74,9 +75,11 @@ pub record Demanded (task : Task) (steps : List Step) (given : List Answer) : Ty
   -- it then reports no cells
   pub unmoved : (n : ℕ) → n < length steps → stepAt steps n .lent < workWords → passedBefore given (suc n) ≡ passedBefore given n
   -- each accepted step's answer, its cells included, is the one that the rule gives for its budget and the q before it
-  pub by-rule : (n : ℕ) → n < length steps → workWords ≤ stepAt steps n .lent → answerAt given n ≡ ruleAnswer task (passedBefore given n) (stepAt steps n .budget)
+  pub by-rule : (n : ℕ) → n < length steps → workWords ≤ stepAt steps n .lent
+      → answerAt given n ≡ ruleAnswer task (passedBefore given n) (stepAt steps n .budget)
   -- a step answers finished exactly when it is accepted, finds nothing and leaves q at h(h + 1)/2
-  pub finishes : (n : ℕ) → n < length steps → Finished (answerAt given n) ↔ ((workWords ≤ stepAt steps n .lent) × (¬ Found (answerAt given n)) × (passedBefore given (suc n) ≡ cellCount (hitCount task)))
+  pub finishes : (n : ℕ) → n < length steps → Finished (answerAt given n)
+      ↔ ((workWords ≤ stepAt steps n .lent) × (¬ Found (answerAt given n)) × (passedBefore given (suc n) ≡ cellCount (hitCount task)))
   -- then no final mapping is missing: each has been handed out by that step or one before it
   pub complete : (n : ℕ) → n < length steps → Finished (answerAt given n) → (a b : ℕ) → Final task a b → Among (handedOut (take (suc n) given)) a b
   -- once h(h + 1)/2 + 1 accepted steps have had budgets of at least 1, finished has been answered

@@ -1,8 +1,14 @@
 -- ESKEMAP's score and Definition 1, cells, and the rule of a list of steps, in the order of document 01.
-pub mod Limits
 pub mod Score
-pub mod Bias
 pub mod Definition1
 pub mod Cells
+pub mod FinalTest
 pub mod Rule
 pub mod Demand
+-- what the work words of a session hold: the codes of the hits, scores as words
+pub mod HitCodes
+pub mod Bias
+-- what only code or proofs speak of
+pub mod Unbiased
+pub mod Places
+pub mod Steps

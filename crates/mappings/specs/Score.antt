@@ -4,8 +4,8 @@ use mathlib.Core.List.{List, map}
 use lib.ListN.{length}
 use lib.Seq.{slice}
 use lib.IntN.{ℤ, pos, _-ℤ_}
-use Rattle.counts.specs.Lists.{sum}
-use Rattle.counts.specs.Counts.{occ, distinct}
+use Rattle.base.specs.Lists.{sum}
+use Rattle.base.specs.Counts.{occ, distinct}
 
 -- what is mapped: the codes of the struck text t and of the pattern p, the weights u and v, the threshold
 pub record Task : Type 0 where

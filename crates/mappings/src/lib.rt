@@ -1,1 +1,1 @@
-// Definition 1 and the rule of steps: definitions and laws. Assumes nothing.
+// Definition 1 and the rule of steps: definitions and laws.

@@ -1,9 +1,8 @@
--- One name that opens every definition up to the sketch, for proofs that compute. Assumes nothing.
-use Rattle.minimizers.specs.Letters.{value, isForeign, runs}
-use Rattle.minimizers.specs.Kmers.{codeOf, kmers, rank}
+-- One name that opens every definition up to the sketch, for proofs that compute.
 use Rattle.minimizers.specs.Windows.{windows, lower}
 use Rattle.minimizers.specs.Sketch.{pickedBy, runSketch, sketchRuns, sketch}
+use Rattle.kmers.proofs.Compute.{kmers-compute}
 
 unfoldable pub minimizers-compute : Unit {0}
-unfolding value isForeign runs codeOf kmers rank windows lower pickedBy runSketch sketchRuns sketch
+unfolding kmers-compute windows lower pickedBy runSketch sketchRuns sketch
 minimizers-compute = tt

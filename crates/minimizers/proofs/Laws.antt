@@ -1,6 +1,5 @@
 -- Laws of sketches for the crates above: codes and positions go together, positions rise strictly and stay within the letters, and
 -- each code is that of the k-mer at its position.
--- Assumes nothing.
 use Prim.Native.Nat.{ℕ, zero, suc, _+_, _-_, _^_, _≤_, _<_, zero-le}
 use native.Mathlib.Nat.{le-refl, le-trans, le-suc, zero-lt-suc, pow-le-pow-right, lt-of-lt-of-le}
 use native.Mathlib.Omega.{arith}
@@ -10,16 +9,18 @@ use mathlib.Core.Bool.{Bool, true, false}
 use mathlib.Core.List.{List, [], _∷_, _++_, map, List·Memᴰ, List·Memᴰ·head, List·Memᴰ·tail, List·Memᴰ·append-cases}
 use mathlib.Core.List.{List·Memᴰ·cases-cons, List·Memᴰ·not-nil}
 use lib.ListN.{length, getD, take, drop, length-map}
-use Rattle.counts.specs.Lists.{keep, addIf, range, any}
-use Rattle.counts.proofs.Lists.{keep-mem, map-append}
-use Rattle.minimizers.specs.Limits.{kLimit}
-use Rattle.minimizers.specs.Letters.{value, isForeign}
-use Rattle.minimizers.specs.Kmers.{Entry, codeOf, codes, positions, entries, rank, rankModulus}
+use Rattle.base.specs.Lists.{keep, addIf, range, any}
+use Rattle.base.proofs.Lists.{keep-mem, map-append}
+use Rattle.base.specs.Limits.{kLimit}
+use Rattle.kmers.specs.Letters.{value, isForeign}
+use Rattle.kmers.specs.Kmers.{Entry, codeOf, codes, positions, entries, rank}
+use Rattle.kmers.specs.Ranks.{rankModulus}
 use Rattle.minimizers.specs.Windows.{picks, windows}
 use Rattle.minimizers.specs.Sketch.{sketch, pickedBy}
-use Rattle.minimizers.specs.Places.{entryAt, codeAt, span, spanSketch, runEnd, sketchFrom}
-use Rattle.minimizers.proofs.Ranks.{rank-one-to-one}
-use Rattle.minimizers.proofs.Codes.{codeAt-below}
+use Rattle.kmers.specs.Places.{entryAt, codeAt, span, runEnd}
+use Rattle.minimizers.specs.Places.{spanSketch, sketchFrom}
+use Rattle.kmers.proofs.Ranks.{rank-one-to-one}
+use Rattle.kmers.proofs.Codes.{codeAt-below}
 use Rattle.minimizers.proofs.Runs.{by-runs, runEnd-within, run-letters}
 
 -- ---- codes and positions of any entries

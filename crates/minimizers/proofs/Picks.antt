@@ -1,8 +1,8 @@
 -- Windows by position: what a window picks is its lowest, picks never move left, and so the sketch of a run is the pick of each
 -- window where it is new.
--- Assumes nothing.
 use Prim.Native.Nat.{ℕ, zero, suc, _+_, _-_, _≤_, _<_}
-use native.Mathlib.Nat.{le-refl, le-antisymm, le-trans, le-of-eq, le-of-lt, le-step, lt-of-lt-of-le, lt-of-le-of-lt, lt-trans, ne-of-lt, ne-of-gt, add-zero, add-sub-cancel-left}
+use native.Mathlib.Nat.{le-refl, le-antisymm, le-trans, le-of-eq, le-of-lt, le-step, lt-of-lt-of-le, lt-of-le-of-lt, lt-trans, ne-of-lt}
+use native.Mathlib.Nat.{ne-of-gt, add-zero, add-sub-cancel-left}
 use native.Mathlib.Omega.{arith}
 use mathlib.Core.Path.{_≡_, refl, sym, ap, ap₂, _∙_, subst}
 use mathlib.Core.Bool.{Bool, true, false, cond}
@@ -10,14 +10,14 @@ use mathlib.Core.List.{List, [], _∷_, map}
 use lib.Dec.{leb, ltb, eqb}
 use lib.ListN.{length, take, length-map}
 use borrow.Author.Tests.{ltb-true, ltb-false, eqb-true, eqb-false, leb-true, leb-false, le-leb, lt-leb, lt-ltb, le-ltb, eq-eqb, ne-eqb}
-use Rattle.counts.specs.Lists.{addIf, keep, any, range}
-use Rattle.counts.proofs.Lists.{length-range, or-left}
-use Rattle.minimizers.specs.Kmers.{Entry}
+use Rattle.base.specs.Lists.{addIf, keep, any, range}
+use Rattle.base.proofs.Lists.{length-range, or-left}
+use Rattle.kmers.specs.Kmers.{Entry}
 use Rattle.minimizers.specs.Windows.{neighbours, windows, lower, lowest, picks}
 use Rattle.minimizers.specs.Sketch.{pickedBy}
-use Rattle.minimizers.specs.Places.{rankAt, entryAt, span, spanSketch}
-use Rattle.minimizers.specs.Places.{IsLowest, pickedFrom}
-use Rattle.minimizers.proofs.Spans.{span-cons, span-none}
+use Rattle.kmers.specs.Places.{rankAt, entryAt, span}
+use Rattle.minimizers.specs.Places.{spanSketch, IsLowest, pickedFrom}
+use Rattle.kmers.proofs.Spans.{span-cons, span-none}
 
 -- ---- the lowest of neighbouring positions, under any ranks
 
@@ -107,7 +107,8 @@ module _ (k : ℕ) (letters : List ℕ) where
       Found : Entry → Type 0
       Found e = (p′ : ℕ) × IsLowest (rankAt k letters) from to p′ × (lowest e rest ≡ entryAt k letters p′)
 
-      go : (t : Bool) → leb (rankAt k letters b) (rankAt k letters p) ≡ t → ((p₁ : ℕ) → IsLowest (rankAt k letters) from (suc b) p₁ → Found (entryAt k letters p₁))
+      go : (t : Bool) → leb (rankAt k letters b) (rankAt k letters p) ≡ t
+          → ((p₁ : ℕ) → IsLowest (rankAt k letters) from (suc b) p₁ → Found (entryAt k letters p₁))
           → Found (cond t (entryAt k letters b) (entryAt k letters p))
       go true e rec = rec b (lowest-new (rankAt k letters) from b p is (leb-true (rankAt k letters b) (rankAt k letters p) e))
       go false e rec = rec p (lowest-kept (rankAt k letters) from b p is (leb-false (rankAt k letters b) (rankAt k letters p) e))
@@ -138,7 +139,8 @@ module _ (k : ℕ) (letters : List ℕ) where
   neighbours-span w i to some h =
       let n : ℕ = to - suc i in
       let all : span k letters i to ≡ map (entryAt k letters) (range i (suc n)) = span-cons k letters i to (omega arith) in
-      let test : leb w (length (map (entryAt k letters) (range i (suc n)))) ≡ true = le-leb w (length (map (entryAt k letters) (range i (suc n)))) (rw (line-length i (suc n)) (omega arith)) in
+      let test : leb w (length (map (entryAt k letters) (range i (suc n)))) ≡ true =
+      le-leb w (length (map (entryAt k letters) (range i (suc n)))) (rw (line-length i (suc n)) (omega arith)) in
       let window : take w (map (entryAt k letters) (range i (suc n))) ≡ span k letters i (i + w) =
       line-take w (suc n) i (omega arith) ∙ ap (λ (m : ℕ). map (entryAt k letters) (range i m)) (sym (add-sub-cancel-left i w)) in
       ap (neighbours w) all
@@ -148,8 +150,10 @@ module _ (k : ℕ) (letters : List ℕ) where
   neighbours-none : (w n i : ℕ) → n < w → neighbours w (map (entryAt k letters) (range i n)) ≡ []
   neighbours-none w zero i h = refl
   neighbours-none w (suc n) i h =
-      let test : leb w (length (map (entryAt k letters) (range i (suc n)))) ≡ false = lt-leb w (length (map (entryAt k letters) (range i (suc n)))) (rw (line-length i (suc n)) h) in
-      ap₂ (λ (t : Bool) (ws : List (List Entry)). addIf t (take w (map (entryAt k letters) (range i (suc n)))) ws) test (neighbours-none w n (suc i) (omega arith))
+      let test : leb w (length (map (entryAt k letters) (range i (suc n)))) ≡ false =
+      lt-leb w (length (map (entryAt k letters) (range i (suc n)))) (rw (line-length i (suc n)) h) in
+      ap₂ (λ (t : Bool) (ws : List (List Entry)). addIf t (take w (map (entryAt k letters) (range i (suc n)))) ws) test
+      (neighbours-none w n (suc i) (omega arith))
 
   -- left of a window's lowest neither it nor a later window picks
   none-left : (w to p x : ℕ) → 1 ≤ w → (i₀ : ℕ) → IsLowest (rankAt k letters) i₀ (i₀ + w) p → x < p
@@ -157,7 +161,8 @@ module _ (k : ℕ) (letters : List ℕ) where
   none-left w to p x some i₀ is h zero i a b = ap (λ (es : List Entry). any (picks x) (neighbours w es)) (span-none k letters i to (omega arith))
   none-left w to p x some i₀ is h (suc n) i a b = go (leb (i + w) to) refl (none-left w to p x some i₀ is h n (suc i) (le-step a) (omega arith))
     where
-      go : (t : Bool) → leb (i + w) to ≡ t → any (picks x) (neighbours w (span k letters (suc i) to)) ≡ false → any (picks x) (neighbours w (span k letters i to)) ≡ false
+      go : (t : Bool) → leb (i + w) to ≡ t → any (picks x) (neighbours w (span k letters (suc i) to)) ≡ false
+          → any (picks x) (neighbours w (span k letters i to)) ≡ false
       go true t rec =
           let found = lowest-found i (i + w) (omega arith) in
           let right : p ≤ found .0 = lowest-mono (rankAt k letters) i₀ (i₀ + w) p i (i + w) (found .0) is (found .1) a (omega arith) in
@@ -181,15 +186,19 @@ module _ (k : ℕ) (letters : List ℕ) where
   keep-agree : (f g : Entry → Bool) (n m : ℕ) → ((q : ℕ) → m ≤ q → f (entryAt k letters q) ≡ g (entryAt k letters q))
       → keep f (map (entryAt k letters) (range m n)) ≡ keep g (map (entryAt k letters) (range m n))
   keep-agree f g zero m h = refl
-  keep-agree f g (suc n) m h = ap₂ (λ (t : Bool) (es : List Entry). addIf t (entryAt k letters m) es) (h m (le-refl m)) (keep-agree f g n (suc m) (λ q a. h q (omega arith)))
+  keep-agree f g (suc n) m h =
+      ap₂ (λ (t : Bool) (es : List Entry). addIf t (entryAt k letters m) es) (h m (le-refl m)) (keep-agree f g n (suc m) (λ q a. h q (omega arith)))
 
   -- ---- what a run still has to pick
 
   module _ (w to : ℕ) (some : 1 ≤ w) where
     -- the window at i picks nothing new where its lowest is left of m
-    pub picked-old : (i m p : ℕ) → i + w ≤ to → IsLowest (rankAt k letters) i (i + w) p → p < m → pickedFrom k w letters to i m ≡ pickedFrom k w letters to (suc i) m
+    pub picked-old : (i m p : ℕ) → i + w ≤ to → IsLowest (rankAt k letters) i (i + w) p → p < m
+        → pickedFrom k w letters to i m ≡ pickedFrom k w letters to (suc i) m
     unfolding pickedFrom
-    picked-old i m p h is l = keep-agree (λ (e : Entry). any (picks (e .position)) (neighbours w (span k letters i to))) (λ (e : Entry). any (picks (e .position)) (neighbours w (span k letters (suc i) to))) (to - m) m (λ q a. other q (omega arith))
+    picked-old i m p h is l =
+        keep-agree (λ (e : Entry). any (picks (e .position)) (neighbours w (span k letters i to)))
+        (λ (e : Entry). any (picks (e .position)) (neighbours w (span k letters (suc i) to))) (to - m) m (λ q a. other q (omega arith))
       where
         other : (q : ℕ) → p < q → any (picks q) (neighbours w (span k letters i to)) ≡ any (picks q) (neighbours w (span k letters (suc i) to))
         other q a = rw (neighbours-span w i to some h, picks-lowest i (i + w) p is q, ne-eqb q p (omega arith))
@@ -199,14 +208,16 @@ module _ (k : ℕ) (letters : List ℕ) where
         → pickedFrom k w letters to i m ≡ entryAt k letters p ∷ pickedFrom k w letters to (suc i) (suc p)
     unfolding pickedFrom
     picked-new i m p h is l =
-        keep-first f to p (omega (arith, is .last)) picked (p - m) m (omega arith) (λ q a b. none-left w to p q some i is b (to - i) i (le-refl i) (omega arith))
+        keep-first f to p (omega (arith, is .last)) picked (p - m) m (omega arith)
+        (λ q a b. none-left w to p q some i is b (to - i) i (le-refl i) (omega arith))
         ∙ ap (λ (es : List Entry). entryAt k letters p ∷ es) (picked-old i (suc p) p h is (le-refl (suc p)))
       where
         f : Entry → Bool
         f e = any (picks (e .position)) (neighbours w (span k letters i to))
 
         picked : f (entryAt k letters p) ≡ true
-        picked = rw (neighbours-span w i to some h) (or-left (any (picks p) (neighbours w (span k letters (suc i) to))) (picks-lowest i (i + w) p is p ∙ eq-eqb p p refl))
+        picked = rw (neighbours-span w i to some h)
+            (or-left (any (picks p) (neighbours w (span k letters (suc i) to))) (picks-lowest i (i + w) p is p ∙ eq-eqb p p refl))
 
     -- no window is left
     pub picked-none : (i m : ℕ) → to < i + w → pickedFrom k w letters to i m ≡ []
@@ -221,7 +232,8 @@ module _ (k : ℕ) (letters : List ℕ) where
     spanSketch-long from h = ap (λ (ws : List (List Entry)). keep (λ (e : Entry). any (picks (e .position)) ws) (span k letters from to)) all
       where
         all : windows w (span k letters from to) ≡ neighbours w (span k letters from to)
-        all = rw (span-cons k letters from to (omega arith)) (rw (le-ltb (suc (length (span k letters (suc from) to))) w (rw (line-length (suc from) (to - suc from)) (omega arith))) refl)
+        all = rw (span-cons k letters from to (omega arith))
+            (rw (le-ltb (suc (length (span k letters (suc from) to))) w (rw (line-length (suc from) (to - suc from)) (omega arith))) refl)
 
     -- the sketch of a run with fewer k-mers than w, which form one window
     pub spanSketch-short : (from p : ℕ) → to < from + w → IsLowest (rankAt k letters) from to p → spanSketch k w letters from to ≡ entryAt k letters p ∷ []
@@ -229,7 +241,8 @@ module _ (k : ℕ) (letters : List ℕ) where
     spanSketch-short from p h is =
         ap (λ (ws : List (List Entry)). keep (λ (e : Entry). any (picks (e .position)) ws) (span k letters from to)) one
         ∙ keep-first f to p (is .last) picked (p - from) from (omega (arith, is .first)) (λ q a b. no-other q (ne-of-lt b))
-        ∙ ap (λ (es : List Entry). entryAt k letters p ∷ es) (keep-agree f (λ (e : Entry). false) (to - suc p) (suc p) (λ q a. no-other q (ne-of-gt a)) ∙ keep-nothing (span k letters (suc p) to))
+        ∙ ap (λ (es : List Entry). entryAt k letters p ∷ es)
+        (keep-agree f (λ (e : Entry). false) (to - suc p) (suc p) (λ q a. no-other q (ne-of-gt a)) ∙ keep-nothing (span k letters (suc p) to))
       where
         f : Entry → Bool
         f e = any (picks (e .position)) (span k letters from to ∷ [])
@@ -238,7 +251,8 @@ module _ (k : ℕ) (letters : List ℕ) where
         some-kmer = lt-of-le-of-lt (is .first) (is .last)
 
         one : windows w (span k letters from to) ≡ span k letters from to ∷ []
-        one = rw (span-cons k letters from to some-kmer) (rw (lt-ltb (suc (length (span k letters (suc from) to))) w (rw (line-length (suc from) (to - suc from)) (omega arith))) refl)
+        one = rw (span-cons k letters from to some-kmer)
+            (rw (lt-ltb (suc (length (span k letters (suc from) to))) w (rw (line-length (suc from) (to - suc from)) (omega arith))) refl)
 
         picked : f (entryAt k letters p) ≡ true
         picked = rw (picks-lowest from to p is p, eq-eqb p p refl)

@@ -1,5 +1,4 @@
 -- Runs by position: the sketch of the letters from a position on is that of one run and of what stands behind it.
--- Assumes nothing.
 use Prim.Native.Nat.{ℕ, zero, suc, _+_, _-_, _≤_, _<_, zero-le}
 use native.Mathlib.Nat.{add-suc, eq-or-lt-of-le}
 use native.Mathlib.Omega.{arith}
@@ -11,13 +10,14 @@ use lib.Dec.{leb}
 use borrow.Author.Tests.{leb-true, leb-false}
 use lib.ListN.{length, getD, take, drop, length-drop, length-take, length-map, drop-of-length-le}
 use lib.Seq.{drop-drop, take-all, getD-drop}
-use Rattle.counts.specs.Lists.{partsBetween, extend}
-use Rattle.minimizers.specs.Letters.{value, isForeign, runs}
-use Rattle.minimizers.specs.Kmers.{Entry, kmers}
+use Rattle.base.specs.Lists.{partsBetween, extend}
+use Rattle.kmers.specs.Letters.{value, isForeign, runs}
+use Rattle.kmers.specs.Kmers.{Entry, kmers}
 use Rattle.minimizers.specs.Windows.{windows}
 use Rattle.minimizers.specs.Sketch.{pickedBy, runSketch, sketchRuns}
-use Rattle.minimizers.specs.Places.{spanSketch, runLength, runEnd, sketchFrom}
-use Rattle.minimizers.proofs.Spans.{kmers-span}
+use Rattle.minimizers.specs.Places.{spanSketch, sketchFrom}
+use Rattle.kmers.specs.Places.{runLength, runEnd}
+use Rattle.kmers.proofs.Spans.{kmers-span}
 
 run-within : (l : List ℕ) → runLength l ≤ length l
 run-within [] = zero-le
@@ -90,7 +90,8 @@ sketchFrom-run k w at letters pos h = go (eq-or-lt-of-le (run-within l))
     go : (e ≡ length l) ⊎ (e < length l) → sketchFrom k w letters at ≡ spanSketch k w letters at (suc (at + e) - k) ++ sketchFrom k w letters (suc (at + e))
     go (inl p) =
         first [] (ap (map (map value)) (parts-last l p ∙ ap (λ (r : List ℕ). r ∷ []) (sym (take-all e l (omega arith)))))
-        ∙ ap (λ (es : List Entry). spanSketch k w letters at (suc (at + e) - k) ++ es) (sym (sketchFrom-end k w (suc (at + e)) letters (omega (arith, length-drop at letters))))
+        ∙ ap (λ (es : List Entry). spanSketch k w letters at (suc (at + e) - k) ++ es)
+        (sym (sketchFrom-end k w (suc (at + e)) letters (omega (arith, length-drop at letters))))
     go (inr p) =
         first (runs behind)
         (ap (map (map value)) (parts-run l p)
@@ -98,13 +99,15 @@ sketchFrom-run k w at letters pos h = go (eq-or-lt-of-le (run-within l))
 
 pub runEnd-within : (letters : List ℕ) (at : ℕ) → at ≤ length letters → (at ≤ runEnd letters at) × (runEnd letters at ≤ length letters)
 unfolding runEnd
-runEnd-within letters at h = let w : runLength (drop at letters) ≤ length (drop at letters) = run-within (drop at letters) in (omega arith, omega (arith, length-drop at letters))
+runEnd-within letters at h = let w : runLength (drop at letters) ≤ length (drop at letters) =
+    run-within (drop at letters) in (omega arith, omega (arith, length-drop at letters))
 
 run-known : (l : List ℕ) (i : ℕ) → i < runLength l → isForeign (getD l i 0) ≡ false
 run-known [] i h = absurd (omega arith)
 run-known (a ∷ l) i h = go (isForeign a) refl i h (run-known l)
   where
-    go : (b : Bool) → isForeign a ≡ b → (i : ℕ) → i < cond b 0 (suc (runLength l)) → ((i : ℕ) → i < runLength l → isForeign (getD l i 0) ≡ false) → isForeign (getD (a ∷ l) i 0) ≡ false
+    go : (b : Bool) → isForeign a ≡ b → (i : ℕ) → i < cond b 0 (suc (runLength l)) → ((i : ℕ) → i < runLength l → isForeign (getD l i 0) ≡ false)
+        → isForeign (getD (a ∷ l) i 0) ≡ false
     go true e i h rec = absurd (omega arith)
     go false e zero h rec = e
     go false e (suc i) h rec = rec i (omega arith)
@@ -114,17 +117,21 @@ pub run-letters : (letters : List ℕ) (at q : ℕ) → at ≤ q → q < runEnd 
 unfolding runEnd
 run-letters letters at q h j =
     let e : at + (q - at) ≡ q = omega arith in
-    ap (λ (n : ℕ). isForeign (getD letters n 0)) (sym e) ∙ ap isForeign (sym (getD-drop at letters (q - at) 0)) ∙ run-known (drop at letters) (q - at) (omega arith)
+    ap (λ (n : ℕ). isForeign (getD letters n 0)) (sym e) ∙ ap isForeign (sym (getD-drop at letters (q - at) 0))
+    ∙ run-known (drop at letters) (q - at) (omega arith)
 
 -- what holds past the end, and of a run and what stands behind it where it holds of that, holds of the sketch from any position on
 pub by-runs : (k w : ℕ) (letters : List ℕ) → 1 ≤ k → (P : ℕ → List Entry → Type 0)
     → ((at : ℕ) → length letters ≤ at → P at [])
-    → ((at : ℕ) → at ≤ length letters → (es : List Entry) → P (suc (runEnd letters at)) es → P at (spanSketch k w letters at (suc (runEnd letters at) - k) ++ es))
+    → ((at : ℕ) → at ≤ length letters → (es : List Entry) → P (suc (runEnd letters at)) es
+    → P at (spanSketch k w letters at (suc (runEnd letters at) - k) ++ es))
     → (n at : ℕ) → length letters ≤ at + n → P at (sketchFrom k w letters at)
 by-runs k w letters pos P end run zero at h = subst (P at) (sym (sketchFrom-end k w at letters (omega arith))) (end at (omega arith))
 by-runs k w letters pos P end run (suc n) at h = go (leb (length letters) at) refl (λ j. by-runs k w letters pos P end run n (suc (runEnd letters at)) j)
   where
-    go : (b : Bool) → leb (length letters) at ≡ b → (length letters ≤ suc (runEnd letters at) + n → P (suc (runEnd letters at)) (sketchFrom k w letters (suc (runEnd letters at)))) → P at (sketchFrom k w letters at)
+    go : (b : Bool) → leb (length letters) at ≡ b
+        → (length letters ≤ suc (runEnd letters at) + n → P (suc (runEnd letters at)) (sketchFrom k w letters (suc (runEnd letters at))))
+        → P at (sketchFrom k w letters at)
     go true e rec = let j : length letters ≤ at = leb-true (length letters) at e in subst (P at) (sym (sketchFrom-end k w at letters j)) (end at j)
     go false e rec =
         let j : at < length letters = leb-false (length letters) at e in

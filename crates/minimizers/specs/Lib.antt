@@ -1,9 +1,5 @@
--- From letters to their sketch, in the order of document 01.
-pub mod Limits
-pub mod Letters
-pub mod Kmers
+-- From k-mers to the winnowing sketch, in the order of document 01.
 pub mod Windows
 pub mod Sketch
--- the same sketch by places in the letters, and ranks back to codes: what code speaks of
+-- what only code or proofs speak of: the same sketch by places in the letters
 pub mod Places
-pub mod Ranks

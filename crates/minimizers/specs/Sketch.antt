@@ -1,11 +1,10 @@
 -- The sketch of letters.
--- Assumes nothing.
 use Prim.Native.Nat.{ℕ, suc, _+_}
 use mathlib.Core.List.{List, [], _∷_, _++_}
 use lib.ListN.{length}
-use Rattle.counts.specs.Lists.{keep, any}
-use Rattle.minimizers.specs.Letters.{runs}
-use Rattle.minimizers.specs.Kmers.{Entry, kmers}
+use Rattle.base.specs.Lists.{keep, any}
+use Rattle.kmers.specs.Letters.{runs}
+use Rattle.kmers.specs.Kmers.{Entry, kmers}
 use Rattle.minimizers.specs.Windows.{windows, picks}
 
 -- the k-mers that some window picks, each once and in their order

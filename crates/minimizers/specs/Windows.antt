@@ -1,12 +1,11 @@
 -- The windows of a run's k-mers, and the k-mer that a window picks.
--- Assumes nothing.
 use Prim.Native.Nat.{ℕ}
 use mathlib.Core.Bool.{Bool, false, cond}
 use mathlib.Core.List.{List, [], _∷_}
 use lib.Dec.{leb, ltb, eqb}
 use lib.ListN.{length, take}
-use Rattle.counts.specs.Lists.{addIf}
-use Rattle.minimizers.specs.Kmers.{Entry, rank}
+use Rattle.base.specs.Lists.{addIf}
+use Rattle.kmers.specs.Kmers.{Entry, rank}
 
 -- each w neighbouring k-mers
 abbrev pub neighbours : ℕ → List Entry → List (List Entry)

@@ -1,20 +1,11 @@
--- The settings of a run, and the task that they make of the letters of text and read.
+-- The task that the settings of a run (k, w, c, u, v and the threshold) make of the letters of text and read.
 use Prim.Native.Nat.{ℕ}
 use mathlib.Core.List.{List}
-use lib.IntN.{ℤ}
-use Rattle.minimizers.specs.Kmers.{Entry, codes}
+use Rattle.kmers.specs.Kmers.{Entry, codes}
 use Rattle.minimizers.specs.Sketch.{sketch}
 use Rattle.strike.specs.Strike.{struck}
+use Rattle.requests.specs.declared.Settings.{Settings}
 use Rattle.mappings.specs.Score.{Task, taskWith}
-
--- k, w and c, the weights u and v, and the threshold
-pub record Settings : Type 0 where
-  pub k : ℕ
-  pub w : ℕ
-  pub c : ℕ
-  pub u : ℕ
-  pub v : ℕ
-  pub threshold : ℤ
 
 -- the text's sketch, struck
 unfoldable pub textOf : Settings → List ℕ → List Entry

@@ -8,11 +8,11 @@ use lib.Dec.{ltb}
 use lib.ListN.{length, getD, take, drop}
 use lib.Seq.{take-append-seam}
 use borrow.Author.Tests.{ltb-false}
-use Rattle.counts.specs.Replies.{Reply, accepted, after}
-use Rattle.counts.proofs.Lists.{or-neither}
-use Rattle.counts.proofs.Replies.{not-refused}
-use Rattle.minimizers.specs.Limits.{kLimit, wLimit, letterLimit, outside}
-use Rattle.minimizers.specs.Kmers.{Entry, codes, positions, entries}
+use Rattle.base.specs.Replies.{Reply, accepted, after}
+use Rattle.base.proofs.Lists.{or-neither}
+use Rattle.base.proofs.Replies.{not-refused}
+use Rattle.base.specs.Limits.{kLimit, wLimit, letterLimit, outside}
+use Rattle.kmers.specs.Kmers.{Entry, codes, positions, entries}
 use Rattle.minimizers.specs.Sketch.{sketch}
 use Rattle.minimizers.proofs.Laws.{length-codes, length-positions, entries-same, positions-strictly, positions-inside}
 use Rattle.sketch.specs.Replies.{checkedLetters, roomFor, sketchReply, sketchCodes, sketchPositions}

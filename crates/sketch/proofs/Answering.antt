@@ -1,5 +1,4 @@
 -- What sketch and count answer, from the checks passed and the entries counted.
--- Assumes nothing.
 use Prim.Native.Nat.{ℕ, _≤_, _<_, min}
 use native.Mathlib.Nat.{le-trans, min-le-left, min-le-right}
 use native.Mathlib.Omega.{arith}
@@ -9,9 +8,9 @@ use mathlib.Core.List.{List, [], _∷_}
 use lib.Dec.{ltb}
 use lib.ListN.{length}
 use borrow.Author.Tests.{ltb-false, lt-ltb, le-ltb}
-use Rattle.counts.specs.Replies.{Reply, accepted, refused, over}
-use Rattle.minimizers.specs.Limits.{kLimit, wLimit, letterLimit, outside}
-use Rattle.minimizers.specs.Kmers.{codes, positions}
+use Rattle.base.specs.Replies.{Reply, accepted, refused, over}
+use Rattle.base.specs.Limits.{kLimit, wLimit, letterLimit, outside}
+use Rattle.kmers.specs.Kmers.{codes, positions}
 use Rattle.minimizers.specs.Sketch.{sketch}
 use Rattle.sketch.specs.Replies.{checkedLetters, roomFor, sketchReply, sketchCodes, sketchPositions}
 use Rattle.winnowing.specs.Winnowed.{Written, wrote, written}
@@ -55,7 +54,8 @@ room-enough n a b h =
 
 module _ (k w : ℕ) (letters cs ps : List ℕ) where
   -- a refusal leaves the buffers
-  pub sketches-refused : (r : Sketched) (number : ℕ) (values : List ℕ) → replyOf r ≡ refused number values → sketchReply k w letters (length cs) (length ps) ≡ refused number values
+  pub sketches-refused : (r : Sketched) (number : ℕ) (values : List ℕ) → replyOf r ≡ refused number values
+      → sketchReply k w letters (length cs) (length ps) ≡ refused number values
       → Sketches k w letters cs ps r cs ps
   unfolding sketchCodes sketchPositions
   sketches-refused r number values is reply = record { answer = is ∙ sym reply; codes-after = rw reply; positions-after = rw reply }

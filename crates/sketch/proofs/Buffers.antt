@@ -1,5 +1,4 @@
 -- What stands in the buffers once all entries are put: nothing new where there is no room, and all of them where there is enough.
--- Assumes nothing.
 use Prim.Native.Nat.{ℕ, suc, _+_, _≤_, _<_, zero-le}
 use native.Mathlib.Nat.{add-zero, zero-add}
 use native.Mathlib.Omega.{arith}
@@ -8,8 +7,8 @@ use mathlib.Core.List.{List, [], _∷_, _++_, append-nil, append-assoc}
 use lib.ListN.{length, take, drop, set, length-set, length-map, take-append-drop}
 use lib.Seq.{take-suc-set, drop-set-lt}
 use borrow.Author.Tests.{lt-ltb, le-ltb}
-use Rattle.counts.specs.Replies.{over}
-use Rattle.minimizers.specs.Kmers.{Entry, codes, positions}
+use Rattle.base.specs.Replies.{over}
+use Rattle.kmers.specs.Kmers.{Entry, codes, positions}
 use Rattle.winnowing.specs.Winnowed.{wrote, placed, written}
 
 -- the buffer with these words put one after the other, from n on
@@ -17,7 +16,8 @@ pour : ℕ → ℕ → List ℕ → List ℕ → List ℕ
 pour room n [] buffer = buffer
 pour room n (x ∷ xs) buffer = pour room (suc n) xs (placed room n x buffer)
 
-written-pour : (room n : ℕ) (cs ps : List ℕ) (es : List Entry) → written room n cs ps es ≡ wrote (n + length es) (pour room n (codes es) cs) (pour room n (positions es) ps)
+written-pour : (room n : ℕ) (cs ps : List ℕ) (es : List Entry)
+    → written room n cs ps es ≡ wrote (n + length es) (pour room n (codes es) cs) (pour room n (positions es) ps)
 unfolding pour
 written-pour room n cs ps [] = ap (λ (m : ℕ). wrote m cs ps) (sym (add-zero n))
 written-pour room n cs ps (e ∷ es) =
@@ -30,7 +30,8 @@ unfolding pour placed
 pour-nowhere n [] buffer = refl
 pour-nowhere n (x ∷ xs) buffer = rw (le-ltb n 0 zero-le) (pour-nowhere (suc n) xs buffer)
 
-pour-all : (room n : ℕ) (xs buffer : List ℕ) → n + length xs ≤ room → room ≤ length buffer → pour room n xs buffer ≡ take n buffer ++ xs ++ drop (n + length xs) buffer
+pour-all : (room n : ℕ) (xs buffer : List ℕ) → n + length xs ≤ room → room ≤ length buffer
+    → pour room n xs buffer ≡ take n buffer ++ xs ++ drop (n + length xs) buffer
 unfolding pour placed
 pour-all room n [] buffer h l =
     sym (take-append-drop n buffer)

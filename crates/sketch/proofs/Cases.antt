@@ -1,12 +1,11 @@
 -- The refusals of sketch and count, with their limits and their order: each is computed.
--- Assumes nothing.
 use Prim.Native.Nat.{ℕ, _≤_, _<_}
 use mathlib.Core.Path.{_≡_, refl}
 use mathlib.Core.List.{List, [], _∷_}
 use lib.ListN.{length}
 use lib.IntN.{pos, negsuc}
 use borrow.Author.Tests.{lt-ltb, le-ltb}
-use Rattle.counts.specs.Replies.{accepted, refused}
+use Rattle.base.specs.Replies.{accepted, refused}
 use Rattle.minimizers.specs.Sketch.{sketch}
 use Rattle.sketch.specs.Replies.{sketchReply, countReply, hostNumber}
 use Rattle.sketch.proofs.Compute.{sketch-computes}

@@ -1,4 +1,4 @@
--- One name that opens every definition of this crate and of minimizers, for proofs that compute. Assumes nothing.
+-- One name that opens every definition of this crate and of minimizers, for proofs that compute.
 use Rattle.minimizers.proofs.Compute.{minimizers-compute}
 use Rattle.sketch.specs.Replies.{checkedLetters, roomFor, sketchReply, sketchCodes, sketchPositions, countReply}
 

@@ -1,10 +1,9 @@
 -- The cases of `Sketched` as document 01's numbers, and what a call of sketch has to meet.
--- Assumes nothing.
 use Prim.Native.Nat.{ℕ}
 use mathlib.Core.Path.{_≡_}
 use mathlib.Core.List.{List, [], _∷_}
 use lib.ListN.{length}
-use Rattle.counts.specs.Replies.{Reply, accepted, refused}
+use Rattle.base.specs.Replies.{Reply, accepted, refused}
 use Rattle.sketch.specs.Replies.{sketchReply, sketchCodes, sketchPositions}
 use Rattle.sketch.specs.declared.Sketched.{Sketched}
 use Rattle.sketch.specs.declared.Sketched.the-variants.{Entries, BadK, BadW, TooManyLetters, TooShort}

@@ -1,4 +1,3 @@
 -- What document 01's sketch and count answer.
-pub mod Limits
 pub mod Replies
 pub mod Answers

@@ -1,14 +1,13 @@
 -- What the calls that make and count a sketch answer.
--- Assumes nothing.
 use Prim.Native.Nat.{ℕ}
 use mathlib.Core.Bool.{cond, _||_}
 use mathlib.Core.List.{List, [], _∷_}
 use lib.Dec.{ltb}
 use lib.ListN.{length}
 use lib.IntN.{ℤ, pos, negℤ}
-use Rattle.counts.specs.Replies.{Reply, accepted, refused, after}
-use Rattle.minimizers.specs.Limits.{kLimit, wLimit, letterLimit, outside}
-use Rattle.minimizers.specs.Kmers.{codes, positions}
+use Rattle.base.specs.Replies.{Reply, accepted, refused, after}
+use Rattle.base.specs.Limits.{kLimit, wLimit, letterLimit, outside}
+use Rattle.kmers.specs.Kmers.{codes, positions}
 use Rattle.minimizers.specs.Sketch.{sketch}
 
 -- the checks that sketch and count share, 1, 2 and 3, and then what is left to answer

@@ -1,20 +1,16 @@
-// Sketches of letters: the sketch in two buffers, and for a host program the count of its entries.
-// A function assumes what its `requires` says.
-use minimizers::K_LIMIT;
-use minimizers::LETTER_LIMIT;
-use minimizers::W_LIMIT;
-use minimizers::outside;
+// Sketches of letters: the sketch in two buffers, and the count of its entries.
+use base::K_LIMIT;
+use base::LETTER_LIMIT;
+use base::W_LIMIT;
+use base::outside;
 use winnowing::winnow;
 ghost use Prim.Native.Nat.{_≤_, min};
 ghost use mathlib.Core.Path.{_≡_};
 ghost use lib.ListN.{length};
-ghost use Rattle.minimizers.specs.Limits.{kLimit, wLimit, letterLimit};
+ghost use Rattle.base.specs.Limits.{kLimit, wLimit, letterLimit};
 ghost use Rattle.minimizers.specs.Sketch.{sketch};
 ghost use Rattle.sketch.specs.Replies.{hostNumber, countReply};
 ghost use Rattle.sketch.specs.Answers.{Sketches};
-
-// The limit of document 01 on the entries of a text.
-pub const TEXT_LIMIT: usize = 65535;
 
 // What a sketch answers: the number of entries, or why it is refused.
 pub enum Sketched {
@@ -67,8 +63,7 @@ pub fn sketch(letters: &[u8], k: u32, w: u32, codes: &mut [u32], positions: &mut
 }
 
 // The count of entries that a sketch would have, or the refusal number negated.
-#[no_mangle]
-pub extern "C" fn huddlewool_count(letters: &[u8], k: u32, w: u32) -> i32
+pub fn count(letters: &[u8], k: u32, w: u32) -> i32
     ensures { λ r. ⌜ r ≡ hostNumber (countReply k w (now (letters .entry))) ⌝ }
 {
     if outside(1, K_LIMIT, k) {

@@ -1,5 +1,4 @@
 -- When save and load accept, and what they leave in the lent buffers then.
--- Assumes nothing.
 use Prim.Native.Nat.{ℕ, _≤_}
 use native.Mathlib.Omega.{arith}
 use mathlib.Core.Path.{_≡_, refl}
@@ -8,15 +7,16 @@ use mathlib.Core.List.{List, [], _∷_}
 use lib.Dec.{eqb, ltb}
 use lib.ListN.{length}
 use borrow.Author.Tests.{le-ltb, eq-eqb, eqb-true, ltb-false, not-false}
-use Rattle.counts.specs.Replies.{Reply, accepted, refused, over}
-use Rattle.counts.proofs.Lists.{or-neither}
-use Rattle.minimizers.specs.Limits.{kLimit, wLimit, outside}
-use Rattle.minimizers.specs.Kmers.{Entry, codes, positions, entries}
+use Rattle.base.specs.Replies.{Reply, accepted, refused, over}
+use Rattle.base.proofs.Lists.{or-neither}
+use Rattle.base.specs.Limits.{kLimit, wLimit, outside}
+use Rattle.kmers.specs.Kmers.{Entry, codes, positions, entries}
 use Rattle.store.specs.Save.{stored, storable, saveReply, saveWords}
 use Rattle.store.specs.Load.{Judged, good, bad, judge, storeK, storeW, loadRoom, loadReply, loadCodes, loadPositions}
 
 -- an accepted reply came past a refusal
-past : (b : Bool) (number : ℕ) (values : List ℕ) {r : Reply} {answer : List ℕ} → cond b (refused number values) r ≡ accepted answer → (b ≡ false) × (r ≡ accepted answer)
+past : (b : Bool) (number : ℕ) (values : List ℕ) {r : Reply} {answer : List ℕ} → cond b (refused number values) r ≡ accepted answer
+    → (b ≡ false) × (r ≡ accepted answer)
 past true number values h = let z : _≡_ {A = ℕ} 0 1 = cc in absurd (omega arith)
 past false number values h = (refl, h)
 
@@ -40,7 +40,8 @@ module _ (k w : ℕ) (cs ps : List ℕ) (room : ℕ) where
         le-ltb room (length (stored k w (entries cs ps))) (s .enough),
       )
 
-  pub save-accepted : {answer : List ℕ} → saveReply k w cs ps room ≡ accepted answer → Savable k w cs ps room × (answer ≡ length (stored k w (entries cs ps)) ∷ [])
+  pub save-accepted : {answer : List ℕ} → saveReply k w cs ps room ≡ accepted answer
+      → Savable k w cs ps room × (answer ≡ length (stored k w (entries cs ps)) ∷ [])
   unfolding saveReply
   save-accepted e =
       let size = length (stored k w (entries cs ps)) in
@@ -76,7 +77,8 @@ pub record Loads (words : List ℕ) (es : List Entry) (codeRoom positionRoom : �
   pub position-enough : length es ≤ positionRoom
 
 module _ (words : List ℕ) (codeRoom positionRoom : ℕ) where
-  pub load-accepts : (es : List Entry) → Loads words es codeRoom positionRoom → loadReply words codeRoom positionRoom ≡ accepted (storeK words ∷ storeW words ∷ length es ∷ [])
+  pub load-accepts : (es : List Entry) → Loads words es codeRoom positionRoom
+      → loadReply words codeRoom positionRoom ≡ accepted (storeK words ∷ storeW words ∷ length es ∷ [])
   unfolding loadReply loadRoom
   load-accepts es l = rw (l .judged) (rw (le-ltb codeRoom (length es) (l .code-enough), le-ltb positionRoom (length es) (l .position-enough)))
 

@@ -1,9 +1,8 @@
 -- Case 4 of document 01's table, and saves and loads that are refused: each is computed from the definitions.
--- Assumes nothing.
 use Prim.Native.Nat.{ℕ}
 use mathlib.Core.Path.{_≡_, refl}
 use mathlib.Core.List.{List, [], _∷_, map}
-use Rattle.counts.specs.Replies.{Reply, accepted, refused}
+use Rattle.base.specs.Replies.{Reply, accepted, refused}
 use Rattle.minimizers.specs.Sketch.{sketch}
 use Rattle.store.specs.Save.{stored, saveReply}
 use Rattle.store.specs.Load.{loadReply}

@@ -1,30 +1,24 @@
 -- What the contracts of `save` and `load` say together: what save wrote, load reads back, and whatever loads, save writes.
--- Assumes nothing.
 use Prim.Native.Nat.{ℕ, _+_, _*_, _≤_}
 use native.Mathlib.Omega.{arith}
 use mathlib.Core.Path.{_≡_, sym, ap, _∙_, subst}
 use mathlib.Core.List.{List, [], _∷_}
 use lib.ListN.{length, take, drop}
 use lib.Seq.{take-at}
-use Rattle.counts.specs.Replies.{accepted, over}
-use Rattle.minimizers.specs.Limits.{kLimit, wLimit, letterLimit}
-use Rattle.minimizers.specs.Kmers.{Entry, codes, positions, entries}
+use Rattle.base.specs.Replies.{accepted, over}
+use Rattle.base.specs.Limits.{kLimit, wLimit, letterLimit}
+use Rattle.kmers.specs.Kmers.{Entry, codes, positions, entries}
 use Rattle.minimizers.specs.Sketch.{sketch}
 use Rattle.minimizers.proofs.Laws.{entries-same, codes-positions}
 use Rattle.store.specs.Save.{stored, saveReply, saveWords}
 use Rattle.store.specs.Load.{storeK, storeW, loadReply, loadCodes, loadPositions}
-use Rattle.minimizers.proofs.Ranges.{inside, inside-range}
+use Rattle.store.specs.RoundTrip.{LoadsAs, SavesAs}
+use Rattle.base.proofs.Ranges.{inside, inside-range}
 use Rattle.store.proofs.Entries.{length-entries, codes-entries, positions-entries, length-codes, length-positions, length-stored, sketch-storable}
 use Rattle.store.proofs.RoundTrip.{judge-stored, storeK-stored, storeW-stored, judge-good, StoreOf}
 use Rattle.store.proofs.Accepting.{Savable, save-accepts, save-accepted, save-fills, Loads, load-accepts, load-accepted, load-fills}
 
 -- ---- what save wrote, load reads back
-
--- the words load as these codes and positions, of a sketch with k and w
-pub record LoadsAs (words codes₀ positions₀ : List ℕ) (k w : ℕ) (cs ps : List ℕ) : Type 0 where
-  pub reply : loadReply words (length codes₀) (length positions₀) ≡ accepted (k ∷ w ∷ length cs ∷ [])
-  pub codes-back : loadCodes words codes₀ positions₀ ≡ over cs codes₀
-  pub positions-back : loadPositions words codes₀ positions₀ ≡ over ps positions₀
 
 stored-loads :
     (k w : ℕ) (cs ps : List ℕ) (room : ℕ) →
@@ -71,11 +65,6 @@ saved-loads k w cs ps words₀ n e codes₀ positions₀ c-room p-room =
     (stored-loads k w cs ps (length words₀) (s .0) codes₀ positions₀ c-room p-room)
 
 -- ---- only such stores load
-
--- saving these codes and positions writes exactly these words
-pub record SavesAs (words words₀ : List ℕ) (k w : ℕ) (cs ps : List ℕ) : Type 0 where
-  pub reply : saveReply k w cs ps (length words₀) ≡ accepted (length words ∷ [])
-  pub words-back : saveWords k w cs ps words₀ ≡ over words words₀
 
 store-saves : (words : List ℕ) (es : List Entry) → StoreOf words es → (words₀ : List ℕ) → length words ≤ length words₀
     → SavesAs words words₀ (storeK words) (storeW words) (codes es) (positions es)

@@ -1,5 +1,4 @@
 -- The entries of two buffers, one word of each for an entry, the length of their store, and what storable entries are.
--- Assumes nothing.
 use Prim.Native.Nat.{ℕ, zero, suc, _+_, _*_, _^_, _≤_, _<_}
 use native.Mathlib.Nat.{le-trans}
 use native.Mathlib.Omega.{arith}
@@ -9,9 +8,9 @@ use mathlib.Core.Bool.{true, _&&_}
 use lib.ListN.{length, getD, drop, length-map}
 use lib.Seq.{drop-cons}
 use borrow.Author.Tests.{lt-ltb, le-leb}
-use Rattle.counts.proofs.Lists.{and-both, and-left, and-right}
-use Rattle.minimizers.specs.Limits.{letterLimit}
-use Rattle.minimizers.specs.Kmers.{Entry, entries, codes, positions}
+use Rattle.base.proofs.Lists.{and-both, and-left, and-right}
+use Rattle.base.specs.Limits.{letterLimit}
+use Rattle.kmers.specs.Kmers.{Entry, entries, codes, positions}
 use Rattle.minimizers.specs.Sketch.{sketch}
 use Rattle.minimizers.proofs.Laws.{Rising, rising-length, positions-rise, codes-below}
 use Rattle.store.specs.Words.{word, isCode, isPosition}

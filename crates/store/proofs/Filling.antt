@@ -1,4 +1,4 @@
--- A buffer that is filled from its front, word by word. Assumes nothing.
+-- A buffer that is filled from its front, word by word.
 use Prim.Native.Nat.{ℕ, suc, _+_, _≤_, _<_}
 use native.Mathlib.Nat.{le-refl}
 use native.Mathlib.Numerals.{add-one}
@@ -6,7 +6,7 @@ use mathlib.Core.Path.{_≡_, refl, sym, ap, ap₂, subst, _∙_}
 use mathlib.Core.List.{List, [], _∷_, _++_, append-assoc, append-nil}
 use lib.ListN.{length, take, drop, set, length-set, take-append-drop}
 use lib.Seq.{take-suc-set, drop-set-lt, drop-drop, length-take-le}
-use Rattle.counts.specs.Replies.{over}
+use Rattle.base.specs.Replies.{over}
 
 -- `at` words of the text stand in the buffer, which was `old` before, and the rest of the text is to come
 pub record Filling (text old buffer : List ℕ) (at : ℕ) (rest : List ℕ) : Type 0 where

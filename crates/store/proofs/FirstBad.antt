@@ -1,5 +1,4 @@
 -- Judging names the first bad word: no word before it is bad, and no word behind it matters.
--- Assumes nothing.
 use Prim.Native.Nat.{ℕ, suc, _+_, _≤_}
 use native.Mathlib.Omega.{arith}
 use mathlib.Core.Path.{_≡_, refl, ap, subst, subst₂, _∙_}
@@ -7,8 +6,8 @@ use mathlib.Core.Logic.{_⊎_, inl, inr}
 use mathlib.Core.Bool.{true, false}
 use mathlib.Core.List.{List, [], _∷_}
 use lib.ListN.{take}
-use Rattle.counts.proofs.Lists.{decided}
-use Rattle.minimizers.specs.Kmers.{Entry}
+use Rattle.base.proofs.Lists.{decided}
+use Rattle.kmers.specs.Kmers.{Entry}
 use Rattle.store.specs.Words.{content, headerK, isHeader, isCodeWord, isPositionWord}
 use Rattle.store.specs.Load.{Judged, good, bad, withEntry, lastWord, judgeFrom, judge}
 use Rattle.store.proofs.Judging.{judge-last, judge-first, judge-half, judge-second, judge-entry, Way, run-out, last, more, miscount, first, half}

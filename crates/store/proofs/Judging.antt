@@ -1,5 +1,4 @@
 -- How judging goes on, word by word: one law for each way that it takes, and the ways as one type, for proofs that go through all.
--- Assumes nothing.
 use Prim.Native.Nat.{ℕ, suc, _≤_}
 use native.Mathlib.Omega.{arith}
 use mathlib.Core.Path.{_≡_, refl}
@@ -9,7 +8,7 @@ use mathlib.Core.List.{List, [], _∷_}
 use lib.Dec.{eqb}
 use lib.ListN.{length, getD, drop}
 use borrow.Author.Tests.{eqb-true}
-use Rattle.counts.proofs.Lists.{and-left, decided}
+use Rattle.base.proofs.Lists.{and-left, decided}
 use Rattle.store.specs.Words.{kind, content, headerK, headerW, isHeader, isCode, isCodeWord, isPositionWord}
 use Rattle.store.specs.Load.{Judged, good, bad, withEntry, lastWord, judgeFrom, judge, storeK, storeW}
 
@@ -32,7 +31,8 @@ module _ (k index n low x : ℕ) where
   unfolding judgeFrom
   judge-half h = rw (code-not-last k x h, h)
 
-  pub judge-second : (y : ℕ) (rest : List ℕ) → isCodeWord k x ≡ true → isPositionWord low y ≡ false → judgeFrom k index n low (x ∷ y ∷ rest) ≡ bad 13 (suc index)
+  pub judge-second : (y : ℕ) (rest : List ℕ) → isCodeWord k x ≡ true → isPositionWord low y ≡ false
+      → judgeFrom k index n low (x ∷ y ∷ rest) ≡ bad 13 (suc index)
   unfolding judgeFrom
   judge-second y rest h g = rw (code-not-last k x h, h, g)
 

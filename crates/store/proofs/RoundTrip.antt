@@ -1,5 +1,4 @@
 -- Saving then loading gives the sketch back, and whatever loads is what saving its content gives: for any k, w and entries.
--- Assumes nothing.
 use Prim.Native.Nat.{ℕ, suc, _+_, _*_, _≤_, _<_}
 use native.Mathlib.Omega.{arith}
 use mathlib.Core.Path.{_≡_, refl, ap, ap₂, subst, subst⁻¹, _∙_}
@@ -9,9 +8,9 @@ use mathlib.Core.List.{List, [], _∷_}
 use lib.Dec.{eqb}
 use lib.ListN.{length, getD}
 use borrow.Author.Tests.{eq-eqb, eqb-true}
-use Rattle.counts.proofs.Lists.{and-both, and-left, and-right, decided}
-use Rattle.minimizers.specs.Limits.{kLimit, wLimit, letterLimit}
-use Rattle.minimizers.specs.Kmers.{Entry, codes, positions}
+use Rattle.base.proofs.Lists.{and-both, and-left, and-right, decided}
+use Rattle.base.specs.Limits.{kLimit, wLimit, letterLimit}
+use Rattle.kmers.specs.Kmers.{Entry, codes, positions}
 use Rattle.store.specs.Words.{kindUnit, kind, content, word, headerK, isHeader, isCode, isPosition, isCodeWord, isPositionWord}
 use Rattle.store.specs.Save.{entryWords, stored, storable}
 use Rattle.store.specs.Load.{Judged, good, bad, withEntry, lastWord, judgeFrom, judge, storeK, storeW}

@@ -1,5 +1,4 @@
 -- Laws of the words of a store: a kind and a content make a word and are read off it again, and so do k and w of word 0.
--- Assumes nothing.
 use Prim.Native.Nat.{ℕ, _+_, _*_, _^_, _≤_, _<_, min}
 use native.Mathlib.Nat.{le-trans, pow-le-pow-right}
 use native.Mathlib.Omega.{arith}
@@ -7,9 +6,9 @@ use mathlib.Core.Path.{_≡_}
 use mathlib.Core.Bool.{true, not, _&&_}
 use lib.Dec.{eqb, ltb, leb, lit<}
 use borrow.Author.Tests.{lt-ltb, eq-eqb, ltb-true, leb-true, not-true, eqb-true}
-use Rattle.counts.proofs.Lists.{and-both, and-left, and-right}
-use Rattle.minimizers.specs.Limits.{kLimit, wLimit, letterLimit, outside}
-use Rattle.minimizers.proofs.Ranges.{inside, inside-range}
+use Rattle.base.proofs.Lists.{and-both, and-left, and-right}
+use Rattle.base.specs.Limits.{kLimit, wLimit, letterLimit, outside}
+use Rattle.base.proofs.Ranges.{inside, inside-range}
 use Rattle.store.specs.Words.{kindUnit, kind, content, word, header, headerK, headerW, isHeader, isCode, isPosition}
 
 pub kind-word : (t x : ℕ) → x < kindUnit → kind (word t x) ≡ t

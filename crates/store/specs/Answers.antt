@@ -1,7 +1,6 @@
 -- What the answers of `save` and `load` stand for: document 01's numbers and values.
--- Assumes nothing.
 use mathlib.Core.List.{[], _∷_}
-use Rattle.counts.specs.Replies.{Reply, accepted, refused}
+use Rattle.base.specs.Replies.{Reply, accepted, refused}
 use Rattle.store.specs.declared.Saved.{Saved}
 use Rattle.store.specs.declared.Loaded.{Loaded}
 

@@ -1,13 +1,12 @@
 -- Loading a store: words are judged in order, and the first bad one is named by its index.
--- Assumes nothing.
 use Prim.Native.Nat.{ℕ, suc}
-use mathlib.Core.Bool.{cond, _&&_, _||_}
+use mathlib.Core.Bool.{cond, _||_}
 use mathlib.Core.List.{List, [], _∷_}
 use lib.Dec.{eqb, ltb}
 use lib.ListN.{length}
-use Rattle.counts.specs.Replies.{Reply, accepted, refused, after}
-use Rattle.minimizers.specs.Kmers.{Entry, codes, positions}
-use Rattle.store.specs.Words.{kind, content, isHeader, headerK, headerW, isCode, isPosition}
+use Rattle.base.specs.Replies.{Reply, accepted, refused, after}
+use Rattle.kmers.specs.Kmers.{Entry, codes, positions}
+use Rattle.store.specs.Words.{kind, content, isHeader, headerK, headerW, isCodeWord, isPositionWord}
 
 -- a store's entries, or the number of the refusal and the index of the first bad word
 pub data Judged : Type 0 where
@@ -34,12 +33,12 @@ unfoldable pub judgeFrom : ℕ → ℕ → ℕ → ℕ → List ℕ → Judged
 judgeFrom k index n low [] = bad 14 index
 judgeFrom k index n low (x ∷ []) =
     cond (eqb (kind x) 3) (lastWord index n x [])
-    (cond (eqb (kind x) 1 && isCode k (content x)) (bad 14 (suc index))
+    (cond (isCodeWord k x) (bad 14 (suc index))
     (bad 13 index))
 judgeFrom k index n low (x ∷ y ∷ rest) =
     cond (eqb (kind x) 3) (lastWord index n x (y ∷ rest))
-    (cond (eqb (kind x) 1 && isCode k (content x))
-    (cond (eqb (kind y) 2 && isPosition low (content y))
+    (cond (isCodeWord k x)
+    (cond (isPositionWord low y)
     (withEntry (record { code = content x; position = content y }) (judgeFrom k (suc (suc index)) (suc n) (suc (content y)) rest))
     (bad 13 (suc index)))
     (bad 13 index))

@@ -1,13 +1,12 @@
 -- Saving a sketch: the words of its store, and what the call answers.
--- Assumes nothing.
 use Prim.Native.Nat.{ℕ, suc}
 use mathlib.Core.Bool.{Bool, true, cond, not, _&&_, _||_}
 use mathlib.Core.List.{List, [], _∷_}
 use lib.Dec.{eqb, ltb}
 use lib.ListN.{length}
-use Rattle.counts.specs.Replies.{Reply, accepted, refused, after}
-use Rattle.minimizers.specs.Limits.{kLimit, wLimit, outside}
-use Rattle.minimizers.specs.Kmers.{Entry, entries}
+use Rattle.base.specs.Replies.{Reply, accepted, refused, after}
+use Rattle.base.specs.Limits.{kLimit, wLimit, outside}
+use Rattle.kmers.specs.Kmers.{Entry, entries}
 use Rattle.store.specs.Words.{word, header, isCode, isPosition}
 
 -- for each entry a kind 1 word with the code and a kind 2 word with the position, and last a kind 3 word with the number n

@@ -1,9 +1,8 @@
 -- The words of a store: 32 bits, the top two of them the kind.
--- Assumes nothing.
 use Prim.Native.Nat.{ℕ, _+_, _*_, _/_, _%_, _^_}
 use mathlib.Core.Bool.{Bool, not, _&&_}
 use lib.Dec.{eqb, ltb, leb}
-use Rattle.minimizers.specs.Limits.{kLimit, wLimit, letterLimit, outside}
+use Rattle.base.specs.Limits.{kLimit, wLimit, letterLimit, outside}
 
 -- what the kind multiplies: bit 30
 abbrev pub kindUnit : ℕ

@@ -1,8 +1,7 @@
 // The store of a sketch: what `save` and `load` answer, how its words are laid out, and which codes and positions they hold.
-// Assumes nothing.
 ghost use mathlib.Core.Path.{_≡_};
 ghost use Prim.Native.Nat.{_^_, min};
-ghost use Rattle.minimizers.specs.Limits.{kLimit};
+ghost use Rattle.base.specs.Limits.{kLimit};
 ghost use Rattle.store.specs.Words.{isPosition};
 
 // What the kind multiplies: bit 30.
@@ -40,7 +39,7 @@ pub fn code_limit(k: u32) -> u32
 {
     let mut limit: u32 = 1;
     let mut i = 0;
-    while i < minimizers::K_LIMIT {
+    while i < base::K_LIMIT {
         if i == k {
             return limit;
         }
@@ -57,5 +56,5 @@ pub fn is_position(x: u32, low: u32) -> bool
     if x < low {
         return false;
     }
-    (x as usize) < minimizers::LETTER_LIMIT
+    (x as usize) < base::LETTER_LIMIT
 }

@@ -5,20 +5,19 @@ use mathlib.Core.Bool.{not}
 use mathlib.Core.List.{List, [], _∷_}
 use lib.Dec.{ltb, eqb}
 use lib.ListN.{length}
-use Rattle.counts.specs.Replies.{accepted}
-use Rattle.counts.proofs.Replies.{not-refused}
-use Rattle.minimizers.specs.Limits.{outside}
-use Rattle.sketch.specs.Limits.{textLimit}
-use Rattle.minimizers.specs.Kmers.{entries}
+use Rattle.base.specs.Replies.{accepted}
+use Rattle.base.proofs.Replies.{not-refused}
+use Rattle.base.specs.Limits.{outside, textLimit}
+use Rattle.kmers.specs.Kmers.{entries}
 use Rattle.sketch.proofs.Accepted.{Held, room-held, Wrote, reply-wrote}
-use Rattle.strike.specs.Strike.{strikeLimit, struck, strikeReply, strikeCodes, strikePositions}
+use Rattle.strike.specs.Strike.{struck, strikeReply, strikeCodes, strikePositions}
 
 pub strike-held : (cs ps : List ℕ) (c a b m : ℕ) → strikeReply cs ps c a b ≡ accepted (m ∷ []) → Held (length (struck c (entries cs ps))) a b m
 unfolding strikeReply
 strike-held cs ps c a b m e =
     let p = not-refused (not (eqb (length cs) (length ps))) 5 [] _ (m ∷ []) e in
     let q = not-refused (ltb textLimit (length cs)) 8 [] _ (m ∷ []) (p .1) in
-    let r = not-refused (outside 1 strikeLimit c) 6 [] _ (m ∷ []) (q .1) in
+    let r = not-refused (outside 1 textLimit c) 6 [] _ (m ∷ []) (q .1) in
     room-held (length (struck c (entries cs ps))) a b m (r .1)
 
 -- the entries kept stand in front of the two buffers

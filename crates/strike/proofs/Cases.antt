@@ -1,14 +1,13 @@
 -- Examples of striking, each computed: they tell the definition from a strike that keeps all, and from one that takes the limit
 -- itself for too often. Then strike's refusals, with their limits and their order.
--- Assumes nothing.
 use Prim.Native.Nat.{ℕ, _≤_, _<_}
 use mathlib.Core.Path.{_≡_, refl}
 use mathlib.Core.Logic.{_≢_}
 use mathlib.Core.List.{List, [], _∷_}
 use lib.ListN.{length}
 use borrow.Author.Tests.{lt-ltb, le-ltb, eq-eqb, ne-eqb}
-use Rattle.counts.specs.Replies.{accepted, refused}
-use Rattle.minimizers.specs.Kmers.{positions, entries}
+use Rattle.base.specs.Replies.{accepted, refused}
+use Rattle.kmers.specs.Kmers.{positions, entries}
 use Rattle.strike.specs.Strike.{struck, strikeReply, strikeCodes, strikePositions}
 use Rattle.strike.proofs.Compute.{strike-computes}
 

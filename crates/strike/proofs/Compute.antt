@@ -1,4 +1,4 @@
--- One name that opens every definition of this crate and of sketch, for proofs that compute. Assumes nothing.
+-- One name that opens every definition of this crate and of sketch, for proofs that compute.
 use Rattle.sketch.proofs.Compute.{sketch-computes}
 use Rattle.strike.specs.Strike.{strike, struck, strikeReply, strikeCodes, strikePositions}
 

@@ -1,5 +1,4 @@
 -- Laws of striking: what is kept keeps its order and positions, and is kept exactly where its code occurs at most c times.
--- Assumes nothing.
 use Prim.Native.Nat.{ℕ, zero, suc, _+_, _≤_, _<_}
 use native.Mathlib.Omega.{arith}
 use mathlib.Core.Path.{_≡_, refl, ap, _∙_}
@@ -8,12 +7,12 @@ use mathlib.Core.List.{List, [], _∷_, map, List·Memᴰ, Sublistᴰ, Sublist�
 use lib.Dec.{eqb, leb}
 use lib.ListN.{length, getD}
 use borrow.Author.Tests.{leb-true, le-leb}
-use Rattle.counts.specs.Lists.{bit, addIf, keep}
-use Rattle.counts.specs.Counts.{occ}
-use Rattle.counts.proofs.Lists.{clash, keep-mem, mem-keep, length-keep}
-use Rattle.counts.proofs.Counts.{bit-other}
-use Rattle.sketch.specs.Limits.{textLimit}
-use Rattle.minimizers.specs.Kmers.{Entry, codes, positions}
+use Rattle.base.specs.Lists.{bit, addIf, keep}
+use Rattle.base.specs.Counts.{occ}
+use Rattle.base.proofs.Lists.{clash, keep-mem, mem-keep, length-keep}
+use Rattle.base.proofs.Counts.{bit-other}
+use Rattle.base.specs.Limits.{textLimit}
+use Rattle.kmers.specs.Kmers.{Entry, codes, positions}
 use Rattle.minimizers.proofs.Laws.{length-codes}
 use Rattle.strike.specs.Strike.{strike, struck}
 

@@ -1,6 +1,5 @@
 -- Laws of marked words: what the loops that count and copy them keep, and that the words marked as rare are those of the struck
 -- entries.
--- Assumes nothing.
 use Prim.Native.Nat.{ℕ, zero, suc, _+_, _≤_, _<_, zero-le}
 use native.Mathlib.Nat.{le-refl}
 use native.Mathlib.Omega.{arith}
@@ -13,12 +12,12 @@ use lib.Dec.{eqb, leb}
 use lib.ListN.{length, getD, set, take, drop, length-set, take-append-drop, drop-of-length-le}
 use lib.Seq.{drop-cons, take-suc-set, take-set-le, drop-set-lt, length-take-le}
 use borrow.Author.Tests.{eq-eqb, ne-eqb, leb-true, leb-false}
-use Rattle.counts.specs.Lists.{bit, addIf, keep, sum}
-use Rattle.counts.specs.Counts.{occ}
-use Rattle.counts.specs.Replies.{over}
-use Rattle.counts.specs.Marks.{marksOf}
-use Rattle.counts.proofs.Lists.{eq-or-ne, bit-le-one}
-use Rattle.minimizers.specs.Kmers.{Entry, codes, positions, entries}
+use Rattle.base.specs.Lists.{bit, addIf, keep, sum}
+use Rattle.base.specs.Counts.{occ}
+use Rattle.base.specs.Replies.{over}
+use Rattle.sorting.specs.Marks.{marksOf}
+use Rattle.base.proofs.Lists.{eq-or-ne, bit-le-one}
+use Rattle.kmers.specs.Kmers.{Entry, codes, positions, entries}
 use Rattle.strike.specs.Strike.{strike, struck}
 use Rattle.strike.specs.Marked.{markedWords}
 
@@ -65,7 +64,8 @@ marked-none (m ∷ marks) (w ∷ words) h =
     rw z (marked-none marks words (omega arith))
 
 -- one index further: the word where its mark is 1
-marked-suc : (marks words : List ℕ) (i : ℕ) → i < length marks → length words ≡ length marks → markedWords (take (suc i) marks) (take (suc i) words) ≡ markedWords (take i marks) (take i words) ++ addIf (eqb (getD marks i 0) 1) (getD words i 0) []
+marked-suc : (marks words : List ℕ) (i : ℕ) → i < length marks → length words ≡ length marks
+    → markedWords (take (suc i) marks) (take (suc i) words) ≡ markedWords (take i marks) (take i words) ++ addIf (eqb (getD marks i 0) 1) (getD words i 0) []
 marked-suc [] words i h l = absurd (omega arith)
 marked-suc (m ∷ marks) [] i h l = absurd (omega arith)
 marked-suc (m ∷ marks) (w ∷ words) zero h l = refl
@@ -92,7 +92,9 @@ copied-none words marks n out e =
 pub copied-index : (words marks : List ℕ) (n : ℕ) (out₀ out : List ℕ) (i at : ℕ) → Copied words marks n out₀ out i at → at < n → i < length marks
 copied-index words marks n out₀ out i at c h = let k : at + sum (drop i marks) ≡ n = c .counted in sum-left marks i (omega arith)
 
-pub copied-more : (words marks : List ℕ) (n : ℕ) (out₀ out : List ℕ) (i at m : ℕ) → Copied words marks n out₀ out i at → at < n → length words ≡ length marks → getD marks i 0 ≤ 1 → n ≤ length out₀ → m ≡ getD marks i 0 → Copied words marks n out₀ (set out at (getD words i 0)) (i + 1) (at + m)
+pub copied-more : (words marks : List ℕ) (n : ℕ) (out₀ out : List ℕ) (i at m : ℕ) → Copied words marks n out₀ out i at → at < n
+    → length words ≡ length marks → getD marks i 0 ≤ 1 → n ≤ length out₀ → m ≡ getD marks i 0
+    → Copied words marks n out₀ (set out at (getD words i 0)) (i + 1) (at + m)
 copied-more words marks n out₀ out i at m c h l one room e =
     rw (add-one i, e)
     (record {
@@ -107,22 +109,28 @@ copied-more words marks n out₀ out i at m c h l one room e =
     left = copied-index words marks n out₀ out i at c h
 
     next : at + getD marks i 0 + sum (drop (suc i) marks) ≡ n
-    next = let k : at + sum (drop i marks) ≡ n = c .counted in let s : sum (drop i marks) ≡ getD marks i 0 + sum (drop (suc i) marks) = sum-drop marks i left in omega arith
+    next = let k : at + sum (drop i marks) ≡ n = c .counted in let s : sum (drop i marks) ≡ getD marks i 0 + sum (drop (suc i) marks) =
+        sum-drop marks i left in omega arith
 
-    go : (getD marks i 0 ≡ 1) ⊎ (getD marks i 0 ≢ 1) → take (at + getD marks i 0) (set out at (getD words i 0)) ≡ markedWords (take (suc i) marks) (take (suc i) words)
+    go : (getD marks i 0 ≡ 1) ⊎ (getD marks i 0 ≢ 1)
+        → take (at + getD marks i 0) (set out at (getD words i 0)) ≡ markedWords (take (suc i) marks) (take (suc i) words)
     go (inl p) =
         rw (p, add-one at)
         (take-suc-set out at (getD words i 0) (let o : length out ≡ length out₀ = c .long in omega arith)
         ∙ ap (λ (k : List ℕ). k ++ getD words i 0 ∷ []) (c .copied)
-        ∙ sym (marked-suc marks words i left l ∙ ap (λ (b : Bool). markedWords (take i marks) (take i words) ++ addIf b (getD words i 0) []) (eq-eqb (getD marks i 0) 1 p)))
+        ∙ sym (marked-suc marks words i left l
+        ∙ ap (λ (b : Bool). markedWords (take i marks) (take i words) ++ addIf b (getD words i 0) []) (eq-eqb (getD marks i 0) 1 p)))
     go (inr q) =
         let z : at + getD marks i 0 ≡ at = omega arith in
         rw z
         (take-set-le at out at (getD words i 0) (le-refl at)
         ∙ c .copied
-        ∙ sym (marked-suc marks words i left l ∙ ap (λ (b : Bool). markedWords (take i marks) (take i words) ++ addIf b (getD words i 0) []) (ne-eqb (getD marks i 0) 1 q) ∙ append-nil (markedWords (take i marks) (take i words))))
+        ∙ sym (marked-suc marks words i left l
+        ∙ ap (λ (b : Bool). markedWords (take i marks) (take i words) ++ addIf b (getD words i 0) []) (ne-eqb (getD marks i 0) 1 q)
+        ∙ append-nil (markedWords (take i marks) (take i words))))
 
-pub copied-all : (words marks : List ℕ) (n : ℕ) (out₀ out : List ℕ) (i at : ℕ) → Copied words marks n out₀ out i at → n ≤ at → n ≤ length out₀ → out ≡ over (markedWords marks words) out₀
+pub copied-all : (words marks : List ℕ) (n : ℕ) (out₀ out : List ℕ) (i at : ℕ) → Copied words marks n out₀ out i at → n ≤ at → n ≤ length out₀
+    → out ≡ over (markedWords marks words) out₀
 copied-all words marks n out₀ out i at c h room =
     let w : at ≤ n = c .within in
     let e : at ≡ n = omega arith in

@@ -1,5 +1,4 @@
 -- What strike answers and leaves in the buffers, check by check.
--- Assumes nothing.
 use Prim.Native.Nat.{ℕ, _≤_, _<_}
 use mathlib.Core.Path.{_≡_, sym, ap, _∙_}
 use mathlib.Core.Logic.{_≢_}
@@ -7,14 +6,14 @@ use mathlib.Core.List.{List, [], _∷_}
 use lib.Dec.{leb}
 use lib.ListN.{length, getD}
 use borrow.Author.Tests.{lt-ltb, le-ltb, eq-eqb, ne-eqb}
-use Rattle.counts.specs.Lists.{sum}
-use Rattle.counts.specs.Counts.{occ}
-use Rattle.counts.specs.Replies.{Reply, accepted, refused, after, over}
-use Rattle.counts.specs.Marks.{marksOf}
-use Rattle.sketch.specs.Limits.{textLimit}
-use Rattle.minimizers.specs.Kmers.{codes, positions, entries}
+use Rattle.base.specs.Lists.{sum}
+use Rattle.base.specs.Counts.{occ}
+use Rattle.base.specs.Replies.{Reply, accepted, refused, after, over}
+use Rattle.sorting.specs.Marks.{marksOf}
+use Rattle.base.specs.Limits.{textLimit}
+use Rattle.kmers.specs.Kmers.{codes, positions, entries}
 use Rattle.sketch.specs.Replies.{roomFor}
-use Rattle.strike.specs.Strike.{strikeLimit, struck, strikeReply, strikeCodes, strikePositions}
+use Rattle.strike.specs.Strike.{struck, strikeReply, strikeCodes, strikePositions}
 use Rattle.strike.specs.Marked.{markedWords}
 use Rattle.strike.proofs.Marked.{struck-codes, struck-positions, struck-number, marks-le-one}
 
@@ -63,13 +62,14 @@ module _ (cs ps : List ℕ) (c : ℕ) (a b : ℕ) where
   unfolding strikeReply
   reply-low h l m = rw (eq-eqb (length cs) (length ps) h, le-ltb textLimit (length cs) l, lt-ltb c 1 m)
 
-  pub reply-high : length cs ≡ length ps → length cs ≤ textLimit → 1 ≤ c → strikeLimit < c → strikeReply cs ps c a b ≡ refused 6 []
+  pub reply-high : length cs ≡ length ps → length cs ≤ textLimit → 1 ≤ c → textLimit < c → strikeReply cs ps c a b ≡ refused 6 []
   unfolding strikeReply
-  reply-high h l m k = rw (eq-eqb (length cs) (length ps) h, le-ltb textLimit (length cs) l, le-ltb c 1 m, lt-ltb strikeLimit c k)
+  reply-high h l m k = rw (eq-eqb (length cs) (length ps) h, le-ltb textLimit (length cs) l, le-ltb c 1 m, lt-ltb textLimit c k)
 
-  pub reply-room : length cs ≡ length ps → length cs ≤ textLimit → 1 ≤ c → c ≤ strikeLimit → strikeReply cs ps c a b ≡ roomFor (length (struck c (entries cs ps))) a b
+  pub reply-room : length cs ≡ length ps → length cs ≤ textLimit → 1 ≤ c → c ≤ textLimit
+      → strikeReply cs ps c a b ≡ roomFor (length (struck c (entries cs ps))) a b
   unfolding strikeReply
-  reply-room h l m k = rw (eq-eqb (length cs) (length ps) h, le-ltb textLimit (length cs) l, le-ltb c 1 m, le-ltb strikeLimit c k)
+  reply-room h l m k = rw (eq-eqb (length cs) (length ps) h, le-ltb textLimit (length cs) l, le-ltb c 1 m, le-ltb textLimit c k)
 
 -- ---- the buffers
 

@@ -1,7 +1,6 @@
 -- What the cases of strike's answer say in document 01's numbers.
--- Assumes nothing.
 use mathlib.Core.List.{[], _∷_}
-use Rattle.counts.specs.Replies.{Reply, accepted, refused}
+use Rattle.base.specs.Replies.{Reply, accepted, refused}
 use Rattle.strike.specs.declared.Struck.{Struck}
 use Rattle.strike.specs.declared.Struck.the-variants.{Entries, NotPaired, TooManyEntries, BadLimit, TooShort}
 

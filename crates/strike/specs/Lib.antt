@@ -1,5 +1,5 @@
--- Striking of frequent k-mers, as document 01 says it.
+-- Striking of frequent k-mers, as document 01 says it, and the answers of the call.
 pub mod Strike
--- the answers of the call, and the same by marks, as the code goes
 pub mod Answers
+-- what only code speaks of: the same by marks
 pub mod Marked

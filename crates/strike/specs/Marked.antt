@@ -1,9 +1,8 @@
 -- The words of a list that are marked.
--- Assumes nothing.
 use Prim.Native.Nat.{ℕ}
 use mathlib.Core.List.{List, [], _∷_}
 use lib.Dec.{eqb}
-use Rattle.counts.specs.Lists.{addIf}
+use Rattle.base.specs.Lists.{addIf}
 
 -- the words whose mark, at the same index of another list, is 1, in their order
 abbrev pub markedWords : List ℕ → List ℕ → List ℕ

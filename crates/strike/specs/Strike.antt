@@ -1,21 +1,15 @@
 -- Striking frequent k-mers from a sketch, and what the call answers.
--- Assumes nothing.
 use Prim.Native.Nat.{ℕ}
 use mathlib.Core.Bool.{cond, not}
 use mathlib.Core.List.{List, []}
 use lib.Dec.{leb, ltb, eqb}
 use lib.ListN.{length}
-use Rattle.counts.specs.Lists.{keep}
-use Rattle.counts.specs.Counts.{occ}
-use Rattle.counts.specs.Replies.{Reply, refused, after}
-use Rattle.minimizers.specs.Limits.{outside}
-use Rattle.sketch.specs.Limits.{textLimit}
-use Rattle.minimizers.specs.Kmers.{Entry, codes, positions, entries}
+use Rattle.base.specs.Lists.{keep}
+use Rattle.base.specs.Counts.{occ}
+use Rattle.base.specs.Replies.{Reply, refused, after}
+use Rattle.base.specs.Limits.{outside, textLimit}
+use Rattle.kmers.specs.Kmers.{Entry, codes, positions, entries}
 use Rattle.sketch.specs.Replies.{roomFor}
-
--- the limit c is 1 to 65,535
-abbrev pub strikeLimit : ℕ
-strikeLimit = 65535
 
 -- striking with limit c: the entries whose code occurs at most c times among the codes that decide, in their order
 unfoldable pub strike : List ℕ → ℕ → List Entry → List Entry
@@ -30,7 +24,7 @@ unfoldable pub strikeReply : List ℕ → List ℕ → ℕ → ℕ → ℕ → R
 strikeReply cs ps c codeRoom positionRoom =
     cond (not (eqb (length cs) (length ps))) (refused 5 [])
     (cond (ltb textLimit (length cs)) (refused 8 [])
-    (cond (outside 1 strikeLimit c) (refused 6 [])
+    (cond (outside 1 textLimit c) (refused 6 [])
     (roomFor (length (struck c (entries cs ps))) codeRoom positionRoom)))
 
 -- the two output buffers after strike, given both as they came

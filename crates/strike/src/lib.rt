@@ -1,21 +1,18 @@
 // Striking of frequent k-mers from a sketch. It needs no heap: the marks of the entries and what counts them lie on the stack.
-// A function assumes what its `requires` says.
-use sketch::TEXT_LIMIT;
+use base::TEXT_LIMIT;
 ghost use mathlib.Core.Path.{_≡_};
 ghost use Prim.Native.Nat.{ℕ, _≤_, _<_, _^_};
 ghost use lib.ListN.{length, getD};
-ghost use Rattle.counts.specs.Lists.{sum};
-ghost use Rattle.counts.specs.Replies.{over, after};
-ghost use Rattle.counts.specs.Keys.{zeros};
-ghost use Rattle.counts.specs.Marks.{marksOf};
-ghost use Rattle.sketch.specs.Limits.{textLimit};
-ghost use Rattle.minimizers.specs.Kmers.{codes as codesOf, positions as positionsOf, entries};
+ghost use Rattle.base.specs.Lists.{sum};
+ghost use Rattle.base.specs.Zeros.{zeros};
+ghost use Rattle.base.specs.Replies.{over, after};
+ghost use Rattle.sorting.specs.Marks.{marksOf};
+ghost use Rattle.base.specs.Limits.{textLimit};
+ghost use Rattle.kmers.specs.Kmers.{codes as codesOf, positions as positionsOf, entries};
 ghost use Rattle.sketch.specs.Replies.{roomFor};
 ghost use Rattle.strike.specs.Strike.{struck, strikeReply, strikeCodes, strikePositions};
 ghost use Rattle.strike.specs.Answers.{replyOf};
 ghost use Rattle.strike.specs.Marked.{markedWords};
-
-pub const STRIKE_LIMIT: u32 = 65535;
 
 // The entries kept, or why the call is refused: 5, 8, 6, or 4 with the entries needed.
 pub enum Struck {
@@ -78,12 +75,18 @@ fn strike_marked(
     positions_out: &mut [u32],
 ) -> Struck
     requires { ⌜ (length (now codes) ≡ length (now positions)) × (length (now codes) ≤ textLimit) × (length (now marks) ≡ length (now codes)) ⌝ }
-    ensures { λ r. ⌜ replyOf r ≡ roomFor (length (struck c (entries (now (codes .entry)) (now (positions .entry))))) (length (now («codes_out» .entry))) (length (now («positions_out» .entry))) ⌝ }
+    ensures { λ r.
+        ⌜ replyOf r ≡ roomFor (length (struck c (entries (now (codes .entry)) (now (positions .entry))))) (length (now («codes_out» .entry)))
+        (length (now («positions_out» .entry))) ⌝ }
     ensures { λ _. ⌜ now (marks .exit) ≡ marksOf (now (codes .entry)) c ⌝ }
-    ensures { λ r. ⌜ now («codes_out» .exit) ≡ after (replyOf r) (codesOf (struck c (entries (now (codes .entry)) (now (positions .entry))))) (now («codes_out» .entry)) ⌝ }
-    ensures { λ r. ⌜ now («positions_out» .exit) ≡ after (replyOf r) (positionsOf (struck c (entries (now (codes .entry)) (now (positions .entry))))) (now («positions_out» .entry)) ⌝ }
+    ensures { λ r.
+        ⌜ now («codes_out» .exit)
+        ≡ after (replyOf r) (codesOf (struck c (entries (now (codes .entry)) (now (positions .entry))))) (now («codes_out» .entry)) ⌝ }
+    ensures { λ r.
+        ⌜ now («positions_out» .exit)
+        ≡ after (replyOf r) (positionsOf (struck c (entries (now (codes .entry)) (now (positions .entry))))) (now («positions_out» .entry)) ⌝ }
 {
-    counts::mark_rare(codes, c, marks);
+    sorting::mark_rare(codes, c, marks);
     let kept = count_marked(marks);
     if codes_out.len() < kept {
         return Struck::TooShort(kept);
@@ -104,9 +107,14 @@ pub fn strike(
     codes_out: &mut [u32],
     positions_out: &mut [u32],
 ) -> Struck
-    ensures { λ r. ⌜ replyOf r ≡ strikeReply (now (codes .entry)) (now (positions .entry)) c (length (now («codes_out» .entry))) (length (now («positions_out» .entry))) ⌝ }
-    ensures { λ _. ⌜ now («codes_out» .exit) ≡ strikeCodes (now (codes .entry)) (now (positions .entry)) c (now («codes_out» .entry)) (now («positions_out» .entry)) ⌝ }
-    ensures { λ _. ⌜ now («positions_out» .exit) ≡ strikePositions (now (codes .entry)) (now (positions .entry)) c (now («codes_out» .entry)) (now («positions_out» .entry)) ⌝ }
+    ensures { λ r.
+        ⌜ replyOf r ≡ strikeReply (now (codes .entry)) (now (positions .entry)) c (length (now («codes_out» .entry)))
+        (length (now («positions_out» .entry))) ⌝ }
+    ensures { λ _.
+        ⌜ now («codes_out» .exit) ≡ strikeCodes (now (codes .entry)) (now (positions .entry)) c (now («codes_out» .entry)) (now («positions_out» .entry)) ⌝ }
+    ensures { λ _.
+        ⌜ now («positions_out» .exit)
+        ≡ strikePositions (now (codes .entry)) (now (positions .entry)) c (now («codes_out» .entry)) (now («positions_out» .entry)) ⌝ }
 {
     let n = codes.len();
     if n != positions.len() {
@@ -118,7 +126,7 @@ pub fn strike(
     if c < 1 {
         return Struck::BadLimit;
     }
-    if STRIKE_LIMIT < c {
+    if TEXT_LIMIT < c as usize {
         return Struck::BadLimit;
     }
     let mut marks = zeros_65535();

@@ -1,5 +1,4 @@
 -- One window more: what is put, and what a run has still to pick, before and after it.
--- Assumes nothing.
 use Prim.Native.Nat.{ℕ, suc, _+_, _*_, _-_, _%_, _^_, _≤_, _<_}
 use native.Mathlib.Nat.{le-refl}
 use native.Mathlib.Numerals.{add-one}
@@ -7,18 +6,19 @@ use native.Mathlib.Omega.{arith}
 use mathlib.Core.Path.{_≡_, sym, ap, _∙_, subst, subst₂}
 use mathlib.Core.List.{List, [], _∷_, _++_}
 use lib.ListN.{length, getD, set}
-use Rattle.minimizers.specs.Limits.{kLimit}
-use Rattle.minimizers.specs.Letters.{value}
-use Rattle.minimizers.specs.Kmers.{Entry, rank}
-use Rattle.minimizers.specs.Places.{codeAt, rankAt, runEnd, spanSketch, sketchFrom}
+use Rattle.base.specs.Limits.{kLimit}
+use Rattle.kmers.specs.Letters.{value}
+use Rattle.kmers.specs.Kmers.{Entry, rank}
+use Rattle.kmers.specs.Places.{codeAt, rankAt, runEnd}
+use Rattle.minimizers.specs.Places.{spanSketch, sketchFrom, IsLowest, pickedFrom}
 use Rattle.winnowing.specs.Winnowed.{written}
 use Rattle.winnowing.specs.Scan.{ringSize, ringAt, Scanned, HasRoom, IsPut, SameEnd}
-use Rattle.minimizers.specs.Places.{IsLowest, pickedFrom}
-use Rattle.minimizers.specs.Ranks.{unrank}
-use Rattle.minimizers.proofs.Ranks.{unrank-rank}
+use Rattle.kmers.specs.Ranks.{unrank}
+use Rattle.kmers.proofs.Ranks.{unrank-rank}
 use Rattle.minimizers.proofs.Runs.{sketchFrom-run}
 use Rattle.winnowing.proofs.Steps.{pushed}
-use Rattle.minimizers.proofs.Picks.{lowest-same, lowest-new, lowest-kept, lowest-moved, picked-new, picked-old, picked-none, spanSketch-none, spanSketch-short, spanSketch-long}
+use Rattle.minimizers.proofs.Picks.{lowest-same, lowest-new, lowest-kept, lowest-moved, picked-new, picked-old, picked-none}
+use Rattle.minimizers.proofs.Picks.{spanSketch-none, spanSketch-short, spanSketch-long}
 
 -- what is put stood first among what was to come
 put-first : (room n code position n′ : ℕ) (cs ps cs′ ps′ : List ℕ) → IsPut room n code position n′ cs ps cs′ ps′
@@ -39,7 +39,8 @@ module _ (last : ℕ) (letters ring : List ℕ) (first at code : ℕ) (scanned :
 
 -- ---- one window more
 
-module _ (last w room to : ℕ) (letters : List ℕ) (some : 1 ≤ w) (i b p : ℕ) (wide : i + w ≡ b) (within : b ≤ to) (is : IsLowest (rankAt (suc last) letters) i b p) where
+module _ (last w room to : ℕ) (letters : List ℕ) (some : 1 ≤ w) (i b p : ℕ) (wide : i + w ≡ b) (within : b ≤ to)
+    (is : IsLowest (rankAt (suc last) letters) i b p) where
   here : IsLowest (rankAt (suc last) letters) i (i + w) p
   here = subst (λ (x : ℕ). IsLowest (rankAt (suc last) letters) i x p) (sym wide) is
 
@@ -49,7 +50,8 @@ module _ (last w room to : ℕ) (letters : List ℕ) (some : 1 ≤ w) (i b p : �
   window-new m n code n′ cs ps cs′ ps′ h e put es =
       put-first room n code p n′ cs ps cs′ ps′ put (pickedFrom (suc last) w letters to (suc i) (suc p) ++ es)
       ∙ ap (λ (x : ℕ). written room n cs ps (record { code = x; position = p } ∷ (pickedFrom (suc last) w letters to (suc i) (suc p) ++ es))) e
-      ∙ ap (λ (l : List Entry). written room n cs ps (l ++ es)) (sym (picked-new (suc last) letters w to some i m p (subst (λ (x : ℕ). x ≤ to) (sym wide) within) here h))
+      ∙ ap (λ (l : List Entry). written room n cs ps (l ++ es))
+      (sym (picked-new (suc last) letters w to some i m p (subst (λ (x : ℕ). x ≤ to) (sym wide) within) here h))
 
   -- and nothing is where it is not
   window-old : (m : ℕ) → p < m → pickedFrom (suc last) w letters to i m ≡ pickedFrom (suc last) w letters to (suc i) m
@@ -87,11 +89,13 @@ module _ (last w room : ℕ) (letters : List ℕ) (p₀ : ℕ) (ready : p₀ ≤
   pub picking-end : p + last ≡ runEnd letters p₀ → toPick last w letters p₀ (suc (p - w)) (suc low-at) ≡ []
   picking-end h = picked-none (suc last) letters w (runEnd letters p₀ - last) some (suc (p - w)) (suc low-at) (omega arith)
 
-  module _ (v code′ r : ℕ) (more : p + last < runEnd letters p₀) (ev : v ≡ value (getD letters (p + last) 0)) (ec : code′ ≡ (4 * code + v) % 4 ^ suc last) (er : r ≡ rank code′) where
+  module _ (v code′ r : ℕ) (more : p + last < runEnd letters p₀) (ev : v ≡ value (getD letters (p + last) 0)) (ec : code′ ≡ (4 * code + v) % 4 ^ suc last)
+      (er : r ≡ rank code′) where
     next : p + 1 - w ≡ suc (p - w)
     next = omega arith
 
-    step : (code′ ≡ codeAt (suc last) letters p) × (r ≡ rankAt (suc last) letters p) × Scanned last letters (set ring (p % ringSize) r) (p + 1 - w) (p + 1) code′
+    step : (code′ ≡ codeAt (suc last) letters p) × (r ≡ rankAt (suc last) letters p)
+        × Scanned last letters (set ring (p % ringSize) r) (p + 1 - w) (p + 1) code′
     step = pushed letters p₀ ready last p (at .start) more short ring (p - w) (p + 1 - w) code v code′ r (at .scanned) (omega arith) (omega arith) ev ec er
 
     -- the lowest has left: the next window stands, and nothing of it is put
@@ -121,7 +125,8 @@ module _ (last w room : ℕ) (letters : List ℕ) (p₀ : ℕ) (ready : p₀ ≤
             counted = omega (arith, put .counted, at .counted);
             has-room = room′;
           },
-          rw next (window-new last w room (runEnd letters p₀ - last) letters some (suc (p - w)) (suc p) p (omega arith) (omega arith) lowest (suc low-at) n code′ n′ cs ps cs′ ps′ (at .is-lowest .last) (step .0) put),
+          rw next (window-new last w room (runEnd letters p₀ - last) letters some (suc (p - w)) (suc p) p (omega arith) (omega arith) lowest (suc low-at) n
+              code′ n′ cs ps cs′ ps′ (at .is-lowest .last) (step .0) put),
         )
 
     -- the next window has the same lowest
@@ -141,7 +146,8 @@ module _ (last w room : ℕ) (letters : List ℕ) (p₀ : ℕ) (ready : p₀ ≤
             counted = omega (arith, at .counted);
             has-room = at .has-room;
           },
-          rw next (window-old last w room (runEnd letters p₀ - last) letters some (suc (p - w)) (suc p) low-at (omega arith) (omega arith) lowest (suc low-at) (le-refl (suc low-at))),
+          rw next (window-old last w room (runEnd letters p₀ - last) letters some (suc (p - w)) (suc p) low-at (omega arith) (omega arith) lowest
+              (suc low-at) (le-refl (suc low-at))),
         )
 
 -- ---- one run
@@ -173,6 +179,8 @@ run-passed k w room at e n n′ letters cs ps cs′ ps′ some h ended put =
     let to : runEnd letters at - (k - 1) ≡ suc (runEnd letters at) - k = omega arith in
     let behind : e + 1 ≡ suc (runEnd letters at) = omega arith in
     let rest : List Entry = sketchFrom k w letters (suc (runEnd letters at)) in
-    let first : written room n′ cs′ ps′ (sketchFrom k w letters (e + 1)) ≡ written room n cs ps (spanSketch (suc (k - 1)) w letters at (runEnd letters at - (k - 1)) ++ rest) = rw behind (put rest) in
-    let all : spanSketch (suc (k - 1)) w letters at (runEnd letters at - (k - 1)) ++ rest ≡ sketchFrom k w letters at = rw (whole, to) (sym (sketchFrom-run k w at letters some h)) in
+    let first : written room n′ cs′ ps′ (sketchFrom k w letters (e + 1))
+    ≡ written room n cs ps (spanSketch (suc (k - 1)) w letters at (runEnd letters at - (k - 1)) ++ rest) = rw behind (put rest) in
+    let all : spanSketch (suc (k - 1)) w letters at (runEnd letters at - (k - 1)) ++ rest ≡ sketchFrom k w letters at =
+    rw (whole, to) (sym (sketchFrom-run k w at letters some h)) in
     first ∙ ap (written room n cs ps) all

@@ -1,5 +1,4 @@
 -- One letter more: what a scan knows of the run's end, of the code in hand and of the ring.
--- Assumes nothing.
 use Prim.Native.Nat.{ℕ, suc, _+_, _*_, _-_, _%_, _^_, _≤_, _<_}
 use native.Mathlib.Nat.{le-antisymm, lt-of-lt-of-le, pow-le-pow-right, mod-lt}
 use native.Mathlib.Numerals.{add-one}
@@ -14,13 +13,13 @@ use borrow.Author.Count.{below-more}
 use mir.Syntax.{w64}
 use mir.Val.{Fits}
 use borrow.Author.Tests.{eq-eqb, ne-eqb, ltb-true, ltb-false}
-use Rattle.counts.proofs.Lists.{clash}
-use Rattle.minimizers.specs.Limits.{kLimit}
-use Rattle.minimizers.specs.Letters.{value, isForeign, foreign}
-use Rattle.minimizers.specs.Kmers.{rank}
-use Rattle.minimizers.specs.Places.{codeAt, rankAt, runLength, runEnd}
+use Rattle.base.proofs.Lists.{clash}
+use Rattle.base.specs.Limits.{kLimit}
+use Rattle.kmers.specs.Letters.{value, isForeign, foreign}
+use Rattle.kmers.specs.Kmers.{rank}
+use Rattle.kmers.specs.Places.{codeAt, rankAt, runLength, runEnd}
 use Rattle.winnowing.specs.Scan.{ringSize, ringAt, Scanned}
-use Rattle.minimizers.proofs.Codes.{value-below, cut-digit, codeAt-below, codeAt-suc, codeAt-cut}
+use Rattle.kmers.proofs.Codes.{value-below, cut-digit, codeAt-below, codeAt-suc, codeAt-cut}
 use Rattle.minimizers.proofs.Runs.{runEnd-within, run-letters}
 
 run-stop : (l : List ℕ) → isForeign (getD l (runLength l) 0) ≡ true
@@ -91,16 +90,19 @@ module _ (letters : List ℕ) (from : ℕ) (in-letters : from ≤ length letters
       let within : runEnd letters from ≤ length letters = runEnd-within letters from in-letters .1 in
       let there : from + (at - from) ≡ at = omega arith in
       let next : at + 1 - from ≡ suc (at - from) = omega arith in
-      let step : codeAt (suc (at - from)) letters from ≡ 4 * codeAt (at - from) letters from + value (getD letters (from + (at - from)) 0) = codeAt-suc letters (at - from) from (omega arith) in
+      let step : codeAt (suc (at - from)) letters from ≡ 4 * codeAt (at - from) letters from + value (getD letters (from + (at - from)) 0) =
+      codeAt-suc letters (at - from) from (omega arith) in
       rw (next, step, there, h) (omega arith)
 
   module _ (last at : ℕ) (start : from ≤ at) (more : at + last < runEnd letters from) (short : last < kLimit) where
     -- the next code is that of the k-mer at the position
-    code-next : (code : ℕ) → code % 4 ^ last ≡ codeAt last letters at → (4 * code + value (getD letters (at + last) 0)) % 4 ^ suc last ≡ codeAt (suc last) letters at
+    code-next : (code : ℕ)
+        → code % 4 ^ last ≡ codeAt last letters at → (4 * code + value (getD letters (at + last) 0)) % 4 ^ suc last ≡ codeAt (suc last) letters at
     unfolding isForeign
     code-next code h =
         let within : runEnd letters from ≤ length letters = runEnd-within letters from in-letters .1 in
-        let digit : value (getD letters (at + last) 0) < 4 = value-below (getD letters (at + last) 0) (run-letters letters from (at + last) (omega arith) more) in
+        let digit : value (getD letters (at + last) 0) < 4 =
+        value-below (getD letters (at + last) 0) (run-letters letters from (at + last) (omega arith) more) in
         rw (cut-digit last code (value (getD letters (at + last) 0)) digit, h) (sym (codeAt-suc letters last at (omega arith)))
 
     -- its rank in the ring, and the code in hand, one position further
@@ -109,9 +111,13 @@ module _ (letters : List ℕ) (from : ℕ) (in-letters : from ≤ length letters
     unfolding rankAt
     scanned-next ring first first′ code is a b = record {
       sized = length-set ring (at % ringSize) (rank (codeAt (suc last) letters at)) ∙ is .sized;
-      small = λ q c d. below-more (λ (x : ℕ). first′ ≤ x → codeAt (suc last) letters x < 4 ^ kLimit) at (λ x l m. is .small x (omega arith) l) (λ m. code-small at (suc last) start (omega arith) short) q d c;
+      small = λ q c d. below-more (λ (x : ℕ). first′ ≤ x → codeAt (suc last) letters x < 4 ^ kLimit) at (λ x l m. is .small x (omega arith) l)
+          (λ m. code-small at (suc last) start (omega arith) short) q d c;
       ranked = λ q c d. below-more (λ (x : ℕ). first′ ≤ x → ringAt new x ≡ rankAt (suc last) letters x) at old here q d c;
-      code-there = rw (add-one at) (codeAt-cut letters last at (omega (arith, runEnd-within letters from in-letters)) (λ q c d. run-letters letters from q (omega arith) (omega arith)));
+      code-there =
+          rw (add-one at)
+          (codeAt-cut letters last at (omega (arith, runEnd-within letters from in-letters))
+          (λ q c d. run-letters letters from q (omega arith) (omega arith)));
       code-below = code-small at (suc last) start (omega arith) short;
     }
       where

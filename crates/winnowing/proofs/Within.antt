@@ -1,5 +1,4 @@
 -- The limits of winnowing: a call that is not beyond them writes the sketch, as far as there is room.
--- Assumes nothing.
 use Prim.Native.Nat.{ℕ, _≤_}
 use mathlib.Core.Path.{_≡_}
 use mathlib.Core.Bool.{false, _||_}
@@ -7,9 +6,9 @@ use mathlib.Core.List.{List}
 use lib.Dec.{ltb}
 use lib.ListN.{length}
 use borrow.Author.Tests.{ltb-false, le-ltb}
-use Rattle.counts.proofs.Lists.{or-neither}
-use Rattle.minimizers.specs.Limits.{kLimit, wLimit, letterLimit, outside}
-use Rattle.minimizers.proofs.Ranges.{inside-range}
+use Rattle.base.proofs.Lists.{or-neither}
+use Rattle.base.specs.Limits.{kLimit, wLimit, letterLimit, outside}
+use Rattle.base.proofs.Ranges.{inside-range}
 use Rattle.minimizers.specs.Sketch.{sketch}
 use Rattle.winnowing.specs.Winnowed.{written, isBeyond, winnowed}
 use Rattle.winnowing.specs.Scan.{HasRoom}

@@ -1,14 +1,13 @@
 -- What the functions that scan letters keep from letter to letter, and what they have still to do.
--- Assumes nothing.
 use Prim.Native.Nat.{ℕ, suc, _+_, _-_, _%_, _^_, _≤_, _<_}
 use mathlib.Core.Path.{_≡_}
 use mathlib.Core.List.{List, [], _++_}
 use lib.ListN.{length, getD}
-use Rattle.minimizers.specs.Limits.{kLimit, letterLimit}
-use Rattle.minimizers.specs.Letters.{value}
-use Rattle.minimizers.specs.Kmers.{Entry}
+use Rattle.base.specs.Limits.{kLimit, letterLimit}
+use Rattle.kmers.specs.Letters.{value}
+use Rattle.kmers.specs.Kmers.{Entry}
 use Rattle.winnowing.specs.Winnowed.{placed, written}
-use Rattle.minimizers.specs.Places.{codeAt, rankAt, runEnd}
+use Rattle.kmers.specs.Places.{codeAt, rankAt, runEnd}
 
 -- ---- letters and the ring
 

@@ -1,12 +1,11 @@
 -- What a scan of letters leaves: as many entries of their sketch as there is room for in two buffers, and the number of all.
--- Assumes nothing.
 use Prim.Native.Nat.{ℕ, suc}
 use mathlib.Core.Bool.{Bool, cond, _||_}
 use mathlib.Core.List.{List, [], _∷_}
 use lib.Dec.{ltb}
 use lib.ListN.{length, set}
-use Rattle.minimizers.specs.Limits.{kLimit, wLimit, letterLimit, outside}
-use Rattle.minimizers.specs.Kmers.{Entry}
+use Rattle.base.specs.Limits.{kLimit, wLimit, letterLimit, outside}
+use Rattle.kmers.specs.Kmers.{Entry}
 use Rattle.minimizers.specs.Sketch.{sketch}
 
 -- the number of entries found, and the two buffers

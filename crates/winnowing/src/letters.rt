@@ -1,7 +1,7 @@
-// Letters and their values. A function assumes what its `requires` says.
+// Letters and their values.
 ghost use mathlib.Core.Path.{_≡_};
 ghost use lib.ListN.{getD};
-ghost use Rattle.minimizers.specs.Letters.{value};
+ghost use Rattle.kmers.specs.Letters.{value};
 ghost use Rattle.winnowing.specs.Scan.{IsTable};
 
 // What stands for the value of a letter outside the eight.

@@ -1,13 +1,13 @@
-// The winnowing of letters: their sketch in two buffers, as far as there is room. Assumes nothing.
-mod kmers;
+// The winnowing of letters: their sketch in two buffers, as far as there is room.
+mod codes;
 mod letters;
 mod scan;
 mod windows;
 
-use minimizers::K_LIMIT;
-use minimizers::LETTER_LIMIT;
-use minimizers::W_LIMIT;
-use minimizers::outside;
+use base::K_LIMIT;
+use base::LETTER_LIMIT;
+use base::W_LIMIT;
+use base::outside;
 ghost use mathlib.Core.Path.{_≡_};
 ghost use Rattle.winnowing.specs.Winnowed.{wrote, isBeyond, winnowed};
 
@@ -37,7 +37,8 @@ pub fn winnow(
     positions: &mut [u32],
     room: usize,
 ) -> usize
-    ensures { λ r. ⌜ wrote r (now (codes .exit)) (now (positions .exit)) ≡ winnowed k w (now (letters .entry)) room (now (codes .entry)) (now (positions .entry)) ⌝ }
+    ensures { λ r.
+        ⌜ wrote r (now (codes .exit)) (now (positions .exit)) ≡ winnowed k w (now (letters .entry)) room (now (codes .entry)) (now (positions .entry)) ⌝ }
 {
     if is_beyond(k, w, letters.len(), codes.len(), positions.len(), room) {
         return 0;

@@ -1,15 +1,14 @@
 // Windows of k-mers: the scan of a run's letters, and the k-mers that its windows pick.
-// A function assumes what its `requires` says.
 ghost use Prim.Native.Nat.{suc, _+_, _-_, _≤_, _<_};
 ghost use mathlib.Core.Path.{_≡_};
 ghost use lib.ListN.{length};
-ghost use Rattle.minimizers.specs.Limits.{wLimit, letterLimit};
-ghost use Rattle.minimizers.specs.Places.{codeAt, runEnd};
+ghost use Rattle.base.specs.Limits.{wLimit, letterLimit};
+ghost use Rattle.kmers.specs.Places.{codeAt, runEnd};
 ghost use Rattle.winnowing.specs.Scan.{ringAt, ringSize, Ready, Begun, Scanned, Filled, Passes, HasRoom, IsPut};
 ghost use Rattle.minimizers.specs.Places.{pickedFrom, IsLowest};
-use crate::kmers::next_code;
-use crate::kmers::rank;
-use crate::kmers::unrank;
+use crate::codes::next_code;
+use crate::codes::rank;
+use crate::codes::unrank;
 use crate::letters::FOREIGN;
 use crate::letters::value_at;
 
@@ -26,6 +25,14 @@ pub(crate) struct Reached {
 pub(crate) struct Passed {
     pub(crate) at: usize,
     pub(crate) entries: usize,
+}
+
+// The measures of a scan: how many letters of a k-mer stand in front of its last one, how many k-mers a window has, and how many
+// entries the buffers have room for.
+pub(crate) struct Measures {
+    pub(crate) last: usize,
+    pub(crate) w: usize,
+    pub(crate) room: usize,
 }
 
 // One more entry: counted, and written where there is room.
@@ -124,53 +131,52 @@ pub(crate) fn pass_windows(
     letters: &[u8],
     values: &[u8],
     ring: &mut [u32],
-    last: usize,
-    w: usize,
+    measures: Measures,
     reached: Reached,
     codes: &mut [u32],
     positions: &mut [u32],
-    room: usize,
     before: usize,
 ) -> Passed
-    requires { ⌜ Ready (now letters) (now values) (reached .at) last ⌝ }
-    requires { ⌜ (1 ≤ w) × (w ≤ wLimit) × (w ≤ reached .at) × (before < reached .at) ⌝ }
-    requires { ⌜ reached .at + last ≤ runEnd (now letters) (reached .at) ⌝ }
-    requires { ⌜ Scanned last (now letters) (now ring) (reached .at - w) (reached .at) (reached .code) ⌝ }
-    requires { ⌜ HasRoom room (now codes) (now positions) ⌝ }
-    ensures { λ r. ⌜ Passes room (now (letters .entry)) (reached .at) before (r .at) (r .entries) (now (codes .entry)) (now (positions .entry)) (now (codes .exit)) (now (positions .exit))
-        (pickedFrom (suc last) w (now (letters .entry)) (runEnd (now (letters .entry)) (reached .at) - last) (reached .at - w) (reached .at - w)) ⌝ }
+    requires { ⌜ Ready (now letters) (now values) (reached .at) (measures .last) ⌝ }
+    requires { ⌜ (1 ≤ measures .w) × (measures .w ≤ wLimit) × (measures .w ≤ reached .at) × (before < reached .at) ⌝ }
+    requires { ⌜ reached .at + measures .last ≤ runEnd (now letters) (reached .at) ⌝ }
+    requires { ⌜ Scanned (measures .last) (now letters) (now ring) (reached .at - measures .w) (reached .at) (reached .code) ⌝ }
+    requires { ⌜ HasRoom (measures .room) (now codes) (now positions) ⌝ }
+    ensures { λ r.
+        ⌜ Passes (measures .room) (now (letters .entry)) (reached .at) before (r .at) (r .entries)
+        (now (codes .entry)) (now (positions .entry)) (now (codes .exit)) (now (positions .exit))
+        (pickedFrom (suc (measures .last)) (measures .w) (now (letters .entry))
+        (runEnd (now (letters .entry)) (reached .at) - measures .last) (reached .at - measures .w) (reached .at - measures .w)) ⌝ }
 {
     let mut p = reached.at;
     let mut code = reached.code;
     let mut n = before;
     'windows: loop {
-        let mut low_at = lowest(ring, p - w, p);
+        let mut low_at = lowest(ring, p - measures.w, p);
         let mut low = ring[low_at % RING];
-        n = put(codes, positions, room, n, unrank(low), low_at);
+        n = put(codes, positions, measures.room, n, unrank(low), low_at);
         loop {
-            let v = value_at(letters, values, p + last);
+            let v = value_at(letters, values, p + measures.last);
             // The run ends, and with it its windows.
             if v == FOREIGN {
                 break 'windows;
             }
-            code = next_code(code, v, last);
+            code = next_code(code, v, measures.last);
             let r = rank(code);
             ring[p % RING] = r;
             let here = p;
             p += 1;
             // The lowest has left the window. Asked first, since this is foreseen more often than how the ranks compare.
-            if low_at + w <= here {
+            if low_at + measures.w <= here {
                 continue 'windows;
             }
             if r <= low {
                 low_at = here;
                 low = r;
-                n = put(codes, positions, room, n, code, here);
+                n = put(codes, positions, measures.room, n, code, here);
             }
         }
     }
-    Passed {
-        at: p + last,
-        entries: n,
-    }
+    let at = p + measures.last;
+    Passed { at, entries: n }
 }

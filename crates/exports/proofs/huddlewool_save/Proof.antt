@@ -1,7 +1,6 @@
--- `huddlewool_save` meets its contract: the numbers are those of what save answers. Assumes nothing.
-use mathlib.Core.Path.{ap, _∙_}
-use Rattle.answers.specs.Numbers.{numberOf, valueOf}
+-- `huddlewool_save` meets its contract: the numbers are those of what save answers.
 use borrow.Author.Needs.{needs}
+use Rattle.exports.proofs.Telling.{tells-of}
 use Rattle.exports.proofs.huddlewool_save.Statement.{statement}
 use Rattle.exports.proofs.huddlewool_save.Tie as tie
 
@@ -15,8 +14,9 @@ same-length : tie.Need-same-length
 same-length c = search needs
 
 returns : tie.Need-returns
-returns c = let s = c .before .before .before .save .ensures in
-    (c .of-save .ensures .1 ∙ ap valueOf (s .0), (c .of-save .ensures .0 ∙ ap numberOf (s .0), s .1))
+returns c =
+    let s = c .before .before .before .save .ensures in
+    record { tells = tells-of (s .0) (c .of-save .ensures); words-after = s .1 }
 
 pub huddlewool-save-spec : {M : Type 1} → statement M
 huddlewool-save-spec = tie.close (tie.spec save-requires of-save-requires same-length returns)

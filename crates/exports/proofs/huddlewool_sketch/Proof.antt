@@ -1,9 +1,15 @@
--- `huddlewool_sketch` meets its contract: the numbers are those of what sketch answers. Assumes nothing.
-use mathlib.Core.Path.{ap, _∙_}
-use Rattle.answers.specs.Numbers.{numberOf, valueOf}
+-- `huddlewool_sketch` meets its contract: the numbers are those of what sketch answers.
 use borrow.Author.Needs.{needs}
+use Rattle.exports.proofs.Telling.{tells-of}
 use Rattle.exports.proofs.huddlewool_sketch.Statement.{statement}
 use Rattle.exports.proofs.huddlewool_sketch.Tie as tie
+
+-- the first of the two buffers is back, and before that the call of sketch
+abbrev one-back : tie.After-of-sketch → tie.After-slice-known3
+one-back c = c .before .before .before
+
+abbrev sketched : tie.After-of-sketch → tie.After-sketch
+sketched c = one-back c .before .before
 
 sketch-requires : tie.Need-sketch-requires
 sketch-requires c κs = search needs
@@ -18,8 +24,9 @@ same-length-2 : tie.Need-same-length-2
 same-length-2 c = search needs
 
 returns : tie.Need-returns
-returns c = let s = c .before .before .before .before .before .sketch .ensures in
-    (c .of-sketch .ensures .1 ∙ ap valueOf (s .answer), (c .of-sketch .ensures .0 ∙ ap numberOf (s .answer), (s .codes-after, s .positions-after)))
+returns c =
+    let s = sketched c .sketch .ensures in
+    record { tells = tells-of (s .answer) (c .of-sketch .ensures); codes-after = s .codes-after; positions-after = s .positions-after }
 
 pub huddlewool-sketch-spec : {M : Type 1} → statement M
 huddlewool-sketch-spec =

@@ -1,9 +1,15 @@
--- `huddlewool_strike` meets its contract: the numbers are those of what strike answers. Assumes nothing.
-use mathlib.Core.Path.{ap, _∙_}
-use Rattle.answers.specs.Numbers.{numberOf, valueOf}
+-- `huddlewool_strike` meets its contract: the numbers are those of what strike answers.
 use borrow.Author.Needs.{needs}
+use Rattle.exports.proofs.Telling.{tells-of}
 use Rattle.exports.proofs.huddlewool_strike.Statement.{statement}
 use Rattle.exports.proofs.huddlewool_strike.Tie as tie
+
+-- the first of the two buffers is back, and before that the call of strike
+abbrev one-back : tie.After-of-strike → tie.After-slice-known3
+one-back c = c .before .before .before
+
+abbrev struck : tie.After-of-strike → tie.After-strike
+struck c = one-back c .before .before
 
 strike-requires : tie.Need-strike-requires
 strike-requires c κs = search needs
@@ -18,8 +24,9 @@ same-length-2 : tie.Need-same-length-2
 same-length-2 c = search needs
 
 returns : tie.Need-returns
-returns c = let s = c .before .before .before .before .before .strike .ensures in
-    (c .of-strike .ensures .1 ∙ ap valueOf (s .0), (c .of-strike .ensures .0 ∙ ap numberOf (s .0), s .1))
+returns c =
+    let s = struck c .strike .ensures in
+    record { tells = tells-of (s .0) (c .of-strike .ensures); codes-after = s .1 .0; positions-after = s .1 .1 }
 
 pub huddlewool-strike-spec : {M : Type 1} → statement M
 huddlewool-strike-spec =

@@ -1,6 +1,5 @@
 -- `main` ends and stays within its buffers. Its loop keeps what `report` asks of it: the session in hand is one whose pieces so far and whose
 -- rest make up an output. That the pieces are written, each once and in order, is no part of the statement, since `io` says nothing of it.
--- Assumes nothing.
 use Prim.Native.Nat.{ℕ, _≤_, zero-le}
 use native.Mathlib.Omega.{arith}
 use mathlib.Core.Path.{_≡_, sym, _∙_}
@@ -8,8 +7,8 @@ use mathlib.Core.List.{List}
 use lib.ListN.{length, length-replicate}
 use lib.Seq.{length-take-le}
 use borrow.Author.Needs.{needs}
-use Rattle.report.proofs.Writers.{written-inside}
-use Rattle.report.proofs.Whole.{After, begin-prints, next-prints}
+use Rattle.list_output.proofs.Writers.{written-inside}
+use Rattle.list_output.proofs.Whole.{After, begin-prints, next-prints}
 use Rattle.maplist.proofs.main.Statement.{statement}
 use Rattle.maplist.proofs.main.Tie as tie
 

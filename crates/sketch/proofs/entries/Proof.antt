@@ -1,5 +1,4 @@
 -- `entries` meets its contract: without room winnowing counts.
--- Assumes nothing.
 use borrow.Author.Needs.{needs}
 use Prim.Native.Nat.{_+_, zero-le}
 use native.Mathlib.Nat.{zero-add}
@@ -13,6 +12,10 @@ use Rattle.sketch.proofs.Buffers.{written-nowhere}
 use Rattle.sketch.proofs.entries.Statement.{statement}
 use Rattle.sketch.proofs.entries.Tie as tie
 
+-- places, each named for where it leads and from where
+abbrev entry-positions : tie.After-positions → tie.Start
+entry-positions c = c .before .before .before
+
 slice-aggregate-winnow : tie.Need-slice-aggregate-winnow
 slice-aggregate-winnow c = search needs
 
@@ -24,10 +27,11 @@ winnow-requires c κs = search needs
 
 returns : tie.Need-returns
 returns c =
-    let args = c .before .before .before .before .before .before .args in
+    let args = entry-positions (c .before .before .before) .args in
     let s = sketch (args .k) (args .w) (args .letters .now) in
     let all : winnowed (args .k) (args .w) (args .letters .now) 0 [] [] ≡ wrote (0 + length s) [] [] =
-    winnowed-within (args .k) (args .w) (args .letters .now) 0 [] [] (c .before .before .before .before .before .before .pre) zero-le zero-le ∙ written-nowhere 0 [] [] s in
+    winnowed-within (args .k) (args .w) (args .letters .now) 0 [] [] (entry-positions (c .before .before .before) .pre) zero-le zero-le
+    ∙ written-nowhere 0 [] [] s in
     ap (λ (x : Written). x .entries) (c .before .before .winnow .ensures ∙ all) ∙ zero-add (length s)
 
 pub entries-spec : {M : Type 1} → statement M

@@ -1,12 +1,11 @@
--- `store::code_limit` meets its contract. The loop's invariant: the limit so far is 4^i, and i has not passed k.
--- Assumes nothing.
+-- `code_limit` meets its contract. The loop's invariant: the limit so far is 4^i, and i has not passed k.
 use Prim.Native.Nat.{ℕ, _*_, _-_, _^_, _≤_, min}
 use native.Mathlib.Nat.{pow-suc, pow-le-pow-right}
 use native.Mathlib.Numerals.{add-one}
 use native.Mathlib.Omega.{arith}
 use mathlib.Core.Path.{_≡_, refl, sym, ap, _∙_}
 use lib.Dec.{lit<}
-use Rattle.minimizers.specs.Limits.{kLimit}
+use Rattle.base.specs.Limits.{kLimit}
 use Rattle.store.proofs.code_limit.Statement.{statement}
 use Rattle.store.proofs.code_limit.Tie as tie
 

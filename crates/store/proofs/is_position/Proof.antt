@@ -1,5 +1,4 @@
--- `store::is_position` meets its contract: each return is one case of the definition.
--- Assumes nothing.
+-- `is_position` meets its contract: each return is one case of the definition.
 use Prim.Native.Nat.{_≤_, _<_}
 use native.Mathlib.Omega.{arith}
 use borrow.Author.Tests.{le-leb, lt-leb}

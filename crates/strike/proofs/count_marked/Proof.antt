@@ -1,11 +1,10 @@
 -- `count_marked` meets its contract. The loop keeps: what is counted and what is left come to the sum.
--- Assumes nothing.
 use native.Mathlib.Omega.{arith}
 use Prim.Native.Nat.{_+_, _-_, _≤_}
 use native.Mathlib.Numerals.{add-one}
 use mathlib.Core.Path.{_≡_, ap}
 use lib.ListN.{length, drop, drop-of-length-le}
-use Rattle.counts.specs.Lists.{sum}
+use Rattle.base.specs.Lists.{sum}
 use Rattle.strike.proofs.Marked.{sum-drop}
 use borrow.Author.Needs.{needs}
 use Rattle.strike.proofs.count_marked.Statement.{statement}
@@ -17,6 +16,10 @@ Inv-loop marks n₀ i₀ n i = (i ≤ length marks) × (n + sum (drop i marks) �
 abbrev μ-loop : tie.MeasureT-loop
 μ-loop marks n₀ i₀ n i = length marks - i
 
+-- places, each named for where it leads and from where
+abbrev entry-turn : tie.At-loop Inv-loop μ-loop → tie.Start Inv-loop μ-loop
+entry-turn c = c .before .before
+
 loop-holds : tie.Need-loop-holds Inv-loop μ-loop
 loop-holds c = (omega arith, omega arith)
 
@@ -27,7 +30,8 @@ wide-requires : tie.Need-wide-requires Inv-loop μ-loop
 wide-requires c κs = search needs
 
 add-n : tie.Need-add-n Inv-loop μ-loop
-add-n c = omega (arith, sum-drop (c .before .before .before .before .before .args .marks .now) (c .before .before .before .loop .i) (c .before .before .loop-test .taken))
+add-n c = omega
+    (arith, sum-drop (entry-turn (c .before .before .before) .args .marks .now) (c .before .before .before .loop .i) (c .before .before .loop-test .taken))
 
 add-i : tie.Need-add-i Inv-loop μ-loop
 add-i c = search needs
@@ -36,7 +40,14 @@ loop-less : tie.Need-loop-less Inv-loop μ-loop
 loop-less c = search needs
 
 loop-again : tie.Need-loop-again Inv-loop μ-loop
-loop-again c = (omega arith, rw add-one (omega (arith, sum-drop (c .before .before .before .before .before .args .marks .now) (c .before .before .before .loop .i) (c .before .before .loop-test .taken))))
+loop-again c = (
+  omega arith,
+  rw add-one (omega (
+    arith,
+    sum-drop (entry-turn (c .before .before .before) .args .marks .now) (c .before .before .before .loop .i)
+        (c .before .before .loop-test .taken),
+  )),
+)
 
 returns : tie.Need-returns Inv-loop μ-loop
 returns c = omega (arith, ap sum (drop-of-length-le (c .before .before .before .args .marks .now) (c .loop-test .left)))

@@ -1,9 +1,8 @@
 -- `zeros_65535` meets its contract: an array of zeros is the list of as many zeros.
--- Assumes nothing.
 use Prim.Native.Nat.{ℕ}
 use mathlib.Core.Path.{refl, sym}
 use lib.ListN.{length-replicate}
-use Rattle.counts.specs.Keys.{zeros}
+use Rattle.base.specs.Zeros.{zeros}
 use Rattle.strike.proofs.zeros_65535.Statement.{statement}
 use Rattle.strike.proofs.zeros_65535.Tie as tie
 

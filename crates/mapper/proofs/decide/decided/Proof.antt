@@ -9,7 +9,7 @@ use mir.Facts.{toZ-ofZ}
 use mir.Syntax.{w32}
 use mir.Val.{toZ, ofZ}
 use borrow.Author.Needs.{needs, sfits-of}
-use Rattle.mappings.specs.Bias.{unbiased}
+use Rattle.mappings.specs.Unbiased.{unbiased}
 use Rattle.mappings.specs.Score.{lengthOf, linear}
 use Rattle.mapper.specs.declared.answer.Stepped.the-variants.{Found}
 use Rattle.mapper.specs.Deciding.{isScorable, candidateScore, decides}

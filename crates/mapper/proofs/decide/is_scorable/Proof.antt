@@ -84,4 +84,4 @@ returns-7 c =
 pub is-scorable-spec : {M : Type 1} → statement M
 is-scorable-spec =
     tie.close
-    (tie.spec returns returns-2 returns-3 returns-4 returns-5 returns-6 add-result returns-7)
+    (tie.spec returns returns-2 (search needs) returns-3 returns-4 (search needs) returns-5 returns-6 add-result returns-7)

@@ -1,4 +1,4 @@
--- `place::save` meets its contract. Assumes nothing.
+-- `place::save` meets its contract.
 use lib.ListN.{length-set}
 use Rattle.mapper.specs.Walking.{saved}
 use borrow.Author.Needs.{needs}

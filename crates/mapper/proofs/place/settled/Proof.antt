@@ -1,4 +1,4 @@
--- `place::settled` meets its contract. Assumes nothing.
+-- `place::settled` meets its contract.
 use borrow.Author.Tests.{lt-ltb, le-ltb}
 use Rattle.mapper.specs.Walking.{settled}
 use borrow.Author.Needs.{needs}

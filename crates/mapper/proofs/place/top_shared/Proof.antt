@@ -1,17 +1,18 @@
--- `place::top_shared` meets its contract. Assumes nothing.
+-- `place::top_shared` meets its contract.
 use Prim.Native.Nat.{ℕ, zero, suc, _+_, _-_}
 use native.Mathlib.Omega.{arith}
 use mathlib.Core.Path.{_≡_, refl, ap}
 use mathlib.Core.List.{List}
 use borrow.Author.Needs.{needs}
 use lib.ListN.{getD}
+use Rattle.session_words.specs.Layout.{wholeFrom}
 use Rattle.mapper.specs.Walking.{topShared}
 use Rattle.mapper.proofs.place.top_shared.Statement.{statement}
 use Rattle.mapper.proofs.place.top_shared.Tie as tie
 
-top-is : (work : List ℕ) (columns : ℕ) → (columns ≡ 0 → ⊥) → getD work (10240 + columns - 1) 0 ≡ topShared work columns
+top-is : (work : List ℕ) (columns : ℕ) → (columns ≡ 0 → ⊥) → getD work (wholeFrom + columns - 1) 0 ≡ topShared work columns
 top-is work zero h = absurd (h refl)
-top-is work (suc j) h = let e : 10240 + suc j - 1 ≡ 10240 + j = omega arith in ap (λ (n : ℕ). getD work n 0) e
+top-is work (suc j) h = let e : wholeFrom + suc j - 1 ≡ wholeFrom + j = omega arith in ap (λ (n : ℕ). getD work n 0) e
 
 returns : tie.Need-returns
 returns c = search needs

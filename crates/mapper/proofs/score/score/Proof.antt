@@ -3,17 +3,18 @@ use Prim.Native.Nat.{_+_, _-_, _*_, _≤_}
 use native.Mathlib.Nat.{mul-le-mul}
 use native.Mathlib.Omega.{arith}
 use borrow.Author.Needs.{needs}
+use Rattle.base.specs.Limits.{textLimit, patternLimit, weightLimit}
 use Rattle.mappings.specs.Score.{distance, linear}
 use Rattle.mapper.proofs.Signed.{difference-fits, difference-is}
 use Rattle.mapper.proofs.score.score.Statement.{statement}
 use Rattle.mapper.proofs.score.score.Tie as tie
 
 -- what is gained and what is lost, within 32 signed bits
-gained : (c : tie.Start) → c .args .u * c .args .m ≤ 4096000
-gained c = mul-le-mul {m₂ = 4096} (c .pre .0) (omega (arith, c .pre))
+gained : (c : tie.Start) → c .args .u * c .args .m ≤ weightLimit * patternLimit
+gained c = mul-le-mul {m₂ = patternLimit} (c .pre .0) (omega (arith, c .pre))
 
-lost : (c : tie.Start) → c .args .v * (c .args .len + c .args .size - 2 * c .args .m) ≤ 69631000
-lost c = mul-le-mul {m₂ = 69631} (c .pre .1) (omega (arith, c .pre))
+lost : (c : tie.Start) → c .args .v * (c .args .len + c .args .size - 2 * c .args .m) ≤ weightLimit * (textLimit + patternLimit)
+lost c = mul-le-mul {m₂ = textLimit + patternLimit} (c .pre .1) (omega (arith, c .pre))
 
 add-d : tie.Need-add-d
 add-d c = search needs

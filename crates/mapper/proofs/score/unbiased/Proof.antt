@@ -1,6 +1,6 @@
 -- `score::unbiased` meets its contract.
 use borrow.Author.Needs.{needs}
-use Rattle.mappings.specs.Bias.{unbiased}
+use Rattle.mappings.specs.Unbiased.{unbiased}
 use Rattle.mapper.proofs.Signed.{word-high, word-sub, word-low}
 use Rattle.mapper.proofs.score.unbiased.Statement.{statement}
 use Rattle.mapper.proofs.score.unbiased.Tie as tie

@@ -1,4 +1,4 @@
--- `session::one_inside` meets its contract: each answer follows from the tests that led to it. Assumes nothing.
+-- `session::one_inside` meets its contract: each answer follows from the tests that led to it.
 use borrow.Author.Tests.{lt-ltb, le-ltb}
 use borrow.Author.Needs.{needs}
 use Rattle.mapper.proofs.session.one_inside.Statement.{statement}

@@ -7,6 +7,9 @@ use mathlib.Core.Logic.{inl, inr}
 use mathlib.Core.List.{List}
 use lib.ListN.{getD}
 use borrow.Author.Needs.{needs}
+use Rattle.base.specs.Limits.{weightLimit, hitLimit}
+use Rattle.session_words.specs.FirstWords.{uAt, vAt}
+use Rattle.session_words.specs.Layout.{columnsAt, rowAt, mAt}
 use Rattle.mapper.specs.declared.answer.Stepped.{Stepped}
 use Rattle.mapper.specs.Step.{badWords}
 use Rattle.mapper.specs.Walking.{Walk, termsIn, walkOn}
@@ -106,22 +109,22 @@ module _ (d : tie.After-one-inside) where
   within : GoodWords work
   within = good-words work (not-bad (good hits))
 
-  small-weights : (getD work 1 0 ≤ 1000) × (getD work 2 0 ≤ 1000)
+  small-weights : (getD work uAt 0 ≤ weightLimit) × (getD work vAt 0 ≤ weightLimit)
   small-weights = (within .small-u, within .small-v)
 
   -- the place lies in a column
-  columns-within : columns hits .wide .result ≤ 2048
+  columns-within : columns hits .wide .result ≤ hitLimit
   columns-within = omega (arith, place d .if3 .left, hits .wide2 .ensures .0, within .few-hits)
 
   -- a walk from the place in the words, with the budget, keeps the promise
   walked : (cells : ℕ) → cells ≡ start .args .budget → (answer : Stepped) (after : List ℕ)
-      → answer ≡ walkOn (termsIn work) cells (columns hits .wide .result) (row d .wide3 .result) (getD work 9 0) cells work .answer
-      → after ≡ walkOn (termsIn work) cells (columns hits .wide .result) (row d .wide3 .result) (getD work 9 0) cells work .words
+      → answer ≡ walkOn (termsIn work) cells (columns hits .wide .result) (row d .wide3 .result) (getD work mAt 0) cells work .answer
+      → after ≡ walkOn (termsIn work) cells (columns hits .wide .result) (row d .wide3 .result) (getD work mAt 0) cells work .words
       → StepPromise work (start .args .budget) answer after
   walked cells n answer after a b =
-      let same : walkOn (termsIn work) cells (columns hits .wide .result) (row d .wide3 .result) (getD work 9 0) cells work
-      ≡ walkOn (termsIn work) (start .args .budget) (getD work 7 0) (getD work 8 0) (getD work 9 0) (start .args .budget) work =
-      λ i. walkOn (termsIn work) (n i) (columns hits .wide .ensures .0 i) (row d .wide3 .ensures .0 i) (getD work 9 0) (n i) work
+      let same : walkOn (termsIn work) cells (columns hits .wide .result) (row d .wide3 .result) (getD work mAt 0) cells work
+      ≡ walkOn (termsIn work) (start .args .budget) (getD work columnsAt 0) (getD work rowAt 0) (getD work mAt 0) (start .args .budget) work =
+      λ i. walkOn (termsIn work) (n i) (columns hits .wide .ensures .0 i) (row d .wide3 .ensures .0 i) (getD work mAt 0) (n i) work
       in
       subst₂ (StepPromise work (start .args .budget)) (sym (a ∙ ap (λ (w : Walk). w .answer) same)) (sym (b ∙ ap (λ (w : Walk). w .words) same))
       (walk-promise work (start .args .budget) (enough (good hits .before) .if1 .left) (not-bad (good hits)))

@@ -1,11 +1,13 @@
 -- `update::line_of` meets its contract: each field is what its word holds, and nothing passes 64 bits.
-use Prim.Native.Nat.{_+_, _-_, _*_, _%_, _≤_}
+use Prim.Native.Nat.{_+_, _-_, _*_, _%_, _≤_, _<_}
 use native.Mathlib.Nat.{mul-le-mul}
 use native.Mathlib.Omega.{arith}
 use mathlib.Core.Path.{_≡_}
 use lib.ListN.{getD}
 use borrow.Author.Needs.{needs}
-use Rattle.mapper.specs.Walking.{lift, lineOf}
+use Rattle.base.specs.Limits.{weightLimit, wordLimit}
+use Rattle.session_words.specs.Layout.{indexFrom}
+use Rattle.mapper.specs.Walking.{margin, lift, lineOf}
 use Rattle.mapper.proofs.update.line_of.Statement.{statement}
 use Rattle.mapper.proofs.update.line_of.Tie as tie
 
@@ -19,11 +21,14 @@ weight c = right c .before .before
 abbrev entry : tie.After-wider3 → tie.Start
 entry c = weight c .before .before
 
--- v·(x + 1 + |p|) is below 2^44, whatever the words
-weighed : (c : tie.After-wider3) → weight c .wider .result * (right c .wider2 .result + 1 + c .wider3 .result) ≤ 8589934591000
+-- v·(x + 1 + |p|) is below the margin, whatever the words
+weighed : (c : tie.After-wider3) → weight c .wider .result * (right c .wider2 .result + 1 + c .wider3 .result) < margin
 weighed c =
-    mul-le-mul {n₂ = 1000} {m₂ = 8589934591} (omega (arith, entry c .pre .3, weight c .wider .ensures .0))
+    let most : weight c .wider .result * (right c .wider2 .result + 1 + c .wider3 .result) ≤ weightLimit * (2 * wordLimit - 1) =
+    mul-le-mul {n₂ = weightLimit} {m₂ = 2 * wordLimit - 1} (omega (arith, entry c .pre .3, weight c .wider .ensures .0))
     (omega (arith, right c .wider2 .ensures .1, c .wider3 .ensures .1))
+    in
+    omega (arith, most)
 
 wider-requires : tie.Need-wider-requires
 wider-requires c κs = search needs
@@ -86,14 +91,14 @@ returns c =
     let args = entry w .args in
     let terms = args .terms in
     let lost : weight w .wider .result * (right w .wider2 .result + 1 + w .wider3 .result)
-    ≡ terms .v * (getD (args .work .now) (4096 + args .j) 0 + 1 + terms .size) =
+    ≡ terms .v * (getD (args .work .now) (indexFrom + args .j) 0 + 1 + terms .size) =
     λ i. weight w .wider .ensures .0 i * (right w .wider2 .ensures .0 i + 1 + w .wider3 .ensures .0 i)
     in
     λ i. record {
       column = args .j;
       gain = terms .u + 2 * terms .v;
       v = terms .v;
-      base = (lift - lost i) % 4294967296;
+      base = (lift - lost i) % wordLimit;
       back = c .wide .ensures .0 i;
       threshold = terms .threshold;
     }

@@ -1,12 +1,25 @@
--- `update::update` meets its contract: what `pass` has passed in the part is the column's update. Assumes nothing.
+-- `update::update` meets its contract: what `pass` has passed in the part is the column's update.
 use Prim.Native.Nat.{_-_}
 use mathlib.Core.Path.{ap, _∙_}
 use borrow.Author.Needs.{needs}
-use Rattle.column.specs.Passing.{Update}
+use Rattle.session_cells.specs.Passing.{Update}
 use Rattle.mapper.specs.Walking.{withPart, partOf}
 use Rattle.mapper.proofs.Walking.{update-is}
 use Rattle.mapper.proofs.update.update.Statement.{statement}
 use Rattle.mapper.proofs.update.update.Tie as tie
+
+-- where the number of cells and the line are known, and the entry of the function
+abbrev counted : tie.After-pass → tie.After-smaller
+counted c = c .before .before
+
+abbrev lined : tie.After-pass → tie.After-line-of
+lined c = counted c .before .before
+
+abbrev known : tie.After-pass → tie.After-line-of-arg
+known c = lined c .before .before
+
+abbrev entry : tie.After-pass → tie.Start
+entry c = known c .before .before
 
 sub-line-of : tie.Need-sub-line-of
 sub-line-of c = search needs
@@ -41,10 +54,15 @@ same-length c = search needs
 returns : tie.Need-returns
 unfolding withPart partOf
 returns c =
-    let d = c .before .before .before .before .before .before .before .before .before .before in
-    let work = d .args .work .now in
-    let e = update-is (d .args .terms) (d .args .place .columns) (d .args .place .row) (d .args .place .m) (d .args .left) work (c .before .before .before .before .before .before .line-of .result) (c .before .before .before .before .smaller .result) (d .pre .0 .1) (d .pre .0 .2) (d .pre .0 .3) (d .pre .0 .0) (c .before .before .before .before .before .before .line-of .ensures) (c .before .before .before .before .smaller .ensures) in
-    (c .before .before .pass .ensures .0 ∙ ap (λ (u : Update). u .answer) e, ap (withPart work) (c .before .before .pass .ensures .1 ∙ ap (λ (u : Update). u .part) e))
+    let passed = c .before .before in
+    let args = entry passed .args in
+    let pre = entry passed .pre .0 in
+    let line = lined passed .line-of in
+    let cells = counted passed .smaller in
+    let work = args .work .now in
+    let e = update-is (args .terms) (args .place .columns) (args .place .row) (args .place .m) (args .left) work (line .result) (cells .result)
+    (pre .1) (pre .2) (pre .3) (pre .0) (line .ensures) (cells .ensures) in
+    (passed .pass .ensures .0 ∙ ap (λ (u : Update). u .answer) e, ap (withPart work) (passed .pass .ensures .1 ∙ ap (λ (u : Update). u .part) e))
 
 pub update-spec : {M : Type 1} → statement M
 update-spec =

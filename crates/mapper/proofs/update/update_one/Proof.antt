@@ -1,13 +1,23 @@
--- `update::update_one` meets its contract: what `pass_one` has passed in the part is the column's update. Assumes nothing.
+-- `update::update_one` meets its contract: what `pass_one` has passed in the part is the column's update.
 use Prim.Native.Nat.{_-_}
 use native.Mathlib.Omega.{arith}
 use mathlib.Core.Path.{ap, _∙_}
 use borrow.Author.Needs.{needs}
-use Rattle.column.specs.Passing.{Update}
+use Rattle.session_cells.specs.Passing.{Update}
 use Rattle.mapper.specs.Walking.{withPart, partOf}
 use Rattle.mapper.proofs.Walking.{update-is}
 use Rattle.mapper.proofs.update.update_one.Statement.{statement}
 use Rattle.mapper.proofs.update.update_one.Tie as tie
+
+-- where the line is known, and the entry of the function
+abbrev lined : tie.After-pass-one → tie.After-line-of
+lined c = c .before .before
+
+abbrev known : tie.After-pass-one → tie.After-line-of-arg
+known c = lined c .before .before
+
+abbrev entry : tie.After-pass-one → tie.Start
+entry c = known c .before .before
 
 sub-line-of : tie.Need-sub-line-of
 sub-line-of c = search needs
@@ -33,10 +43,14 @@ same-length c = search needs
 returns : tie.Need-returns
 unfolding withPart partOf
 returns c =
-    let d = c .before .before .before .before .before .before .before .before in
-    let work = d .args .work .now in
-    let e = update-is (d .args .terms) (d .args .place .columns) (d .args .place .row) (d .args .place .m) 1 work (c .before .before .before .before .line-of .result) 1 (omega (arith, d .pre .0 .2)) (d .pre .0 .1) (omega (arith, d .pre .0 .2)) (d .pre .0 .0) (c .before .before .before .before .line-of .ensures) (omega (arith, d .pre .0 .2)) in
-    (c .before .before .pass-one .ensures .0 ∙ ap (λ (u : Update). u .answer) e, ap (withPart work) (c .before .before .pass-one .ensures .1 ∙ ap (λ (u : Update). u .part) e))
+    let passed = c .before .before in
+    let args = entry passed .args in
+    let pre = entry passed .pre .0 in
+    let line = lined passed .line-of in
+    let work = args .work .now in
+    let e = update-is (args .terms) (args .place .columns) (args .place .row) (args .place .m) 1 work (line .result) 1 (omega (arith, pre .2)) (pre .1)
+    (omega (arith, pre .2)) (pre .0) (line .ensures) (omega (arith, pre .2)) in
+    (passed .pass-one .ensures .0 ∙ ap (λ (u : Update). u .answer) e, ap (withPart work) (passed .pass-one .ensures .1 ∙ ap (λ (u : Update). u .part) e))
 
 pub update-one-spec : {M : Type 1} → statement M
 update-one-spec =

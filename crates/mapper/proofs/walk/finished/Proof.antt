@@ -1,4 +1,4 @@
--- `walk::finished` meets its contract. Assumes nothing.
+-- `walk::finished` meets its contract.
 use mathlib.Core.Path.{refl}
 use Rattle.mapper.specs.Walking.{finishedWalk}
 use borrow.Author.Needs.{needs}

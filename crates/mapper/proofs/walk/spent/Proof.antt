@@ -1,4 +1,4 @@
--- `walk::spent` meets its contract. Assumes nothing.
+-- `walk::spent` meets its contract.
 use mathlib.Core.Path.{refl}
 use Rattle.mapper.specs.Walking.{spentWalk}
 use borrow.Author.Needs.{needs}

@@ -5,6 +5,7 @@ use native.Mathlib.Omega.{arith}
 use mathlib.Core.Path.{_≡_, sym, ap, _∙_}
 use borrow.Author.Needs.{needs}
 use lib.ListN.{length}
+use Rattle.base.specs.Limits.{weightLimit, hitLimit, workWords}
 use Rattle.mapper.specs.declared.update.Terms.{Terms}
 use Rattle.mapper.specs.Walking.{Walk, termsIn, walkOn}
 use Rattle.mapper.proofs.Walking.{small-terms, Stops, update-stops, walk-finished, walk-spent, walk-found, walk-part, walk-next}
@@ -13,9 +14,9 @@ use Rattle.mapper.proofs.walk.walk.Tie as tie
 
 abbrev Inv-loop : tie.InvT-loop
 Inv-loop work₀ budget terms columns₀ row₀ m₀ left₀ work columns row m left =
-    (16384 ≤ length work)
+    (workWords ≤ length work)
     × (length work ≡ length work₀)
-    × (columns ≤ 2048)
+    × (columns ≤ hitLimit)
     × (row ≤ columns)
     × (left ≤ budget)
     × (walkOn terms budget columns row m left work ≡ walkOn terms budget columns₀ row₀ m₀ left₀ work₀)
@@ -35,7 +36,7 @@ module _ (t : tie.At-loop Inv-loop μ-loop) where
   abbrev terms : Terms
   terms = t .before .terms-of .result
 
-  small : (terms .u ≤ 1000) × (terms .v ≤ 1000)
+  small : (terms .u ≤ weightLimit) × (terms .v ≤ weightLimit)
   small = small-terms (entry .args .work .now) terms (t .before .terms-of .ensures) (entry .pre .1)
 
   -- what is left of the walk comes to the whole of it

@@ -4,6 +4,7 @@ use native.Mathlib.Omega.{arith}
 use mathlib.Core.Path.{_≡_, sym, ap, _∙_}
 use borrow.Author.Needs.{needs}
 use lib.ListN.{length}
+use Rattle.base.specs.Limits.{workWords}
 use Rattle.mapper.specs.declared.update.Terms.{Terms}
 use Rattle.mapper.specs.Walking.{Walk, termsIn, walkOn}
 use Rattle.mapper.proofs.Walking.{small-terms, Stops, one-stops, one-found, one-spent}
@@ -36,7 +37,7 @@ module _ (d : tie.After-slice-known2) where
       one-stops (read .terms-of .result) _ _ _ (entry .args .work .now) _ _ (entry .pre .0 .2) (updated .update-one .ensures .0)
       (updated .update-one .ensures .1)
 
-  long : 16384 ≤ length (updated .update-one .last .0)
+  long : workWords ≤ length (updated .update-one .last .0)
   long = let n = updated .update-one .kept .0 in omega (arith, entry .pre .0 .0)
 
   -- a walk by the terms that were read is the one by the words'

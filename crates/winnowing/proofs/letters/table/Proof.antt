@@ -1,5 +1,4 @@
 -- `letters::table` meets its contract. The loop's invariant: each byte passed has its value in the table.
--- Assumes nothing.
 use borrow.Author.Needs.{needs}
 use Prim.Native.Nat.{ℕ, _-_, _≤_, _<_}
 use native.Mathlib.Nat.{ne-of-lt, not-suc-le-zero}
@@ -8,7 +7,7 @@ use mathlib.Core.Path.{_≡_, refl, _∙_}
 use lib.ListN.{length, getD, set, length-set}
 use lib.Seq.{getD-set-same, getD-set-other}
 use borrow.Author.Count.{below-more}
-use Rattle.minimizers.specs.Letters.{value}
+use Rattle.kmers.specs.Letters.{value}
 use Rattle.winnowing.proofs.letters.table.Statement.{statement}
 use Rattle.winnowing.proofs.letters.table.Tie as tie
 

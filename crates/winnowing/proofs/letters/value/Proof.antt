@@ -1,8 +1,7 @@
 -- `letters::value` meets its contract: each arm names the byte, and the last one that it is none of the eight.
--- Assumes nothing.
 use mathlib.Core.Logic.{⊎-elim, inl, inr}
 use borrow.Author.Tests.{ne-eqb}
-use Rattle.minimizers.specs.Letters.{value}
+use Rattle.kmers.specs.Letters.{value}
 use Rattle.winnowing.proofs.letters.value.Statement.{statement}
 use Rattle.winnowing.proofs.letters.value.Tie as tie
 

@@ -1,10 +1,9 @@
 -- `letters::value_at` meets its contract: a byte is below 256, and what stands past the end counts as byte 0, which is none of the eight.
--- Assumes nothing.
 use borrow.Author.Needs.{needs}
 use native.Mathlib.Omega.{arith}
 use mathlib.Core.Path.{sym, ap}
 use lib.ListN.{getD, List·getD-eq-default}
-use Rattle.minimizers.specs.Letters.{value}
+use Rattle.kmers.specs.Letters.{value}
 use Rattle.winnowing.proofs.letters.value_at.Statement.{statement}
 use Rattle.winnowing.proofs.letters.value_at.Tie as tie
 

@@ -1,25 +1,29 @@
 -- `windows::first_letters` meets its contract. The loop's invariant: the code of the letters read, all of the run.
--- Assumes nothing.
 use borrow.Author.Needs.{needs}
 use Prim.Native.Nat.{ℕ, _+_, _-_, _^_, _≤_, _<_}
 use native.Mathlib.Nat.{le-refl}
 use native.Mathlib.Omega.{arith}
 use mathlib.Core.Path.{_≡_, sym, ap, _∙_, subst}
 use lib.ListN.{getD}
-use Rattle.minimizers.specs.Limits.{kLimit}
-use Rattle.minimizers.specs.Letters.{value, foreign}
-use Rattle.minimizers.specs.Kmers.{codeOf}
-use Rattle.minimizers.specs.Places.{codeAt, runEnd}
+use Rattle.base.specs.Limits.{kLimit}
+use Rattle.kmers.specs.Letters.{value, foreign}
+use Rattle.kmers.specs.Kmers.{codeOf}
+use Rattle.kmers.specs.Places.{codeAt, runEnd}
 use Rattle.minimizers.proofs.Runs.{runEnd-within}
 use Rattle.winnowing.proofs.Steps.{end-here, end-later, digit-below, code-small, code-longer}
 use Rattle.winnowing.proofs.windows.first_letters.Statement.{statement}
 use Rattle.winnowing.proofs.windows.first_letters.Tie as tie
 
 abbrev Inv-loop : tie.InvT-loop
-Inv-loop letters values from last to at₀ code₀ at code = (from ≤ at) × (at ≤ from + last) × (at ≤ runEnd letters from) × (code ≡ codeAt (at - from) letters from)
+Inv-loop letters values from last to at₀ code₀ at code = (from ≤ at) × (at ≤ from + last) × (at ≤ runEnd letters from)
+    × (code ≡ codeAt (at - from) letters from)
 
 abbrev μ-loop : tie.MeasureT-loop
 μ-loop letters values from last to at₀ code₀ at code = from + last - at
+
+-- places, each named for where it leads and from where
+abbrev entry-turn : tie.At-loop Inv-loop μ-loop → tie.Start Inv-loop μ-loop
+entry-turn c = c .before .before .before
 
 add-to : tie.Need-add-to Inv-loop μ-loop
 add-to c = search needs
@@ -29,38 +33,45 @@ unfolding codeAt codeOf
 loop-holds c =
     let args = c .before .before .args in
     let letters = args .letters .now in
-    let none : args .from - args .from ≡ 0 = omega arith in
-    (omega arith, omega arith, runEnd-within letters (args .from) (c .before .before .pre .in-letters) .0, sym (ap (λ (n : ℕ). codeAt n letters (args .from)) none))
+    let none : args .from - args .from ≡ 0 = omega arith in (
+      omega arith,
+      omega arith,
+      runEnd-within letters (args .from) (c .before .before .pre .in-letters) .0,
+      sym (ap (λ (n : ℕ). codeAt n letters (args .from)) none),
+    )
 
 value-at-requires : tie.Need-value-at-requires Inv-loop μ-loop
-value-at-requires c κs = c .before .before .before .before .pre .table
+value-at-requires c κs = entry-turn (c .before) .pre .table
 
 returns : tie.Need-returns Inv-loop μ-loop
 returns c =
-    let start = c .before .before .before .before .before .before in
+    let start = entry-turn (c .before .before .before) in
     let at = c .before .before .before .loop in
     record {
       start = at .inv .0;
       most = at .inv .1;
       within = at .inv .2;
-      ended = λ h. end-here (start .args .letters .now) (start .args .from) (at .at) (at .inv .0) (at .inv .2) (sym (c .before .value-at .ensures) ∙ c .if1 .taken);
+      ended = λ h. end-here (start .args .letters .now) (start .args .from) (at .at) (at .inv .0) (at .inv .2)
+          (sym (c .before .value-at .ensures) ∙ c .if1 .taken);
       code-there = at .inv .3;
     }
 
 -- past the test the run goes on, and the letter is a digit
 goes-on : (c : tie.Else1 Inv-loop μ-loop)
-    → (c .before .before .before .loop .at < runEnd (c .before .before .before .before .before .before .args .letters .now) (c .before .before .before .before .before .before .args .from))
+    → (c .before .before .before .loop .at < runEnd (entry-turn (c .before .before .before) .args .letters .now)
+    (entry-turn (c .before .before .before) .args .from))
     × (c .before .value-at .result < 4)
     × (c .before .before .before .loop .code < 4 ^ kLimit)
 goes-on c =
-    let start = c .before .before .before .before .before .before in
+    let start = entry-turn (c .before .before .before) in
     let letters = start .args .letters .now in
     let from = start .args .from in
     let at = c .before .before .before .loop in
     let digit : value (getD letters (at .at) 0) ≡ foreign → ⊥ = λ h. c .if1 .left (c .before .value-at .ensures ∙ h) in (
       end-later letters from (at .at) (at .inv .0) (at .inv .2) digit,
       subst (λ (x : ℕ). x < 4) (sym (c .before .value-at .ensures)) (digit-below letters from (at .at) (at .inv .0) (at .inv .2) digit),
-      subst (λ (x : ℕ). x < 4 ^ kLimit) (sym (at .inv .3)) (code-small letters from (start .pre .in-letters) from (at .at - from) (le-refl from) (omega arith) (omega arith)),
+      subst (λ (x : ℕ). x < 4 ^ kLimit) (sym (at .inv .3))
+          (code-small letters from (start .pre .in-letters) from (at .at - from) (le-refl from) (omega arith) (omega arith)),
     )
 
 mul-code : tie.Need-mul-code Inv-loop μ-loop
@@ -80,7 +91,7 @@ loop-less c = search needs
 
 loop-again : tie.Need-loop-again Inv-loop μ-loop
 loop-again c =
-    let start = c .before .before .before .before .before .before in
+    let start = entry-turn (c .before .before .before) in
     let letters = start .args .letters .now in
     let from = start .args .from in
     let at = c .before .before .before .loop in

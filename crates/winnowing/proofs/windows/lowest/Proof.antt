@@ -1,5 +1,4 @@
 -- `windows::lowest` meets its contract. The loop's invariant: the lowest of the positions passed, and its rank.
--- Assumes nothing.
 use borrow.Author.Needs.{needs}
 use Prim.Native.Nat.{ℕ, _-_, _≤_}
 use native.Mathlib.Nat.{le-antisymm}
@@ -17,6 +16,10 @@ Inv-loop ring from to low-at₀ low₀ q₀ low-at low q = (q ≤ to) × IsLowes
 
 abbrev μ-loop : tie.MeasureT-loop
 μ-loop ring from to low-at₀ low₀ q₀ low-at low q = to - q
+
+-- places, each named for where it leads and from where
+abbrev entry-turn : tie.At-loop Inv-loop μ-loop → tie.Start Inv-loop μ-loop
+entry-turn c = c .before .before
 
 mul-low : tie.Need-mul-low Inv-loop μ-loop
 mul-low c = search needs
@@ -44,18 +47,24 @@ loop-less c = search needs
 
 loop-again : tie.Need-loop-again Inv-loop μ-loop
 loop-again c =
-    let args = c .before .before .before .before .before .args in
-    let at = c .before .before .before .loop in
-    (omega arith, rw add-one (lowest-new (ringAt (args .ring .now)) (args .from) (at .q) (at .low-at) (at .inv .1) (omega (arith, at .inv .2, c .if1 .taken))), refl)
+    let args = entry-turn (c .before .before .before) .args in
+    let at = c .before .before .before .loop in (
+      omega arith,
+      rw add-one (lowest-new (ringAt (args .ring .now)) (args .from) (at .q) (at .low-at) (at .inv .1) (omega (arith, at .inv .2, c .if1 .taken))),
+      refl,
+    )
 
 loop-less-2 : tie.Need-loop-less-2 Inv-loop μ-loop
 loop-less-2 c = search needs
 
 loop-again-2 : tie.Need-loop-again-2 Inv-loop μ-loop
 loop-again-2 c =
-    let args = c .before .before .before .before .before .args in
-    let at = c .before .before .before .loop in
-    (omega arith, rw add-one (lowest-kept (ringAt (args .ring .now)) (args .from) (at .q) (at .low-at) (at .inv .1) (omega (arith, at .inv .2, c .if1 .left))), at .inv .2)
+    let args = entry-turn (c .before .before .before) .args in
+    let at = c .before .before .before .loop in (
+      omega arith,
+      rw add-one (lowest-kept (ringAt (args .ring .now)) (args .from) (at .q) (at .low-at) (at .inv .1) (omega (arith, at .inv .2, c .if1 .left))),
+      at .inv .2,
+    )
 
 returns : tie.Need-returns Inv-loop μ-loop
 returns c =

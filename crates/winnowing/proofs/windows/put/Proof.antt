@@ -1,5 +1,4 @@
 -- `windows::put` meets its contract, with room and without.
--- Assumes nothing.
 use borrow.Author.Needs.{needs}
 use native.Mathlib.Numerals.{add-one}
 use mathlib.Core.Path.{_≡_}

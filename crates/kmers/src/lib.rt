@@ -1,0 +1,1 @@
+// Letters, their runs, k-mers and ranks: definitions and laws, and no code.

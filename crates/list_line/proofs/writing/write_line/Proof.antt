@@ -1,0 +1,219 @@
+-- `writing::write_line` meets its contract: the ten pieces written one after the other are the line, which fits 64 bytes.
+use Prim.Native.Nat.{ℕ, _≤_}
+use native.Mathlib.Omega.{arith}
+use mathlib.Core.Path.{_≡_, refl, sym, ap}
+use mathlib.Core.List.{List, [], _∷_}
+use lib.ListN.{length, replicate, length-append}
+use lib.Seq.{length-take-le}
+use lib.IntN.{ℤ}
+use mir.Facts.{toZ-ofZ}
+use Rattle.base.specs.Bytes.{space, lineFeed}
+use Rattle.list_line.specs.Line.{decimal, signed, line}
+use Rattle.list_line.specs.Writing.{Written}
+use Rattle.list_line.proofs.Buffers.{joined, joined-by, same-bytes, start-index, start-part, start-length, from-start}
+use Rattle.list_line.proofs.Decimal.{length-decimal, length-signed, length-line}
+use borrow.Author.Needs.{needs}
+use Rattle.list_line.proofs.writing.write_line.Statement.{statement}
+use Rattle.list_line.proofs.writing.write_line.Tie as tie
+
+-- places, each named for where it leads and from where
+abbrev put-byte5-text20 : tie.After-text20 → tie.After-put-byte5
+put-byte5-text20 c = c .before
+
+module _ (first last : ℕ) (score : ℤ) (m perMille : ℕ) {t0 t1 t2 t3 t4 t5 t6 t7 t8 t9 t10 : List ℕ} {n1 n2 n3 n4 n5 n6 n7 n8 n9 n10 : ℕ}
+    (room : length t0 ≡ 64) where
+  pieces : Written (decimal first) 0 t0 t1 n1 → Written (space ∷ []) n1 t1 t2 n2
+      → Written (decimal last) n2 t2 t3 n3 → Written (space ∷ []) n3 t3 t4 n4
+      → Written (signed score) n4 t4 t5 n5 → Written (space ∷ []) n5 t5 t6 n6
+      → Written (decimal m) n6 t6 t7 n7 → Written (space ∷ []) n7 t7 t8 n8
+      → Written (decimal perMille) n8 t8 t9 n9 → Written (lineFeed ∷ []) n9 t9 t10 n10
+      → Written (line first last score m perMille) 0 t0 t10 n10
+  unfolding line
+  pieces w1 w2 w3 w4 w5 w6 w7 w8 w9 w10 =
+      let a : length (decimal first) ≤ 10 = length-decimal first in
+      let b : length (decimal last) ≤ 10 = length-decimal last in
+      let c : length (signed score) ≤ 11 = length-signed score in
+      let d : length (decimal m) ≤ 10 = length-decimal m in
+      let e : length (decimal perMille) ≤ 10 = length-decimal perMille in
+      let x3 = joined-by w1 w2 w3 (omega arith) in
+      let x5 = joined-by x3 w4 w5 (simp length-append (omega arith)) in
+      let x7 = joined-by x5 w6 w7 (simp length-append (omega arith)) in
+      let x9 = joined-by x7 w8 w9 (simp length-append (omega arith)) in
+      joined x9 w10 (simp length-append (omega arith))
+
+-- the calls, from the last to the first
+module _ (c : tie.After-put-byte5) where
+  abbrev c9 : tie.After-put-decimal4
+  c9 = c .before .before .before
+
+  abbrev c8 : tie.After-put-byte4
+  c8 = c9 .before .before .before
+
+  abbrev c7 : tie.After-put-decimal3
+  c7 = c8 .before .before .before
+
+  abbrev c6 : tie.After-put-byte3
+  c6 = c7 .before .before .before
+
+  abbrev c5 : tie.After-put-signed
+  c5 = c6 .before .before .before
+
+  abbrev c4 : tie.After-put-byte2
+  c4 = c5 .before .before .before
+
+  abbrev c3 : tie.After-put-decimal2
+  c3 = c4 .before .before .before
+
+  abbrev c2 : tie.After-put-byte
+  c2 = c3 .before .before .before
+
+  abbrev c1 : tie.After-put-decimal
+  c1 = c2 .before .before .before
+
+  abbrev entry : tie.Start
+  entry = c1 .before .before .before
+
+  abbrev printed : List ℕ
+  printed = let args = entry .args in line (args .first) (args .last) (args .score) (args .m) (args .per-mille)
+
+  -- the line in the local bytes
+  text-is : Written printed 0 (replicate 64 0) (c .put-byte5 .last .0) (c .put-byte5 .result)
+  text-is =
+      let args = entry .args in
+      pieces
+      (args .first)
+      (args .last)
+      (args .score)
+      (args .m)
+      (args .per-mille)
+      refl
+      (c1 .put-decimal .ensures)
+      (c2 .put-byte .ensures)
+      (c3 .put-decimal2 .ensures)
+      (c4 .put-byte2 .ensures)
+      (same-bytes (ap signed (toZ-ofZ (entry .fits .score))) (c5 .put-signed .ensures))
+      (c6 .put-byte3 .ensures)
+      (c7 .put-decimal3 .ensures)
+      (c8 .put-byte4 .ensures)
+      (c9 .put-decimal4 .ensures)
+      (c .put-byte5 .ensures)
+
+  short : length printed ≤ 64
+  short = let args = entry .args in let h : length printed ≤ 56 =
+      length-line (args .first) (args .last) (args .score) (args .m) (args .per-mille) in omega arith
+
+  inside : c .put-byte5 .result ≤ length (c .put-byte5 .last .0)
+  inside =
+      let e : c .put-byte5 .result ≡ length printed = start-index text-is short in
+      let l : length (c .put-byte5 .last .0) ≡ 64 = start-length text-is short in
+      let h : length printed ≤ 64 = short in
+      omega arith
+
+slice-aggregate-put-decimal : tie.Need-slice-aggregate-put-decimal
+slice-aggregate-put-decimal c = search needs
+
+put-decimal-requires : tie.Need-put-decimal-requires
+put-decimal-requires c κs = search needs
+
+slice-aggregate-put-byte : tie.Need-slice-aggregate-put-byte
+slice-aggregate-put-byte c = search needs
+
+put-byte-requires : tie.Need-put-byte-requires
+put-byte-requires c κs = search needs
+
+slice-aggregate-put-decimal-2 : tie.Need-slice-aggregate-put-decimal-2
+slice-aggregate-put-decimal-2 c = search needs
+
+put-decimal-requires-2 : tie.Need-put-decimal-requires-2
+put-decimal-requires-2 c κs = search needs
+
+slice-aggregate-put-byte-2 : tie.Need-slice-aggregate-put-byte-2
+slice-aggregate-put-byte-2 c = search needs
+
+put-byte-requires-2 : tie.Need-put-byte-requires-2
+put-byte-requires-2 c κs = search needs
+
+slice-aggregate-put-signed : tie.Need-slice-aggregate-put-signed
+slice-aggregate-put-signed c = search needs
+
+put-signed-requires : tie.Need-put-signed-requires
+put-signed-requires c κs = search needs
+
+slice-aggregate-put-byte-3 : tie.Need-slice-aggregate-put-byte-3
+slice-aggregate-put-byte-3 c = search needs
+
+put-byte-requires-3 : tie.Need-put-byte-requires-3
+put-byte-requires-3 c κs = search needs
+
+slice-aggregate-put-decimal-3 : tie.Need-slice-aggregate-put-decimal-3
+slice-aggregate-put-decimal-3 c = search needs
+
+put-decimal-requires-3 : tie.Need-put-decimal-requires-3
+put-decimal-requires-3 c κs = search needs
+
+slice-aggregate-put-byte-4 : tie.Need-slice-aggregate-put-byte-4
+slice-aggregate-put-byte-4 c = search needs
+
+put-byte-requires-4 : tie.Need-put-byte-requires-4
+put-byte-requires-4 c κs = search needs
+
+slice-aggregate-put-decimal-4 : tie.Need-slice-aggregate-put-decimal-4
+slice-aggregate-put-decimal-4 c = search needs
+
+put-decimal-requires-4 : tie.Need-put-decimal-requires-4
+put-decimal-requires-4 c κs = search needs
+
+slice-aggregate-put-byte-5 : tie.Need-slice-aggregate-put-byte-5
+slice-aggregate-put-byte-5 c = search needs
+
+put-byte-requires-5 : tie.Need-put-byte-requires-5
+put-byte-requires-5 c κs = search needs
+
+array-share-prefix-text : tie.Need-array-share-prefix-text
+array-share-prefix-text c = inside (c .before .before)
+
+slice-aggregate-put-bytes : tie.Need-slice-aggregate-put-bytes
+slice-aggregate-put-bytes c = let at-line =
+    c .before .before .before in sym (length-take-le (at-line .put-byte5 .result) (at-line .put-byte5 .last .0) (inside at-line))
+
+put-bytes-requires : tie.Need-put-bytes-requires
+put-bytes-requires c κs = search needs
+
+same-length : tie.Need-same-length
+same-length c = search needs
+
+returns : tie.Need-returns
+returns c =
+    let wrote = c .before .before in
+    let at-line = put-byte5-text20 (wrote .before .before .before) in
+    from-start (same-bytes (start-part (text-is at-line) (short at-line)) (wrote .put-bytes .ensures))
+
+pub write-line-spec : {M : Type 1} → statement M
+write-line-spec =
+    tie.close
+    (tie.spec
+    slice-aggregate-put-decimal
+    put-decimal-requires
+    slice-aggregate-put-byte
+    put-byte-requires
+    slice-aggregate-put-decimal-2
+    put-decimal-requires-2
+    slice-aggregate-put-byte-2
+    put-byte-requires-2
+    slice-aggregate-put-signed
+    put-signed-requires
+    slice-aggregate-put-byte-3
+    put-byte-requires-3
+    slice-aggregate-put-decimal-3
+    put-decimal-requires-3
+    slice-aggregate-put-byte-4
+    put-byte-requires-4
+    slice-aggregate-put-decimal-4
+    put-decimal-requires-4
+    slice-aggregate-put-byte-5
+    put-byte-requires-5
+    array-share-prefix-text
+    slice-aggregate-put-bytes
+    put-bytes-requires
+    same-length
+    returns)

@@ -1,0 +1,38 @@
+-- The printed line: five numbers in decimal; the part of the buffer that the line writer returns, and the buffer afterwards.
+use Prim.Native.Nat.{ℕ, zero, suc, _+_, _/_, _%_}
+use mathlib.Core.Path.{_≡_}
+use mathlib.Core.Bool.{cond}
+use mathlib.Core.List.{List, [], _∷_, _++_}
+use lib.Dec.{leb, ltb}
+use lib.ListN.{length}
+use lib.IntN.{ℤ, pos, negsuc}
+use Rattle.base.specs.Replies.{over}
+use Rattle.base.specs.Bytes.{space, lineFeed, minus, digit}
+
+-- the decimal digits of n, at most this many, in front of the bytes that follow: highest first, without leading zeros
+abbrev pub digitsBefore : ℕ → ℕ → List ℕ → List ℕ
+digitsBefore zero n rest = rest
+digitsBefore (suc places) n rest = cond (ltb n 10) (digit n ∷ rest) (digitsBefore places (n / 10) (digit (n % 10) ∷ rest))
+
+-- a number of 32 bits in decimal without leading zeros: at most ten digits
+unfoldable pub decimal : ℕ → List ℕ
+decimal n = digitsBefore 10 n []
+
+-- a signed number, with a minus sign when negative
+unfoldable pub signed : ℤ → List ℕ
+signed (pos n) = decimal n
+signed (negsuc n) = minus ∷ decimal (suc n)
+
+-- first letter, last letter, score, m, per mille, one space between them and a line feed after
+unfoldable pub line : ℕ → ℕ → ℤ → ℕ → ℕ → List ℕ
+line first last score m perMille =
+    decimal first ++ space ∷ decimal last ++ space ∷ signed score ++ space ∷ decimal m ++ space ∷ decimal perMille ++ lineFeed ∷ []
+
+-- the part of the caller's buffer that is written, given the buffer's length: the empty part where these bytes are longer
+unfoldable pub fitting : ℕ → List ℕ → List ℕ
+fitting room bytes = cond (leb (length bytes) room) bytes []
+
+-- the buffer before and after, and how many bytes were written from its start: all others keep their content
+pub record LineWritten (bytes before after : List ℕ) (count : ℕ) : Type 0 where
+  pub number : count ≡ length (fitting (length before) bytes)
+  pub buffer : after ≡ over (fitting (length before) bytes) before

@@ -1,0 +1,32 @@
+-- What a refused call leaves, and the front of a buffer that an accepted one wrote.
+use Prim.Native.Nat.{ℕ}
+use mathlib.Core.Path.{_≡_, refl, sym}
+use mathlib.Core.Logic.{_≢_}
+use mathlib.Core.List.{List}
+use lib.ListN.{length, take, drop}
+use lib.Seq.{take-at}
+use Rattle.base.specs.Replies.{Reply, accepted, refused, over, after}
+use Rattle.answers.specs.Numbers.{numberOf}
+use Rattle.list_open.specs.Calls.{andThen}
+use Rattle.list_open.specs.Opening.{openedBy, whereAccepted}
+use Rattle.list_open.specs.declared.calls.Opened.the-variants.{Refused}
+
+pub refused-opened : (reply next : Reply) (k size : ℕ) → numberOf reply ≢ 0 → Refused (numberOf reply) ≡ openedBy (andThen reply next) k size
+refused-opened (accepted values) next k size h = absurd (h refl)
+refused-opened (refused number values) next k size h = refl
+
+pub refused-only : (reply : Reply) (k size : ℕ) → numberOf reply ≢ 0 → Refused (numberOf reply) ≡ openedBy reply k size
+refused-only (accepted values) k size h = absurd (h refl)
+refused-only (refused number values) k size h = refl
+
+pub refused-after : (reply : Reply) (new old : List ℕ) → numberOf reply ≢ 0 → old ≡ after reply new old
+refused-after (accepted values) new old h = absurd (h refl)
+refused-after (refused number values) new old h = refl
+
+pub refused-where : (reply : Reply) (new old : List ℕ) → numberOf reply ≢ 0 → old ≡ whereAccepted reply new old
+refused-where (accepted values) new old h = absurd (h refl)
+refused-where (refused number values) new old h = refl
+
+-- the words written stand in front
+pub front-over : (new old : List ℕ) (n : ℕ) → n ≡ length new → take n (over new old) ≡ new
+front-over new old n e = take-at new (drop (length new) old) n (sym e)

@@ -1,0 +1,325 @@
+-- `calls::open_lines` meets its contract: the two sketches, and then what is made of them.
+use Prim.Native.Nat.{ℕ, _≤_}
+use native.Mathlib.Omega.{arith}
+use mathlib.Core.Path.{_≡_, sym}
+use mathlib.Core.List.{List}
+use lib.ListN.{length, take}
+use lib.Seq.{length-take-le}
+use Rattle.requests.specs.declared.Settings.{Settings}
+use Rattle.list_open.specs.Opening.{OpensSketches}
+use Rattle.list_open.proofs.Letters.{sketch-number, sketch-accepts, sketch-inside, codes-front, positions-front, text-refused, read-refused}
+use Rattle.list_open.proofs.Letters.{opens-fronts}
+use borrow.Author.Needs.{needs}
+use Rattle.list_open.proofs.calls.open_lines.Statement.{statement}
+use Rattle.list_open.proofs.calls.open_lines.Tie as tie
+
+-- the places that the proofs below speak of, each from a later one
+abbrev at-zeros-40962 : tie.After-sketch → tie.After-zeros-40962
+at-zeros-40962 c = c .before .before .before
+
+abbrev at-zeros-4096 : tie.After-sketch → tie.After-zeros-4096
+at-zeros-4096 c = at-zeros-40962 c .before
+
+abbrev at-shared-slice-known2 : tie.After-sketch → tie.After-shared-slice-known2
+at-shared-slice-known2 c = at-zeros-4096 c .before .before .before
+
+abbrev entry : tie.After-sketch → tie.Start
+entry c = at-shared-slice-known2 c .before .before
+
+abbrev at-zeros-40964 : tie.After-sketch2 → tie.After-zeros-40964
+at-zeros-40964 c = c .before .before .before
+
+abbrev at-zeros-40963 : tie.After-sketch2 → tie.After-zeros-40963
+at-zeros-40963 c = at-zeros-40964 c .before
+
+abbrev else1 : tie.After-sketch2 → tie.Else1
+else1 c = at-zeros-40963 c .before
+
+abbrev at-of-sketch : tie.After-sketch2 → tie.After-of-sketch
+at-of-sketch c = else1 c .before .before
+
+abbrev else2 : tie.After-places3 → tie.Else2
+else2 c = c .before .before
+
+abbrev at-of-sketch2 : tie.After-places3 → tie.After-of-sketch2
+at-of-sketch2 c = else2 c .before .before
+
+abbrev at-pattern3 : tie.After-open-sketches → tie.After-pattern3
+at-pattern3 c = c .before .before .before
+
+abbrev at-places3 : tie.After-open-sketches → tie.After-places3
+at-places3 c = at-pattern3 c .before
+
+abbrev at-positions : tie.After-slice-known4 → tie.After-positions
+at-positions c = c .before .before .before
+
+abbrev at-open-sketches : tie.After-slice-known4 → tie.After-open-sketches
+at-open-sketches c = at-positions c .before
+
+-- the text's sketch in its buffers, and its answer as numbers
+module _ (c : tie.After-of-sketch) where
+  abbrev at-text : tie.After-sketch
+  at-text = c .before .before .before
+
+  abbrev at-start : tie.Start
+  at-start = entry at-text
+
+  abbrev given-settings : Settings
+  given-settings = at-start .args .settings
+
+  abbrev text-codes : List ℕ
+  text-codes = at-text .sketch .last .1 .1 .1 .0
+
+  abbrev text-places : List ℕ
+  text-places = at-text .sketch .last .1 .1 .1 .1 .0
+
+  abbrev text-room : List ℕ
+  text-room = at-zeros-4096 at-text .zeros-4096 .result
+
+  abbrev text-room′ : List ℕ
+  text-room′ = at-text .before .before .before .zeros-40962 .result
+
+  text-long : length text-room ≡ 4096
+  text-long = sym (at-zeros-4096 at-text .zeros-4096 .ensures .0)
+
+  text-long′ : length text-room′ ≡ 4096
+  text-long′ = sym (at-text .before .before .before .zeros-40962 .ensures .0)
+
+  abbrev n : ℕ
+  n = c .of-sketch .result .0
+
+  abbrev m : ℕ
+  m = c .of-sketch .result .1
+
+  module _ (zero : n ≡ 0) where
+    text-few : m ≤ 4096
+    text-few =
+        sketch-inside (at-start .args .settings .k) (at-start .args .settings .w) (at-start .args .text .now) text-room text-room′ text-codes text-places
+        (at-text .sketch .result) (at-text .sketch .ensures) text-long text-long′ n m (c .of-sketch .ensures .0) (c .of-sketch .ensures .1) zero
+
+    codes-hold : m ≤ length text-codes
+    codes-hold = let l : length text-codes ≡ length text-room = at-text .sketch .kept .1 .1 .1 .0 in omega (arith, text-few, text-long)
+
+    places-hold : m ≤ length text-places
+    places-hold = let l : length text-places ≡ length text-room′ = at-text .sketch .kept .1 .1 .1 .1 .0 in omega (arith, text-few, text-long′)
+
+-- the read's sketch
+module _ (c : tie.After-of-sketch2) where
+  abbrev text-call : tie.After-of-sketch
+  text-call = at-of-sketch (c .before .before .before)
+
+  abbrev at-read : tie.After-sketch2
+  at-read = c .before .before .before
+
+  abbrev read-codes : List ℕ
+  read-codes = at-read .sketch2 .last .1 .1 .1 .0
+
+  abbrev read-room : List ℕ
+  read-room = at-zeros-40963 at-read .zeros-40963 .result
+
+  abbrev read-room′ : List ℕ
+  read-room′ = at-read .before .before .before .zeros-40964 .result
+
+  read-long : length read-room ≡ 4096
+  read-long = sym (at-zeros-40963 at-read .zeros-40963 .ensures .0)
+
+  read-long′ : length read-room′ ≡ 4096
+  read-long′ = sym (at-read .before .before .before .zeros-40964 .ensures .0)
+
+  text-zero : n text-call ≡ 0
+  text-zero = else1 at-read .if1 .left
+
+  abbrev n′ : ℕ
+  n′ = c .of-sketch2 .result .0
+
+  abbrev m′ : ℕ
+  m′ = c .of-sketch2 .result .1
+
+  module _ (zero : n′ ≡ 0) where
+    read-hold : m′ ≤ length read-codes
+    read-hold =
+        let args = at-start text-call .args in
+        let few : m′ ≤ 4096 =
+        sketch-inside (args .settings .k) (args .settings .w) (args .read .now) read-room read-room′ read-codes (at-read .sketch2 .last .1 .1 .1 .1 .0)
+        (at-read .sketch2 .result) (at-read .sketch2 .ensures) read-long read-long′ n′ m′ (c .of-sketch2 .ensures .0) (c .of-sketch2 .ensures .1) zero
+        in
+        let l : length read-codes ≡ length read-room = at-read .sketch2 .kept .1 .1 .1 .0 in
+        omega (arith, read-long)
+
+-- src/calls.rt:80:21
+zeros-4096-requires : tie.Need-zeros-4096-requires
+zeros-4096-requires c κs = search needs
+
+-- src/calls.rt:81:22
+zeros-4096-requires-2 : tie.Need-zeros-4096-requires-2
+zeros-4096-requires-2 c κs = search needs
+
+-- src/calls.rt:82:58
+slice-aggregate-sketch : tie.Need-slice-aggregate-sketch
+slice-aggregate-sketch c = search needs
+
+-- src/calls.rt:82:70
+slice-aggregate-sketch-2 : tie.Need-slice-aggregate-sketch-2
+slice-aggregate-sketch-2 c = search needs
+
+-- src/calls.rt:82:31
+sketch-requires : tie.Need-sketch-requires
+sketch-requires c κs = search needs
+
+-- src/calls.rt:82:9
+of-sketch-requires : tie.Need-of-sketch-requires
+of-sketch-requires c κs = search needs
+
+-- src/calls.rt:84:9
+returns : tie.Need-returns
+returns c =
+    let call = c .before .before in
+    let args = at-start call .args in
+    text-refused (given-settings call) (args .text .now) (args .read .now) (args .positions .now) (args .work .now) (n call)
+    (sketch-number (args .settings .k) (args .settings .w) (args .text .now) (text-room call) (text-room′ call) (text-codes call) (text-places call)
+    (at-text call .sketch .result) (at-text call .sketch .ensures) (text-long call) (text-long′ call) (n call) (m call) (call .of-sketch .ensures .0)
+    (call .of-sketch .ensures .1)) (c .if1 .taken)
+
+-- src/calls.rt:86:23
+zeros-4096-requires-3 : tie.Need-zeros-4096-requires-3
+zeros-4096-requires-3 c κs = search needs
+
+-- src/calls.rt:87:22
+zeros-4096-requires-4 : tie.Need-zeros-4096-requires-4
+zeros-4096-requires-4 c κs = search needs
+
+-- src/calls.rt:88:58
+slice-aggregate-sketch-3 : tie.Need-slice-aggregate-sketch-3
+slice-aggregate-sketch-3 c = search needs
+
+-- src/calls.rt:88:72
+slice-aggregate-sketch-4 : tie.Need-slice-aggregate-sketch-4
+slice-aggregate-sketch-4 c = search needs
+
+-- src/calls.rt:88:31
+sketch-requires-2 : tie.Need-sketch-requires-2
+sketch-requires-2 c κs = search needs
+
+-- src/calls.rt:88:9
+of-sketch-requires-2 : tie.Need-of-sketch-requires-2
+of-sketch-requires-2 c κs = search needs
+
+-- src/calls.rt:90:9
+returns-2 : tie.Need-returns-2
+returns-2 c =
+    let c2 = c .before .before in
+    let call = text-call c2 in
+    let args = at-start call .args in
+    let t =
+    sketch-accepts (args .settings .k) (args .settings .w) (args .text .now) (text-room call) (text-room′ call) (text-codes call) (text-places call)
+    (at-text call .sketch .result) (at-text call .sketch .ensures) (text-long call) (text-long′ call) (n call) (m call) (call .of-sketch .ensures .0)
+    (call .of-sketch .ensures .1) (text-zero c2) in
+    read-refused (given-settings call) (args .text .now) (args .read .now) (args .positions .now) (args .work .now) (m call) t (n′ c2)
+    (sketch-number (args .settings .k) (args .settings .w) (args .read .now) (read-room c2) (read-room′ c2) (read-codes c2)
+    (at-read c2 .sketch2 .last .1 .1 .1 .1 .0)
+    (at-read c2 .sketch2 .result) (at-read c2 .sketch2 .ensures) (read-long c2) (read-long′ c2) (n′ c2) (m′ c2) (c2 .of-sketch2 .ensures .0)
+    (c2 .of-sketch2 .ensures .1)) (c .if2 .taken)
+
+-- src/calls.rt:93:9
+array-share-prefix-codes : tie.Need-array-share-prefix-codes
+array-share-prefix-codes c = let c2 = c .before .before in codes-hold (text-call c2) (text-zero c2)
+
+-- src/calls.rt:93:9
+slice-aggregate-open-sketches : tie.Need-slice-aggregate-open-sketches
+slice-aggregate-open-sketches c =
+    let c2 = c .before .before .before in let call = text-call c2 in sym (length-take-le (m call) (text-codes call) (codes-hold call (text-zero c2)))
+
+-- src/calls.rt:94:9
+array-share-prefix-places : tie.Need-array-share-prefix-places
+array-share-prefix-places c = let c2 = c .before .before .before in places-hold (text-call c2) (text-zero c2)
+
+-- src/calls.rt:94:9
+slice-aggregate-open-sketches-2 : tie.Need-slice-aggregate-open-sketches-2
+slice-aggregate-open-sketches-2 c =
+    let c2 = at-of-sketch2 c in let call = text-call c2 in sym (length-take-le (m call) (text-places call) (places-hold call (text-zero c2)))
+
+-- src/calls.rt:95:9
+array-share-prefix-pattern : tie.Need-array-share-prefix-pattern
+array-share-prefix-pattern c = let at-else = c .before .before in read-hold (at-else .before .before) (at-else .if2 .left)
+
+-- src/calls.rt:95:9
+slice-aggregate-open-sketches-3 : tie.Need-slice-aggregate-open-sketches-3
+slice-aggregate-open-sketches-3 c =
+    let at-else = c .before .before .before in let c2 = at-else .before .before in sym
+    (length-take-le (m′ c2) (read-codes c2) (read-hold c2 (at-else .if2 .left)))
+
+-- src/calls.rt:92:5
+open-sketches-requires : tie.Need-open-sketches-requires
+open-sketches-requires c κs = search needs
+
+-- src/calls.rt:66:1
+same-length : tie.Need-same-length
+same-length c = search needs
+
+-- src/calls.rt:66:1
+same-length-2 : tie.Need-same-length-2
+same-length-2 c = search needs
+
+-- src/calls.rt:66:1
+returns-3 : tie.Need-returns-3
+returns-3 c =
+    let opened = at-open-sketches c in
+    let at-else = else2 (at-places3 opened) in
+    let c2 = at-else .before .before in
+    let call = text-call c2 in
+    let args = at-start call .args in
+    let t =
+    sketch-accepts (args .settings .k) (args .settings .w) (args .text .now) (text-room call) (text-room′ call) (text-codes call) (text-places call)
+    (at-text call .sketch .result) (at-text call .sketch .ensures) (text-long call) (text-long′ call) (n call) (m call) (call .of-sketch .ensures .0)
+    (call .of-sketch .ensures .1) (text-zero c2) in
+    let r =
+    sketch-accepts (args .settings .k) (args .settings .w) (args .read .now) (read-room c2) (read-room′ c2) (read-codes c2)
+    (at-read c2 .sketch2 .last .1 .1 .1 .1 .0)
+    (at-read c2 .sketch2 .result) (at-read c2 .sketch2 .ensures) (read-long c2) (read-long′ c2) (n′ c2) (m′ c2) (c2 .of-sketch2 .ensures .0)
+    (c2 .of-sketch2 .ensures .1) (at-else .if2 .left) in
+    let places′ = opened .open-sketches .last .1 .1 .1 .1 .0 in
+    let work′ = opened .open-sketches .last .1 .1 .1 .1 .1 .0 in
+    let o : OpensSketches (take (m call) (text-codes call)) (take (m call) (text-places call)) (take (m′ c2) (read-codes c2)) (args .settings)
+    (args .positions .now) (args .work .now) (opened .open-sketches .result) places′ work′ =
+    opened .open-sketches .ensures in
+    opens-fronts (given-settings call) (args .text .now) (args .read .now) (args .positions .now) (args .work .now) (m call) t (m′ c2) r
+    (take (m call) (text-codes call)) (take (m call) (text-places call)) (take (m′ c2) (read-codes c2))
+    (codes-front (args .settings .k) (args .settings .w) (args .text .now) (text-room call) (text-room′ call) (text-codes call) (text-places call)
+    (at-text call .sketch .result) (at-text call .sketch .ensures) (text-long call) (text-long′ call) (n call) (m call) (call .of-sketch .ensures .0)
+    (call .of-sketch .ensures .1) (text-zero c2))
+    (positions-front (args .settings .k) (args .settings .w) (args .text .now) (text-room call) (text-room′ call) (text-codes call) (text-places call)
+    (at-text call .sketch .result) (at-text call .sketch .ensures) (text-long call) (text-long′ call) (n call) (m call) (call .of-sketch .ensures .0)
+    (call .of-sketch .ensures .1) (text-zero c2))
+    (codes-front (args .settings .k) (args .settings .w) (args .read .now) (read-room c2) (read-room′ c2) (read-codes c2)
+    (at-read c2 .sketch2 .last .1 .1 .1 .1 .0)
+    (at-read c2 .sketch2 .result) (at-read c2 .sketch2 .ensures) (read-long c2) (read-long′ c2) (n′ c2) (m′ c2) (c2 .of-sketch2 .ensures .0)
+    (c2 .of-sketch2 .ensures .1) (at-else .if2 .left)) (opened .open-sketches .result) places′ work′ o
+
+pub open-lines-spec : {M : Type 1} → statement M
+open-lines-spec =
+    tie.close
+    (tie.spec
+    zeros-4096-requires
+    zeros-4096-requires-2
+    slice-aggregate-sketch
+    slice-aggregate-sketch-2
+    sketch-requires
+    of-sketch-requires
+    returns
+    zeros-4096-requires-3
+    zeros-4096-requires-4
+    slice-aggregate-sketch-3
+    slice-aggregate-sketch-4
+    sketch-requires-2
+    of-sketch-requires-2
+    returns-2
+    array-share-prefix-codes
+    slice-aggregate-open-sketches
+    array-share-prefix-places
+    slice-aggregate-open-sketches-2
+    array-share-prefix-pattern
+    slice-aggregate-open-sketches-3
+    open-sketches-requires
+    same-length
+    same-length-2
+    returns-3)

@@ -1,0 +1,56 @@
+-- What the calls up to start answer and leave, given an input.
+use Prim.Native.Nat.{ℕ}
+use mathlib.Core.Path.{_≡_}
+use mathlib.Core.List.{List}
+use lib.ListN.{length}
+use Rattle.mappings.specs.Score.{taskWith}
+use Rattle.base.specs.Replies.{Reply, accepted, refused, after}
+use Rattle.kmers.specs.Kmers.{codes, positions, entries}
+use Rattle.strike.specs.Strike.{struck, strikeReply}
+use Rattle.session_start.specs.Start.{startReply, startWords}
+use Rattle.requests.specs.declared.Settings.{Settings}
+use Rattle.requests.specs.Requests.{textOf, patternOf, taskOf}
+use Rattle.base.specs.Limits.{lineLimit}
+use Rattle.list_input.specs.Input.{Input, malformed, given}
+use Rattle.list_open.specs.Calls.{andThen, strikingReply, callsReply}
+use Rattle.list_open.specs.declared.calls.Opened.{Opened}
+use Rattle.list_open.specs.declared.calls.Opened.the-variants.{Malformed, Refused, Session}
+
+-- a session with k and the number of entries of the pattern; or the number of the first call that refuses
+abbrev pub openedBy : Reply → ℕ → ℕ → Opened
+openedBy (accepted values) k size = Session k size
+openedBy (refused number values) k size = Refused number
+
+unfoldable pub openedOf : Input → ℕ → ℕ → Opened
+openedOf malformed room lent = Malformed
+openedOf (given s text read) room lent = openedBy (callsReply s text read room lent) (s .k) (length (patternOf s read))
+
+-- the lent positions afterwards: those of the struck text, where the calls up to strike accept
+unfoldable pub positionsAfter : Input → List ℕ → List ℕ
+positionsAfter malformed places = places
+positionsAfter (given s text read) places = after (strikingReply s text read (length places)) (positions (textOf s text)) places
+
+abbrev pub whereAccepted : Reply → List ℕ → List ℕ → List ℕ
+whereAccepted (accepted values) new old = new
+whereAccepted (refused number values) new old = old
+
+-- the work words afterwards: as start leaves them, where the calls up to strike accept
+unfoldable pub workAfter : Input → ℕ → List ℕ → List ℕ
+workAfter malformed room work = work
+workAfter (given s text read) room work = whereAccepted (strikingReply s text read room) (startWords (taskOf s text read) work) work
+
+-- what the calls answer and leave for an input, given the lent positions and work words
+pub record Opens (input : Input) (places work : List ℕ) (r : Opened) (places′ work′ : List ℕ) : Type 0 where
+  pub answer : r ≡ openedOf input (length places) (length work)
+  pub positions-after : places′ ≡ positionsAfter input places
+  pub work-after : work′ ≡ workAfter input (length places) work
+
+-- the same from strike on, given the sketches
+pub record OpensSketches (cs ps pattern : List ℕ) (s : Settings) (places work : List ℕ) (r : Opened) (places′ work′ : List ℕ) : Type 0 where
+  pub answer : r ≡ openedBy
+      (andThen (strikeReply cs ps (s .c) lineLimit (length places))
+      (startReply (taskWith (codes (struck (s .c) (entries cs ps))) pattern (s .u) (s .v) (s .threshold)) (length work))) (s .k) (length pattern)
+  pub positions-after : places′ ≡ after (strikeReply cs ps (s .c) lineLimit (length places)) (positions (struck (s .c) (entries cs ps))) places
+  pub work-after : work′
+      ≡ whereAccepted (strikeReply cs ps (s .c) lineLimit (length places))
+      (startWords (taskWith (codes (struck (s .c) (entries cs ps))) pattern (s .u) (s .v) (s .threshold)) work) work

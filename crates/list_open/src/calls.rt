@@ -1,0 +1,135 @@
+// The calls from the bytes of the input up to start.
+use answers::of_sketch;
+use answers::of_start;
+use answers::of_strike;
+use list_input::Request;
+use list_input::read_input;
+use requests::Settings;
+ghost use mathlib.Core.Path.{_≡_};
+ghost use lib.ListN.{length};
+ghost use Rattle.base.specs.Zeros.{zeros};
+ghost use Rattle.list_input.specs.Input.{given, inputOf};
+ghost use Rattle.list_open.specs.Opening.{Opens, OpensSketches};
+
+// A session in the work words, with k and the number of entries of the read's sketch; or why there is none: what is malformed, or
+// the number of the first call that refuses.
+pub enum Opened {
+    Malformed,
+    Refused(u32),
+    Session { k: u32, size: usize },
+}
+
+fn zeros_4096() -> [u32; 4096]
+    ensures { λ r. ⌜ (4096 ≡ length r) × (r ≡ zeros 4096) ⌝ }
+{
+    [0u32; 4096]
+}
+
+// Strikes the text's sketch and starts the session. The struck text's positions stay in `positions`.
+fn open_sketches(
+    codes: &[u32],
+    places: &[u32],
+    pattern: &[u32],
+    settings: Settings,
+    positions: &mut [u32],
+    work: &mut [u32],
+) -> Opened
+    ensures { λ r.
+        ⌜ OpensSketches (now (codes .entry)) (now (places .entry)) (now (pattern .entry)) settings (now (positions .entry)) (now (work .entry)) r
+        (now (positions .exit)) (now (work .exit)) ⌝ }
+{
+    let mut text = zeros_4096();
+    let struck = of_strike(strike::strike(codes, places, settings.c, &mut text, positions));
+    if struck.0 != 0 {
+        return Opened::Refused(struck.0);
+    }
+    let started = of_start(session_start::start(
+        &text[..struck.1],
+        pattern,
+        settings.u,
+        settings.v,
+        settings.threshold,
+        work,
+    ));
+    if started.0 != 0 {
+        return Opened::Refused(started.0);
+    }
+    Opened::Session {
+        k: settings.k,
+        size: pattern.len(),
+    }
+}
+
+// Sketches the text and the read, and goes on with the sketches.
+fn open_lines(
+    text: &[u8],
+    read: &[u8],
+    settings: Settings,
+    positions: &mut [u32],
+    work: &mut [u32],
+) -> Opened
+    ensures { λ r.
+        ⌜ Opens (given settings (now (text .entry)) (now (read .entry))) (now (positions .entry)) (now (work .entry)) r (now (positions .exit))
+        (now (work .exit)) ⌝ }
+{
+    let mut codes = zeros_4096();
+    let mut places = zeros_4096();
+    let of_text = of_sketch(sketch::sketch(text, settings.k, settings.w, &mut codes, &mut places));
+    if of_text.0 != 0 {
+        return Opened::Refused(of_text.0);
+    }
+    let mut pattern = zeros_4096();
+    let mut unused = zeros_4096();
+    let of_read = of_sketch(sketch::sketch(
+        read,
+        settings.k,
+        settings.w,
+        &mut pattern,
+        &mut unused,
+    ));
+    if of_read.0 != 0 {
+        return Opened::Refused(of_read.0);
+    }
+    open_sketches(
+        &codes[..of_text.1],
+        &places[..of_text.1],
+        &pattern[..of_read.1],
+        settings,
+        positions,
+        work,
+    )
+}
+
+// Reads the input and makes the calls in their order.
+pub fn open(bytes: &[u8], positions: &mut [u32], work: &mut [u32]) -> Opened
+    ensures { λ r. ⌜ Opens (inputOf (now (bytes .entry))) (now (positions .entry)) (now (work .entry)) r (now (positions .exit)) (now (work .exit)) ⌝ }
+{
+    match read_input(bytes) {
+        Request::Malformed => Opened::Malformed,
+        Request::Given {
+            k,
+            w,
+            c,
+            u,
+            v,
+            threshold,
+            text,
+            text_end,
+            read,
+            read_end,
+        } => open_lines(
+            &bytes[text..text_end],
+            &bytes[read..read_end],
+            Settings {
+                k,
+                w,
+                c,
+                u,
+                v,
+                threshold,
+            },
+            positions,
+            work,
+        ),
+    }
+}

@@ -1,0 +1,36 @@
+-- Document 01's example of what `maplist` prints, and further ones: all are computed.
+use mathlib.Core.Path.{_≡_, refl}
+use mathlib.Core.List.{[], _∷_}
+use Rattle.base.specs.Bytes.{asBytes}
+use Rattle.base.specs.Replies.{refused}
+use Rattle.list_output.specs.Output.{unlessRefused, outputOf}
+use Rattle.list_output.proofs.Compute.{list-output-computes}
+
+pub example : outputOf (asBytes "1 1 100 1 1 1\nACAG\nACG\n") ≡ asBytes "first last score shared permille\n1 3 3 3 1000\nfound 1 cells 10\n"
+unfolding list-output-computes
+example = refl
+
+-- it is another with the text not struck, with the pattern struck, with u and v or k and w exchanged, and with a last letter that is the
+-- k-mer's first
+pub second : outputOf (asBytes "3 2 1 2 1 -3\nCCTACGAGGTAC\nTTACTAC\n")
+    ≡ asBytes "first last score shared permille\n1 3 0 1 333\nfound 1 cells 1\n"
+unfolding list-output-computes
+second = refl
+
+-- what is printed instead of a list
+pub record Refusals : Type 0 where
+  -- no line
+  pub no-line : outputOf [] ≡ asBytes "refused input\n"
+  -- with the empty read line: the sketch refuses k first. With k 1 it refuses w; with w 1 strike refuses c; with c 1 start refuses u; with u 1
+  -- it refuses the empty pattern
+  pub k-bad : outputOf (asBytes "16 0 0 0 1 1\nA\n\n") ≡ asBytes "refused 1\n"
+  pub w-bad : outputOf (asBytes "1 0 0 0 1 1\nA\n\n") ≡ asBytes "refused 2\n"
+  pub c-bad : outputOf (asBytes "1 1 0 0 1 1\nA\n\n") ≡ asBytes "refused 6\n"
+  pub u-bad : outputOf (asBytes "1 1 1 0 1 1\nA\n\n") ≡ asBytes "refused 7\n"
+  pub read-empty : outputOf (asBytes "1 1 1 1 1 1\nA\n\n") ≡ asBytes "refused 9\n"
+  -- without the second value
+  pub number-alone : unlessRefused (refused 11 (2049 ∷ [])) [] ≡ asBytes "refused 11\n"
+
+pub refusals : Refusals
+unfolding list-output-computes
+refusals = record { no-line = refl; k-bad = refl; w-bad = refl; c-bad = refl; u-bad = refl; read-empty = refl; number-alone = refl }

@@ -1,0 +1,21 @@
+-- `filling::cells_passed` meets its contract.
+use mathlib.Core.Path.{sym}
+use lib.ListN.{List·getD-eq-default}
+use borrow.Author.Needs.{needs}
+use Rattle.list_output.proofs.filling.cells_passed.Statement.{statement}
+use Rattle.list_output.proofs.filling.cells_passed.Tie as tie
+
+-- src/filling.rt:63:9
+returns : tie.Need-returns
+returns c = sym (List·getD-eq-default (c .before .args .work .now) 0 (c .if1 .taken))
+
+-- src/filling.rt:65:5
+shared-slice-read-result : tie.Need-shared-slice-read-result
+shared-slice-read-result c = search needs
+
+-- src/filling.rt:59:1
+returns-2 : tie.Need-returns-2
+returns-2 c = search needs
+
+pub cells-passed-spec : {M : Type 1} → statement M
+cells-passed-spec = tie.close (tie.spec returns shared-slice-read-result returns-2)

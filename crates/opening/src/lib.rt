@@ -1,3 +1,0 @@
-// From the bytes of the input to a session: the calls that `maplist` makes before its steps, in document 01's order.
-// Assumes nothing.
-pub mod calls;

@@ -1,4 +1,0 @@
--- The three lines of the input.
-pub mod Limits
-pub mod Input
-pub mod Answers

@@ -1,0 +1,82 @@
+-- `cells::pass_one` meets its contract: where the row fits, `pass_row` has passed its cell.
+use Prim.Native.Nat.{ℕ, _+_, _-_}
+use native.Mathlib.Omega.{arith}
+use mathlib.Core.Path.{_≡_, sym, ap, _∙_}
+use mathlib.Core.Bool.{true}
+use borrow.Author.Needs.{needs}
+use Rattle.session_cells.specs.Passing.{seenBefore, Update, passRows, fits}
+use Rattle.session_cells.proofs.Fitting.{fits-says, fits-past, pass-fits, pass-none}
+use Rattle.session_cells.proofs.cells.pass_one.Statement.{statement}
+use Rattle.session_cells.proofs.cells.pass_one.Tie as tie
+
+-- the entry of the function, behind the first test
+abbrev entry : tie.Else1 → tie.Start
+entry c = c .before .before
+
+none-passed-requires : tie.Need-none-passed-requires
+none-passed-requires c κs = search needs
+
+returns : tie.Need-returns
+returns c =
+    let args = c .before .before .before .args in
+    let past = fits-past (args .part .now) (args .row) (args .row + 1) (omega (arith, c .before .if1 .taken)) in
+    let e = sym (pass-none (args .line) (args .row) (args .row + 1) (args .m) (args .part .now) past) in
+    (c .none-passed .ensures ∙ ap (λ (u : Update). u .answer) e, ap (λ (u : Update). u .part) e)
+
+add-fits : tie.Need-add-fits
+add-fits c = search needs
+
+fits-requires : tie.Need-fits-requires
+fits-requires c κs = search needs
+
+-- `fits` has said so
+fitting : (d : tie.Then2) → (let args = entry (d .before .before .before) .args in fits (args .part .now) (args .row) (args .row + 1) ≡ true)
+fitting d = sym (d .before .fits2 .ensures) ∙ d .if2 .taken
+
+pass-row-requires : tie.Need-pass-row-requires
+pass-row-requires c κs =
+    let d = c .before in
+    let args = entry (d .before .before .before) .args in
+    let says = fits-says (args .part .now) (args .row) (args .row + 1) (fitting d) in
+    (says .0, omega (arith, says .2))
+
+same-length : tie.Need-same-length
+same-length c = search needs
+
+returns-2 : tie.Need-returns-2
+returns-2 c =
+    let passed = c .before .before in
+    let d = passed .before .before in
+    let args = entry (d .before .before .before) .args in
+    let one : args .row + 1 - args .row ≡ 1 = omega arith in
+    let e = ap (λ (n : ℕ). passRows (args .line) n (args .row) (args .m) (seenBefore (args .part .now) (args .row)) (args .part .now)) (sym one)
+    ∙ sym (pass-fits (args .line) (args .row) (args .row + 1) (args .m) (args .part .now) (fitting d)) in
+    (passed .pass-row .ensures .0 ∙ ap (λ (u : Update). u .answer) e, passed .pass-row .ensures .1 ∙ ap (λ (u : Update). u .part) e)
+
+none-passed-requires-2 : tie.Need-none-passed-requires-2
+none-passed-requires-2 c κs = search needs
+
+same-length-2 : tie.Need-same-length-2
+same-length-2 c = search needs
+
+returns-3 : tie.Need-returns-3
+returns-3 c =
+    let d = c .before .before in
+    let args = entry (d .before .before) .args in
+    let e = sym (pass-none (args .line) (args .row) (args .row + 1) (args .m) (args .part .now) (sym (d .fits2 .ensures) ∙ c .before .if2 .left)) in
+    (c .none-passed2 .ensures ∙ ap (λ (u : Update). u .answer) e, ap (λ (u : Update). u .part) e)
+
+pub pass-one-spec : {M : Type 1} → statement M
+pass-one-spec =
+    tie.close
+    (tie.spec
+    none-passed-requires
+    returns
+    add-fits
+    fits-requires
+    pass-row-requires
+    same-length
+    returns-2
+    none-passed-requires-2
+    same-length-2
+    returns-3)

@@ -1,0 +1,62 @@
+-- Start's refusals with their limits and their order, and words 0 to 3 after it: each is computed from the definitions.
+use Prim.Native.Nat.{ℕ, _≤_, _<_}
+use mathlib.Core.Path.{_≡_, refl}
+use mathlib.Core.List.{List, [], _∷_}
+use lib.ListN.{length, take, drop, replicate}
+use lib.IntN.{pos}
+use borrow.Author.Tests.{lt-ltb, le-ltb}
+use Rattle.base.specs.Replies.{accepted, refused}
+use Rattle.mappings.specs.Score.{Task}
+use Rattle.mappings.proofs.Compute.{mappings-compute}
+use Rattle.session_start.specs.WorkWords.{withCell, bestAfter, heading, blocks, sessionWords}
+use Rattle.session_start.specs.Start.{badWeights, startReply, startWords}
+
+abbrev task : ℕ → ℕ → List ℕ → List ℕ → Task
+task u v text pattern = record { text = text; pattern = pattern; u = u; v = v; threshold = pos 1 }
+
+-- each refused call also breaks what is checked after it, or may
+pub record StartRefusals : Type 0 where
+  -- 7: u or v outside 1–1,000, with any text, pattern and work words
+  pub u-low : (text pattern : List ℕ) (lent : ℕ) → startReply (task 0 1 text pattern) lent ≡ refused 7 []
+  pub u-high : (text pattern : List ℕ) (lent : ℕ) → startReply (task 1001 1 text pattern) lent ≡ refused 7 []
+  pub v-low : (text pattern : List ℕ) (lent : ℕ) → startReply (task 1 0 text pattern) lent ≡ refused 7 []
+  pub v-high : (text pattern : List ℕ) (lent : ℕ) → startReply (task 1 1001 text pattern) lent ≡ refused 7 []
+  -- 8: text over 65,535 entries
+  pub text-long : (text pattern : List ℕ) (lent : ℕ) → 65535 < length text → startReply (task 1000 1 text pattern) lent ≡ refused 8 []
+  -- 9: pattern of 0 or over 4,096 entries
+  pub pattern-empty : (text : List ℕ) (lent : ℕ) → length text ≤ 65535 → startReply (task 1 1000 text []) lent ≡ refused 9 []
+  pub pattern-long : startReply (task 1 1 (replicate 2049 7) (replicate 4097 7)) 16383 ≡ refused 9 []
+  -- 10: fewer than 16,384 work words
+  pub words-few : startReply (task 1 1 (replicate 2049 7) (replicate 4096 7)) 16383 ≡ refused 10 []
+  -- 11, with h: h over 2,048
+  pub hits-many : startReply (task 1 1 (replicate 2049 7) (7 ∷ [])) 16384 ≡ refused 11 (2049 ∷ [])
+  -- accepted, with h: h 2,048 of 2,049 entries; an empty text
+  pub hits-most : startReply (task 1000 1000 (8 ∷ replicate 2048 7) (7 ∷ [])) 16384 ≡ accepted (2048 ∷ [])
+  pub text-empty : startReply (task 1 1 [] (7 ∷ [])) 16384 ≡ accepted (0 ∷ [])
+
+pub start-refusals : StartRefusals
+unfolding mappings-compute badWeights startReply
+start-refusals =
+    record {
+      u-low = λ text pattern lent. refl;
+      u-high = λ text pattern lent. refl;
+      v-low = λ text pattern lent. refl;
+      v-high = λ text pattern lent. refl;
+      text-long = λ text pattern lent over. rw (lt-ltb 65535 (length text) over) refl;
+      pattern-empty = λ text lent within. rw (le-ltb 65535 (length text) within) refl;
+      pattern-long = refl;
+      words-few = refl;
+      hits-many = refl;
+      hits-most = refl;
+      text-empty = refl;
+    }
+
+-- words 0 to 3 hold h, u, v and no cells passed; words beyond the first 16,384 stay; a refusal changes none
+pub record StartWords : Type 0 where
+  pub first-four : take 4 (startWords (task 5 6 (7 ∷ 8 ∷ 7 ∷ []) (7 ∷ 9 ∷ [])) (replicate 16384 99)) ≡ 2 ∷ 5 ∷ 6 ∷ 0 ∷ []
+  pub beyond : drop 16384 (startWords (task 5 6 (7 ∷ 8 ∷ 7 ∷ []) (7 ∷ 9 ∷ [])) (replicate 16386 99)) ≡ 99 ∷ 99 ∷ []
+  pub refused-same : (before : List ℕ) → startWords (task 0 1 (7 ∷ []) (7 ∷ [])) before ≡ before
+
+pub start-words : StartWords
+unfolding mappings-compute badWeights startReply withCell bestAfter heading blocks sessionWords startWords
+start-words = record { first-four = refl; beyond = refl; refused-same = λ before. refl }

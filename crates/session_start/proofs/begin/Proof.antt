@@ -1,0 +1,133 @@
+-- `begin` meets its contract.
+use borrow.Author.Needs.{needs}
+use Rattle.base.specs.Limits.{patternLimit}
+use Rattle.mappings.specs.Score.{taskWith}
+use Rattle.session_start.specs.Answers.{startedReply}
+use Rattle.session_start.specs.Noting.{hitReply}
+use Rattle.session_start.specs.Start.{afterStart}
+use mir.ValLaws.{toZ-ofZ}
+use mir.Syntax.{w32}
+use lib.IntN.{ℤ}
+use mathlib.Core.Path.{subst}
+use Rattle.session_start.proofs.Starting.{sorted-front}
+use Rattle.sorting.specs.Sorting.{SortedCopyOf}
+use lib.Seq.{length-take-le}
+use lib.ListN.{length, take, drop, length-append}
+use mathlib.Core.List.{_++_}
+use mathlib.Core.Path.{_≡_, sym}
+use native.Mathlib.Omega.{arith}
+use Prim.Native.Nat.{_≤_}
+use Rattle.session_start.proofs.begin.Statement.{statement}
+use Rattle.session_start.proofs.begin.Tie as tie
+
+-- the places that the proofs below speak of, each from a later one
+abbrev at-zeros-4096 : tie.After-sorted → tie.After-zeros-4096
+at-zeros-4096 c = c .before
+
+abbrev at-shared-slice-known : tie.After-sorted → tie.After-shared-slice-known
+at-shared-slice-known c = at-zeros-4096 c .before .before .before
+
+abbrev entry : tie.After-sorted → tie.Start
+entry c = at-shared-slice-known c .before
+
+abbrev at-sort-words : tie.After-begin-sorted-arg → tie.After-sort-words
+at-sort-words c = c .before .before .before
+
+abbrev at-sorted : tie.After-begin-sorted-arg → tie.After-sorted
+at-sorted c = at-sort-words c .before
+
+zeros-4096-requires : tie.Need-zeros-4096-requires
+zeros-4096-requires c κs = search needs
+
+array-borrow-prefix-sorted : tie.Need-array-borrow-prefix-sorted
+array-borrow-prefix-sorted c = search needs
+
+slice-aggregate-sort-words : tie.Need-slice-aggregate-sort-words
+slice-aggregate-sort-words c =
+    let pattern = entry c .args .pattern .now in
+    let zeros = c .before .zeros-4096 in
+    let few : length pattern ≤ patternLimit = entry c .pre .1 in
+    let part : length (take (length pattern) (zeros .result)) ≡ length pattern =
+    length-take-le (length pattern) (zeros .result) (omega (arith, zeros .ensures .0)) in
+    sym part
+
+sort-words-requires : tie.Need-sort-words-requires
+sort-words-requires c κs = search needs
+
+array-share-prefix-sorted : tie.Need-array-share-prefix-sorted
+array-share-prefix-sorted c =
+    let pattern = entry (c .before .before) .args .pattern .now in
+    let zeros = c .before .before .before .zeros-4096 in
+    let few : length pattern ≤ patternLimit = entry (c .before .before) .pre .1 in
+    let part : length (take (length pattern) (zeros .result)) ≡ length pattern =
+    length-take-le (length pattern) (zeros .result) (omega (arith, zeros .ensures .0)) in
+    let sort = c .before .sort-words in
+    let new = sort .last .1 .0 in
+    let rest = drop (length pattern) (zeros .result) in
+    omega (arith, length-append new rest, sort .kept .1 .0)
+
+slice-aggregate-begin-sorted : tie.Need-slice-aggregate-begin-sorted
+slice-aggregate-begin-sorted c =
+    let pattern = entry (c .before .before .before) .args .pattern .now in
+    let zeros = at-zeros-4096 (c .before .before .before) .zeros-4096 in
+    let few : length pattern ≤ patternLimit = entry (c .before .before .before) .pre .1 in
+    let part : length (take (length pattern) (zeros .result)) ≡ length pattern =
+    length-take-le (length pattern) (zeros .result) (omega (arith, zeros .ensures .0)) in
+    let sort = c .before .before .sort-words in
+    let new = sort .last .1 .0 in
+    let rest = drop (length pattern) (zeros .result) in
+    let copy : SortedCopyOf pattern (take (length pattern) (new ++ rest)) =
+    sorted-front pattern (take (length pattern) (zeros .result)) new rest (sort .ensures .1) few part in
+    sym (copy .same-length)
+
+begin-sorted-requires : tie.Need-begin-sorted-requires
+begin-sorted-requires c κs =
+    let pattern = entry (at-sorted c) .args .pattern .now in
+    let zeros = at-zeros-4096 (at-sorted c) .zeros-4096 in
+    let few : length pattern ≤ patternLimit = entry (at-sorted c) .pre .1 in
+    let part : length (take (length pattern) (zeros .result)) ≡ length pattern =
+    length-take-le (length pattern) (zeros .result) (omega (arith, zeros .ensures .0)) in
+    let sort = c .before .before .before .sort-words in
+    let new = sort .last .1 .0 in
+    let rest = drop (length pattern) (zeros .result) in
+    let copy : SortedCopyOf pattern (take (length pattern) (new ++ rest)) =
+    sorted-front pattern (take (length pattern) (zeros .result)) new rest (sort .ensures .1) few part in
+    (entry (at-sorted c) .pre .0, omega (arith, copy .same-length), entry (at-sorted c) .pre .2, copy .in-order)
+
+same-length : tie.Need-same-length
+same-length c = search needs
+
+returns : tie.Need-returns
+returns c =
+    let pattern = entry (at-sorted (c .before .before .before)) .args .pattern .now in
+    let zeros = at-zeros-4096 (at-sorted (c .before .before .before)) .zeros-4096 in
+    let few : length pattern ≤ patternLimit = entry (at-sorted (c .before .before .before)) .pre .1 in
+    let part : length (take (length pattern) (zeros .result)) ≡ length pattern =
+    length-take-le (length pattern) (zeros .result) (omega (arith, zeros .ensures .0)) in
+    let sort = at-sort-words (c .before .before .before) .sort-words in
+    let new = sort .last .1 .0 in
+    let rest = drop (length pattern) (zeros .result) in
+    let copy : SortedCopyOf pattern (take (length pattern) (new ++ rest)) =
+    sorted-front pattern (take (length pattern) (zeros .result)) new rest (sort .ensures .1) few part in
+    let args = entry (at-sorted (c .before .before .before)) .args in
+    let same = toZ-ofZ w32 (args .threshold) (entry (at-sorted (c .before .before .before)) .fits .threshold) in (
+      subst (λ (z : ℤ). startedReply (c .before .before .begin-sorted .result) ≡ hitReply (taskWith (args .text .now) pattern (args .u) (args .v) z))
+          same (c .before .before .begin-sorted .ensures .0 pattern copy),
+      subst (λ (z : ℤ). c .before .before .begin-sorted .last .1 .1 .1 .1 .1 .0
+          ≡ afterStart (startedReply (c .before .before .begin-sorted .result)) (taskWith (args .text .now) pattern (args .u) (args .v) z) (args .work .now))
+          same (c .before .before .begin-sorted .ensures .1 pattern copy),
+    )
+
+pub begin-spec : {M : Type 1} → statement M
+begin-spec =
+    tie.close
+    (tie.spec
+    zeros-4096-requires
+    array-borrow-prefix-sorted
+    slice-aggregate-sort-words
+    sort-words-requires
+    array-share-prefix-sorted
+    slice-aggregate-begin-sorted
+    begin-sorted-requires
+    same-length
+    returns)

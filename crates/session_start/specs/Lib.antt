@@ -1,0 +1,8 @@
+-- What start answers, and the work words afterwards, as document 01 says it.
+pub mod Start
+pub mod Answers
+-- what every work word holds after start and after each step, from the tables of a session
+pub mod Tables
+pub mod WorkWords
+-- what only start's own functions speak of
+pub mod Noting

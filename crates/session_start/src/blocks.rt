@@ -1,0 +1,77 @@
+// Blocks of words: arrays of zeros, and blocks of the work words, each written from an index of its own: one word again and again,
+// a copy, and the heading.
+use session_words::COLUMNS;
+use session_words::HITS;
+use session_words::KIND;
+use session_words::PASSED;
+use session_words::ROW;
+use session_words::SHARED;
+use session_words::SIZE;
+use session_words::THRESHOLD;
+use session_words::U;
+use session_words::V;
+ghost use mathlib.Core.Path.{_≡_};
+ghost use Prim.Native.Nat.{_+_, _≤_};
+ghost use lib.ListN.{length, replicate};
+ghost use lib.Seq.{sets};
+ghost use Rattle.base.specs.Zeros.{zeros};
+ghost use Rattle.session_start.specs.Noting.{freshHeading};
+
+pub(crate) fn zeros_2048() -> [u32; 2048]
+    ensures { λ r. ⌜ (2048 ≡ length r) × (r ≡ zeros 2048) ⌝ }
+{
+    [0u32; 2048]
+}
+
+pub(crate) fn zeros_4096() -> [u32; 4096]
+    ensures { λ r. ⌜ (4096 ≡ length r) × (r ≡ zeros 4096) ⌝ }
+{
+    [0u32; 4096]
+}
+
+// n times this word, from an index on.
+pub(crate) fn fill(word: u32, n: usize, at: usize, work: &mut [u32])
+    requires { ⌜ at + n ≤ length (now work) ⌝ }
+    ensures { λ _. ⌜ now (work .exit) ≡ sets (now (work .entry)) at (replicate n word) ⌝ }
+{
+    let mut i = 0;
+    while i < n {
+        work[at + i] = word;
+        i += 1;
+    }
+}
+
+pub(crate) fn put_block(words: &[u32], at: usize, work: &mut [u32])
+    requires { ⌜ at + length (now words) ≤ length (now work) ⌝ }
+    ensures { λ _. ⌜ now (work .exit) ≡ sets (now (work .entry)) at (now (words .entry)) ⌝ }
+{
+    let mut i = 0;
+    while i < words.len() {
+        work[at + i] = words[i];
+        i += 1;
+    }
+}
+
+pub(crate) fn put_heading(
+    h: u32,
+    u: u32,
+    v: u32,
+    size: u32,
+    threshold: u32,
+    shared: u32,
+    work: &mut [u32],
+)
+    requires { ⌜ 10 ≤ length (now work) ⌝ }
+    ensures { λ _. ⌜ now (work .exit) ≡ sets (now (work .entry)) 0 (freshHeading h u v size threshold shared) ⌝ }
+{
+    work[HITS] = h;
+    work[U] = u;
+    work[V] = v;
+    work[PASSED] = 0;
+    work[KIND] = 0;
+    work[SIZE] = size;
+    work[THRESHOLD] = threshold;
+    work[COLUMNS] = h;
+    work[ROW] = 0;
+    work[SHARED] = shared;
+}

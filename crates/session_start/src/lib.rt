@@ -1,0 +1,185 @@
+// Starting a mapping session: `start` copies what a session needs into lent work words.
+mod blocks;
+mod hits;
+mod per_hit;
+mod search;
+mod threshold;
+
+use crate::blocks::fill;
+use crate::blocks::put_block;
+use crate::blocks::put_heading;
+use crate::blocks::zeros_2048;
+use crate::blocks::zeros_4096;
+use crate::hits::collect;
+use crate::per_hit::put_back;
+use crate::per_hit::put_reach;
+use crate::per_hit::put_whole;
+use crate::threshold::biased;
+use base::HIT_LIMIT;
+use base::PATTERN_LIMIT;
+use base::TEXT_LIMIT;
+use base::WEIGHT_LIMIT;
+use base::WORK_WORDS;
+use session_words::BACK;
+use session_words::BEST;
+use session_words::INDEX;
+use sorting::sort_words;
+ghost use mathlib.Core.Path.{_≡_};
+ghost use mathlib.Core.List.{List};
+ghost use Prim.Native.Nat.{ℕ, _≤_, _<_};
+ghost use lib.ListN.{length, getD};
+ghost use Rattle.sorting.specs.Sorting.{Sorted, SortedCopyOf};
+ghost use Rattle.base.specs.Limits.{outside, weightLimit, textLimit, patternLimit, hitLimit, workWords};
+ghost use Rattle.mappings.specs.Score.{Task, taskWith};
+ghost use Rattle.session_start.specs.WorkWords.{sessionWords};
+ghost use Rattle.session_start.specs.Start.{startReply, startWords, afterStart};
+ghost use Rattle.session_start.specs.Answers.{startedReply};
+ghost use Rattle.session_start.specs.Noting.{hitReply, wordsAt, Begin, backs as backsOf, Prepared};
+
+// h, or why the call is refused: 7, 8, 9, 10, or 11 with h.
+pub enum Started {
+    Hits(usize),
+    BadWeights,
+    TooManyEntries,
+    BadPattern,
+    TooFewWords,
+    TooManyHits(usize),
+}
+
+fn bad_weight(w: u32) -> bool
+    ensures { λ r. ⌜ r ≡ outside 1 weightLimit w ⌝ }
+{
+    w < 1 || WEIGHT_LIMIT < w
+}
+
+// Writes the work words from the hits' indices and back of each.
+fn put_words(
+    index: &[u32],
+    backs: &[u32],
+    u: u32,
+    v: u32,
+    size: u32,
+    threshold: u32,
+    work: &mut [u32],
+)
+    requires { ⌜ (length (now index) ≤ hitLimit) × (length (now backs) ≡ length (now index)) × (workWords ≤ length (now work)) ⌝ }
+    requires { ⌜ ((k : ℕ) → k < length (now backs) → getD (now backs) k 0 ≤ k) ⌝ }
+    ensures { λ _. ⌜ ((task : Task) → Prepared task u v size threshold (now (index .entry)) (now (backs .entry))
+        → now (work .exit) ≡ sessionWords task (now (work .entry)) 0) ⌝ }
+{
+    let h = index.len();
+    put_block(backs, BACK, work);
+    put_block(index, INDEX, work);
+    put_reach(backs, work);
+    fill(0, h, BEST, work);
+    let shared = put_whole(backs, work);
+    put_heading(h as u32, u, v, size, threshold, shared, work);
+}
+
+// The same from the hits' indices and slots.
+fn put_session(
+    sorted: &[u32],
+    index: &[u32],
+    slots: &[u32],
+    u: u32,
+    v: u32,
+    threshold: u32,
+    work: &mut [u32],
+)
+    requires { ⌜ Begin (now sorted) (now slots) ⌝ }
+    requires { ⌜ (length (now sorted) ≤ patternLimit) × (length (now index) ≤ hitLimit) × (length (now slots) ≡ length (now index))
+        × (workWords ≤ length (now work)) ⌝ }
+    ensures { λ _. ⌜ ((task : Task) → Prepared task u v (length (now (sorted .entry))) threshold (now (index .entry))
+        (backsOf (now (sorted .entry)) (wordsAt (now (sorted .entry)) (now (slots .entry)))) → now (work .exit) ≡ sessionWords task (now (work .entry)) 0) ⌝ }
+{
+    let h = slots.len();
+    let mut backs = zeros_2048();
+    put_back(sorted, slots, &mut backs[..h]);
+    put_words(
+        index,
+        &backs[..h],
+        u,
+        v,
+        sorted.len() as u32,
+        threshold,
+        work,
+    );
+}
+
+// What is left of start once the pattern's words are in order: no work word is written before the number of hits is known.
+fn begin_sorted(
+    text: &[u32],
+    sorted: &[u32],
+    u: u32,
+    v: u32,
+    threshold: i32,
+    work: &mut [u32],
+) -> Started
+    requires { ⌜ (length (now text) ≤ textLimit) × (length (now sorted) ≤ patternLimit) × (workWords ≤ length (now work)) × Sorted (now sorted) ⌝ }
+    ensures { λ r. ⌜ ((pattern : List ℕ) → SortedCopyOf pattern (now (sorted .entry))
+        → startedReply r ≡ hitReply (taskWith (now (text .entry)) pattern u v threshold)) ⌝ }
+    ensures { λ r. ⌜ ((pattern : List ℕ) → SortedCopyOf pattern (now (sorted .entry))
+        → now (work .exit) ≡ afterStart (startedReply r) (taskWith (now (text .entry)) pattern u v threshold) (now (work .entry))) ⌝ }
+{
+    let mut index = zeros_2048();
+    let mut slots = zeros_2048();
+    let h = collect(text, sorted, &mut index, &mut slots);
+    if HIT_LIMIT < h {
+        return Started::TooManyHits(h);
+    }
+    put_session(
+        sorted,
+        &index[..h],
+        &slots[..h],
+        u,
+        v,
+        biased(threshold),
+        work,
+    );
+    Started::Hits(h)
+}
+
+// What is left of start once all but the number of hits is judged.
+fn begin(text: &[u32], pattern: &[u32], u: u32, v: u32, threshold: i32, work: &mut [u32]) -> Started
+    requires { ⌜ (length (now text) ≤ textLimit) × (length (now pattern) ≤ patternLimit) × (workWords ≤ length (now work)) ⌝ }
+    ensures { λ r. ⌜ startedReply r ≡ hitReply (taskWith (now (text .entry)) (now (pattern .entry)) u v threshold) ⌝ }
+    ensures { λ r. ⌜ now (work .exit) ≡ afterStart (startedReply r) (taskWith (now (text .entry)) (now (pattern .entry)) u v threshold) (now (work .entry)) ⌝ }
+{
+    let n = pattern.len();
+    let mut sorted = zeros_4096();
+    sort_words(pattern, &mut sorted[..n]);
+    begin_sorted(text, &sorted[..n], u, v, threshold, work)
+}
+
+// Starts a session: judges the arguments, and writes what `step` needs into the work words.
+pub fn start(
+    text: &[u32],
+    pattern: &[u32],
+    u: u32,
+    v: u32,
+    threshold: i32,
+    work: &mut [u32],
+) -> Started
+    ensures { λ r. ⌜ startedReply r ≡ startReply (taskWith (now (text .entry)) (now (pattern .entry)) u v threshold) (length (now (work .entry))) ⌝ }
+    ensures { λ _. ⌜ now (work .exit) ≡ startWords (taskWith (now (text .entry)) (now (pattern .entry)) u v threshold) (now (work .entry)) ⌝ }
+{
+    if bad_weight(u) {
+        return Started::BadWeights;
+    }
+    if bad_weight(v) {
+        return Started::BadWeights;
+    }
+    if TEXT_LIMIT < text.len() {
+        return Started::TooManyEntries;
+    }
+    if pattern.len() < 1 {
+        return Started::BadPattern;
+    }
+    if PATTERN_LIMIT < pattern.len() {
+        return Started::BadPattern;
+    }
+    if work.len() < WORK_WORDS {
+        return Started::TooFewWords;
+    }
+    begin(text, pattern, u, v, threshold, work)
+}

@@ -1,0 +1,104 @@
+// What a session knows of each hit: back, reach and whole.
+use crate::blocks::fill;
+use crate::blocks::zeros_4096;
+use crate::hits::one_at;
+use session_words::REACH;
+use session_words::WHOLE;
+use session_words::wide;
+ghost use mathlib.Core.Path.{_≡_};
+ghost use mathlib.Core.List.{List};
+ghost use Prim.Native.Nat.{ℕ, _+_, _≤_, _<_};
+ghost use lib.Dec.{eqb};
+ghost use lib.ListN.{length, getD};
+ghost use lib.Seq.{sets};
+ghost use Rattle.base.specs.Limits.{patternLimit, hitLimit, workWords};
+ghost use Rattle.base.specs.Lists.{bit};
+ghost use Rattle.base.specs.Counts.{occ};
+ghost use Rattle.session_words.specs.Layout.{reachFrom, wholeFrom};
+ghost use Rattle.session_start.specs.Noting.{wordsAt, Begin, AllIn, backs as backsOf, reaches, withPair, zerosUpTo};
+
+// Back of each hit. The slots of a word, as many as it occurs in the pattern, are a ring of the last hits with that word, each by its
+// number + 1: so a hit finds in its place the hit that stands as many occurrences before it as the pattern has, or 0.
+fn link(sorted: &[u32], slots: &[u32], turns: &mut [u32], ring: &mut [u32], backs: &mut [u32])
+    requires { ⌜ Begin (now sorted) (now slots) ⌝ }
+    requires { ⌜ (length (now sorted) ≤ patternLimit) × (length (now slots) ≤ hitLimit) × (length (now backs) ≡ length (now slots)) ⌝ }
+    requires { ⌜ (length (now turns) ≡ length (now sorted)) × ((k : ℕ) → getD (now turns) k 0 ≡ 0) ⌝ }
+    requires { ⌜ (length (now ring) ≡ length (now sorted)) × ((k : ℕ) → getD (now ring) k 0 ≡ 0) ⌝ }
+    ensures { λ _. ⌜ now (backs .exit) ≡ backsOf (now (sorted .entry)) (wordsAt (now (sorted .entry)) (now (slots .entry))) ⌝ }
+{
+    let mut j = 0;
+    while j < slots.len() {
+        let slot = wide(slots[j]);
+        let turn = turns[slot];
+        let place = slot + wide(turn);
+        backs[j] = ring[place];
+        ring[place] = j as u32 + 1;
+        turns[slot] = (turn + 1) * one_at(sorted, place + 1, sorted[slot]);
+        j += 1;
+    }
+}
+
+pub(crate) fn put_back(sorted: &[u32], slots: &[u32], backs: &mut [u32])
+    requires { ⌜ Begin (now sorted) (now slots) ⌝ }
+    requires { ⌜ (length (now sorted) ≤ patternLimit) × (length (now slots) ≤ hitLimit) × (length (now backs) ≡ length (now slots)) ⌝ }
+    ensures { λ _. ⌜ now (backs .exit) ≡ backsOf (now (sorted .entry)) (wordsAt (now (sorted .entry)) (now (slots .entry))) ⌝ }
+{
+    let n = sorted.len();
+    let mut turns = zeros_4096();
+    let mut ring = zeros_4096();
+    link(sorted, slots, &mut turns[..n], &mut ring[..n], backs);
+}
+
+// Hit j ends the reach of the hit before its back, if there is one.
+fn put_pair(back: usize, j: u32, reach: &mut [u32])
+    requires { ⌜ back ≤ length (now reach) ⌝ }
+    ensures { λ _. ⌜ now (reach .exit) ≡ withPair back j (now (reach .entry)) ⌝ }
+{
+    if 0 < back {
+        reach[back - 1] = j;
+    }
+}
+
+// Reach of each hit, from back of each.
+fn put_pairs(backs: &[u32], reach: &mut [u32])
+    requires { ⌜ (length (now backs) ≤ hitLimit) × (length (now reach) ≡ length (now backs)) ⌝ }
+    requires { ⌜ ((k : ℕ) → k < length (now backs) → getD (now backs) k 0 ≤ k) ⌝ }
+    ensures { λ _. ⌜ ((p g : List ℕ) → AllIn p g → now (backs .entry) ≡ backsOf p g → now (reach .exit) ≡ reaches p g) ⌝ }
+{
+    fill(backs.len() as u32, backs.len(), 0, reach);
+    let mut j = 0;
+    while j < backs.len() {
+        put_pair(wide(backs[j]), j as u32, reach);
+        j += 1;
+    }
+}
+
+// The same in its place among the work words.
+pub(crate) fn put_reach(backs: &[u32], work: &mut [u32])
+    requires { ⌜ (length (now backs) ≤ hitLimit) × (workWords ≤ length (now work)) ⌝ }
+    requires { ⌜ ((k : ℕ) → k < length (now backs) → getD (now backs) k 0 ≤ k) ⌝ }
+    ensures { λ _. ⌜ ((p g : List ℕ) → AllIn p g → now (backs .entry) ≡ backsOf p g → now (work .exit) ≡ sets (now (work .entry)) reachFrom (reaches p g)) ⌝ }
+{
+    put_pairs(backs, &mut work[REACH..REACH + backs.len()]);
+}
+
+fn one_if_zero(x: u32) -> u32
+    ensures { λ r. ⌜ (r ≡ bit (eqb 0 x)) × (r ≤ 1) ⌝ }
+{
+    if 0 == x { 1 } else { 0 }
+}
+
+// Whole of each hit, from back of each, in its place among the work words; it answers that of the last, or 0 where there is none.
+pub(crate) fn put_whole(backs: &[u32], work: &mut [u32]) -> u32
+    requires { ⌜ (length (now backs) ≤ hitLimit) × (workWords ≤ length (now work)) ⌝ }
+    ensures { λ r. ⌜ (r ≡ occ 0 (now (backs .entry))) × (now (work .exit) ≡ sets (now (work .entry)) wholeFrom (zerosUpTo (now (backs .entry)))) ⌝ }
+{
+    let mut m: u32 = 0;
+    let mut j = 0;
+    while j < backs.len() {
+        m += one_if_zero(backs[j]);
+        work[WHOLE + j] = m;
+        j += 1;
+    }
+    m
+}

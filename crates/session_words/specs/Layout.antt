@@ -1,0 +1,60 @@
+-- The layout of the work words behind the first four: where each word and each block of a session stands. docs/WORK_WORDS.md says in a
+-- table what they hold.
+use Prim.Native.Nat.{ℕ, _-_}
+
+-- ---- single words
+
+-- the kind of score
+abbrev pub kindAt : ℕ
+kindAt = 4
+
+-- the pattern's number of entries
+abbrev pub sizeAt : ℕ
+sizeAt = 5
+
+-- the threshold, biased to a word
+abbrev pub thresholdAt : ℕ
+thresholdAt = 6
+
+-- the columns left
+abbrev pub columnsAt : ℕ
+columnsAt = 7
+
+-- row and m of the next cell
+abbrev pub rowAt : ℕ
+rowAt = 8
+
+abbrev pub mAt : ℕ
+mAt = 9
+
+-- ---- blocks: one word a hit, from here on
+
+-- the smallest row from which a hit is reasonable as a right end
+abbrev pub backFrom : ℕ
+backFrom = 2048
+
+-- a hit's index in the text
+abbrev pub indexFrom : ℕ
+indexFrom = 4096
+
+-- the first column at which a hit is no longer reasonable as a left end
+abbrev pub reachFrom : ℕ
+reachFrom = 6144
+
+-- the column in hand: the greatest score word in the rows up to this one
+abbrev pub bestFrom : ℕ
+bestFrom = 8192
+
+-- m of the hits up to this one
+abbrev pub wholeFrom : ℕ
+wholeFrom = 10240
+
+-- ---- the part that a column's update is lent: indices, reach and best
+
+-- where it ends; it begins at indexFrom
+abbrev pub partEnd : ℕ
+partEnd = wholeFrom
+
+-- how many words it has
+abbrev pub partLength : ℕ
+partLength = partEnd - indexFrom

@@ -1,0 +1,20 @@
+-- `format::is_code_word` meets its contract: each return is one case of the definition.
+use borrow.Author.Needs.{needs}
+use borrow.Author.Tests.{eq-eqb, ne-eqb}
+use Rattle.store_load.proofs.format.is_code_word.Statement.{statement}
+use Rattle.store_load.proofs.format.is_code_word.Tie as tie
+
+kind-requires : tie.Need-kind-requires
+kind-requires c κs = search needs
+
+returns : tie.Need-returns
+returns c = simp (← c .before .kind .ensures, ne-eqb _ _ (c .if1 .taken))
+
+content-requires : tie.Need-content-requires
+content-requires c κs = search needs
+
+returns-2 : tie.Need-returns-2
+returns-2 c = simp (c .content .ensures, ← c .before .before .kind .ensures, eq-eqb _ _ (c .before .if1 .left))
+
+pub is-code-word-spec : {M : Type 1} → statement M
+is-code-word-spec = tie.close (tie.spec kind-requires returns content-requires returns-2)
