@@ -1,5 +1,5 @@
-//! Links the proved libraries, and says which one is missing.
-//! Assumes that HUDDLEWOOL_LIBRARIES, where it is set, names their folder; it is the repository's target/staticlib otherwise.
+//! Links the proved library, and says so where it is missing.
+//! Assumes that HUDDLEWOOL_LIBRARIES, where it is set, names its folder; it is the repository's target/staticlib otherwise.
 
 use std::env;
 use std::path::PathBuf;
@@ -14,13 +14,11 @@ fn main() {
         None => here.join("../target/staticlib"),
     };
     println!("cargo:rustc-link-search=native={}", folder.display());
-    for name in ["exports", "sketch", "listing"] {
-        let library = folder.join(format!("lib{name}.a"));
-        println!("cargo:rerun-if-changed={}", library.display());
-        if !library.is_file() {
-            eprintln!("{} is missing: `rt staticlib {name}` makes it, and host/test makes all that is needed", library.display());
-            exit(1);
-        }
-        println!("cargo:rustc-link-lib=static={name}");
+    let library = folder.join("libexports.a");
+    println!("cargo:rerun-if-changed={}", library.display());
+    if !library.is_file() {
+        eprintln!("{} is missing: `rt staticlib exports` makes it, and host/test makes all that is needed", library.display());
+        exit(1);
     }
+    println!("cargo:rustc-link-lib=static=exports");
 }

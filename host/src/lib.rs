@@ -1,6 +1,6 @@
 //! The host's calls of the two functions with bytes and numbers only, those of the six with buffers, and beside them a reference
 //! of document 01.
-//! Assumes that the declarations below are those of the proved libraries: the linker compares names and nothing else.
+//! Assumes that the declarations below are those of the proved library `exports`: the linker compares names and nothing else.
 
 pub mod calls;
 pub mod cases;

@@ -6,9 +6,9 @@ mod session;
 mod sketch;
 mod strike;
 
-/// Runs a test on the usual stack of a program: that of a test's thread is smaller than the functions are made for.
-fn on_usual_stack(test: impl FnOnce() + Send + 'static) {
-    let thread = thread::Builder::new().stack_size(8 << 20).spawn(test).expect("a thread");
+/// Runs a test on a stack of 1.5 MiB, which no call may need more than: a host calls from threads.
+fn on_small_stack(test: impl FnOnce() + Send + 'static) {
+    let thread = thread::Builder::new().stack_size(1536 << 10).spawn(test).expect("a thread");
     if let Err(panic) = thread.join() {
         std::panic::resume_unwind(panic);
     }

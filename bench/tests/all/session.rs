@@ -14,7 +14,7 @@ use host::reference::start::start_call;
 use host::reference::steps::{self, Step, answers};
 use host::reference::work_words::WorkWords;
 
-use crate::on_usual_stack;
+use crate::on_small_stack;
 
 /// A session's functions, what brings its words behind start into the layout of docs/WORK_WORDS.md, and how they lie behind steps.
 struct Tested {
@@ -88,7 +88,7 @@ fn given(step: StepOf, work: &mut [u32], list: &[Step]) -> Vec<steps::Answer> {
 
 #[test]
 fn lists_of_steps() {
-    on_usual_stack(|| {
+    on_small_stack(|| {
         for seed in 0..3000 {
             let mut random = Random::new(seed);
             let (task, list) = (task(&mut random), list(&mut random));
@@ -117,7 +117,7 @@ fn lists_of_steps() {
 
 #[test]
 fn refusals_of_start() {
-    on_usual_stack(|| {
+    on_small_stack(|| {
         let long = vec![3; 70_000];
         let cases = [
             (9, 9, 0, 1, 0),
@@ -143,7 +143,7 @@ fn refusals_of_start() {
 
 #[test]
 fn refusals_of_step() {
-    on_usual_stack(|| {
+    on_small_stack(|| {
         for words in [[2049, 1, 1, 0], [5, 0, 1, 0], [5, 1, 0, 0], [5, 1001, 1, 0], [5, 1, 1001, 0], [5, 1, 1, 16], [u32::MAX; 4]]
         {
             let mut work = vec![0; WORK_WORDS];

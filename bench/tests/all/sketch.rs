@@ -7,7 +7,7 @@ use host::cases::letters;
 use host::random::Random;
 use host::reference::sketch as reference;
 
-use crate::on_usual_stack;
+use crate::on_small_stack;
 
 const SKETCHES: [(&str, Sketch); 3] =
     [("the same algorithm", sketch::sketch), ("the fastest", fastest_sketch::sketch), ("the proved one", ours::sketch)];
@@ -36,7 +36,7 @@ fn hold(case: &str, letters: &[u8], k: u32, w: u32) {
 
 #[test]
 fn sketches_and_counts() {
-    on_usual_stack(|| {
+    on_small_stack(|| {
         for seed in 0..4000 {
             let mut random = Random::new(seed);
             let length = random.one_of(&[5, 40, 300, 2000]);
@@ -51,7 +51,7 @@ fn sketches_and_counts() {
 
 #[test]
 fn runs_about_as_long_as_a_chunk() {
-    on_usual_stack(|| {
+    on_small_stack(|| {
         let mut random = Random::new(5000);
         for kmers in [511, 512, 513, 1023, 1024, 1025] {
             for (k, w) in [(1, 1), (3, 2), (15, 10), (9, 19), (7, 20), (15, 64)] {
@@ -66,7 +66,7 @@ fn runs_about_as_long_as_a_chunk() {
 
 #[test]
 fn refusals() {
-    on_usual_stack(|| {
+    on_small_stack(|| {
         let cases = [(0, 0, 1_048_577, -1), (16, 1, 3, -1), (1, 0, 3, -2), (15, 65, 1_048_577, -2), (15, 64, 1_048_577, -3)];
         for (k, w, length, number) in cases {
             let letters = vec![b'A'; length];

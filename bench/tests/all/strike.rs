@@ -7,7 +7,7 @@ use host::random::Random;
 use host::reference::sketch::{codes, positions};
 use host::reference::strike::strike_call;
 
-use crate::on_usual_stack;
+use crate::on_small_stack;
 
 const STRIKES: [(&str, Strike); 4] = [
     ("the same algorithm", strike::strike),
@@ -42,7 +42,7 @@ fn hold(case: &str, text: &[u32], places: &[u32], c: u32, room: usize) {
 
 #[test]
 fn strikes() {
-    on_usual_stack(|| {
+    on_small_stack(|| {
         for seed in 0..600 {
             let mut random = Random::new(seed);
             let kinds = random.one_of(&[1, 3, 20, 400, 1 << 32]);
@@ -63,7 +63,7 @@ fn strikes() {
 
 #[test]
 fn long_texts_and_refusals() {
-    on_usual_stack(|| {
+    on_small_stack(|| {
         let text: Vec<u32> = (0..65_536u32).map(|n| n.wrapping_mul(2_654_435_761) >> 17).collect();
         let places: Vec<u32> = (0..65_536).collect();
         for n in [65_535, 65_536] {

@@ -5,7 +5,8 @@ use std::process::ExitCode;
 use std::thread;
 
 fn main() -> ExitCode {
-    let thread = thread::Builder::new().stack_size(8 << 20).spawn(host::crosscheck::run).expect("a thread");
+    // no call may need more: a host calls from threads
+    let thread = thread::Builder::new().stack_size(1536 << 10).spawn(host::crosscheck::run).expect("a thread");
     match thread.join() {
         Ok(true) => ExitCode::SUCCESS,
         _ => ExitCode::FAILURE,

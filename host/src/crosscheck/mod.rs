@@ -1,5 +1,4 @@
 //! The proved functions beside a brute force on random small tasks and at the limits of document 01's table.
-//! Assumes a stack of 8 MiB, which the proved functions are made for.
 
 mod codes;
 mod lists;

@@ -1,5 +1,5 @@
 //! Every test of the host in one program, so that one summary speaks of them all.
-//! Assumes that the libraries and the program have been built.
+//! Assumes that the library and the program have been built.
 
 use std::thread;
 
@@ -16,9 +16,9 @@ mod table;
 mod vector_files;
 mod vectors;
 
-/// Runs a test on the usual stack of a program: that of a test's thread is smaller than the proved functions are made for.
-fn on_usual_stack(test: impl FnOnce() + Send + 'static) {
-    let thread = thread::Builder::new().stack_size(8 << 20).spawn(test).expect("a thread");
+/// Runs a test on a stack of 1.5 MiB, which no call may need more than: a host calls from threads.
+fn on_small_stack(test: impl FnOnce() + Send + 'static) {
+    let thread = thread::Builder::new().stack_size(1536 << 10).spawn(test).expect("a thread");
     if let Err(panic) = thread.join() {
         std::panic::resume_unwind(panic);
     }

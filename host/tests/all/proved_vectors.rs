@@ -10,7 +10,7 @@ use host::reference::refusal::{Refusal, refused_with};
 use host::reference::sketch::Entry;
 use host::reference::steps::Step;
 
-use crate::on_usual_stack;
+use crate::on_small_stack;
 use crate::vector_files::{Vector, entries, lines, session, sketch_of, store, written};
 
 /// The first n entries of two buffers, as the vectors write them.
@@ -79,7 +79,7 @@ fn answered(work: &mut [u32], step: Step) -> String {
 
 #[test]
 fn sessions() {
-    on_usual_stack(|| {
+    on_small_stack(|| {
         let mut random = Random::new(3200);
         for line in lines("sessions.tsv") {
             let Vector { task, h, steps, expected } = session(&line);

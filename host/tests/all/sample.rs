@@ -1,8 +1,9 @@
-//! The sample in data/sample: what its README says of it, by the reference and by the program.
-//! Assumes that the folder stands at its place in the repository, and that the program has been built.
+//! The sample in data/sample: what its README says of it, by the reference and by the program; and the script that lists it.
+//! Assumes that the folder and the script stand at their places in the repository, and that the program has been built.
 
 use std::fs;
 use std::path::Path;
+use std::process::{Command, Stdio};
 
 use host::program::{expect, run_on};
 use host::reference::cells::cells;
@@ -18,6 +19,15 @@ fn file(name: &str) -> Vec<u8> {
 
 fn sample() -> Input {
     input(&file("two_copies.in")).expect("three lines")
+}
+
+/// Calls the script on a file of data/, and gives its status, its list, and whether it went as far as the proofs.
+fn listed(name: &str) -> (Option<i32>, Vec<u8>, bool) {
+    let root = Path::new(env!("CARGO_MANIFEST_DIR")).join("..");
+    let mut script = Command::new(root.join("sample"));
+    script.arg(name).current_dir(root.join("data")).stdin(Stdio::null());
+    let ended = script.output().expect("the script starts");
+    (ended.status.code(), ended.stdout, String::from_utf8_lossy(&ended.stderr).contains("proving"))
 }
 
 /// The first and last letter of a mapping.
@@ -54,4 +64,12 @@ fn each_copy_once() {
     assert_eq!(cells(&task).iter().filter(|&&(a, b)| mapping_of(&task, a, b).score >= 10).count(), 58);
     let third = &finals(&Task { threshold: 1, ..task })[0];
     assert_eq!((letters(&positions, third), third.score), ((329, 399), 1));
+}
+
+// One test, since two runs of the prover in one folder disturb each other.
+#[test]
+fn status_of_the_script() {
+    assert_eq!(listed("sample/two_copies.in"), (Some(0), file("two_copies.out"), true));
+    assert_eq!(listed("README.md"), (Some(1), b"refused input\n".to_vec(), true));
+    assert_eq!(listed("no such file"), (Some(1), Vec::new(), false));
 }
