@@ -99,12 +99,14 @@ module _ {A : Type 0} (f : A → Bool) where
   keep-mem [] m = absurd (List·Memᴰ·not-nil m)
   keep-mem {a} (x ∷ xs) m = go (keep-mem xs) (addIf-mem (f x) x (keep f xs) m)
     where
-      go : (List·Memᴰ a (keep f xs) → List·Memᴰ a xs × (f a ≡ true)) → ((a ≡ x) × (f x ≡ true)) ⊎ List·Memᴰ a (keep f xs) → List·Memᴰ a (x ∷ xs) × (f a ≡ true)
+      go : (List·Memᴰ a (keep f xs) → List·Memᴰ a xs × (f a ≡ true)) → ((a ≡ x) × (f x ≡ true)) ⊎ List·Memᴰ a (keep f xs)
+          → List·Memᴰ a (x ∷ xs) × (f a ≡ true)
       go rec (inl e) = (List·Memᴰ·head (e .0), ap f (e .0) ∙ e .1)
       go rec (inr m′) = let r = rec m′ in (List·Memᴰ·tail (r .0), r .1)
 
   pub mem-keep : {a : A} {l : List A} → List·Memᴰ a l → f a ≡ true → List·Memᴰ a (keep f l)
-  mem-keep {a} {l = x ∷ xs} (List·Memᴰ·head p) e = subst (λ (b : Bool). List·Memᴰ a (addIf b x (keep f xs))) (sym (ap f (sym p) ∙ e)) (List·Memᴰ·head p)
+  mem-keep {a} {l = x ∷ xs} (List·Memᴰ·head p) e =
+      subst (λ (b : Bool). List·Memᴰ a (addIf b x (keep f xs))) (sym (ap f (sym p) ∙ e)) (List·Memᴰ·head p)
   mem-keep {a} {l = x ∷ xs} (List·Memᴰ·tail m) e = mem-addIf (f x) x (mem-keep m e)
 
   pub length-keep : (l : List A) → length (keep f l) ≤ length l
@@ -129,7 +131,8 @@ pub range-mem : (a n : ℕ) {x : ℕ} → List·Memᴰ x (range a n) → (a ≤ 
 range-mem a zero m = absurd (List·Memᴰ·not-nil m)
 range-mem a (suc n) {x} m = go (λ m′. range-mem (suc a) n m′) (List·Memᴰ·cases-cons m)
   where
-    go : (List·Memᴰ x (range (suc a) n) → (suc a ≤ x) × (x < suc a + n)) → (x ≡ a) ⊎ List·Memᴰ x (range (suc a) n) → (a ≤ x) × (x < a + suc n)
+    go : (List·Memᴰ x (range (suc a) n) → (suc a ≤ x) × (x < suc a + n)) → (x ≡ a) ⊎ List·Memᴰ x (range (suc a) n)
+        → (a ≤ x) × (x < a + suc n)
     go rec (inl e) = omega arith
     go rec (inr m′) = let r = rec m′ in (omega arith)
 

@@ -18,7 +18,8 @@ write-next new old i v e h =
 abbrev pub Written : List ℕ → List ℕ → ℕ → List ℕ → Type 0
 Written new old i now = now ≡ take i new ++ drop i old
 
-pub written-more : (new old : List ℕ) (i : ℕ) (now : List ℕ) (v : ℕ) → Written new old i now → i < length new → length new ≤ length old → v ≡ getD new i 0
+pub written-more : (new old : List ℕ) (i : ℕ) (now : List ℕ) (v : ℕ) → Written new old i now → i < length new → length new ≤ length old
+    → v ≡ getD new i 0
     → Written new old (i + 1) (set now i v)
 written-more new old i now v w h l e =
     rw (add-one i, w, e)

@@ -23,7 +23,8 @@ pub record SketchCall (k w : ℕ) (letters codes₀ positions₀ : List ℕ) (re
   pub codes-after : codes′ ≡ sketchCodes k w letters codes₀ positions₀
   pub positions-after : positions′ ≡ sketchPositions k w letters codes₀ positions₀
 
-pub record StrikeCall (codes positions : List ℕ) (c : ℕ) (codes₀ positions₀ : List ℕ) (result number : ℕ) (codes′ positions′ : List ℕ) : Type 0 where
+pub record StrikeCall (codes positions : List ℕ) (c : ℕ) (codes₀ positions₀ : List ℕ) (result number : ℕ) (codes′ positions′ : List ℕ) :
+    Type 0 where
   pub tells : Tells (strikeReply codes positions c (length codes₀) (length positions₀)) result number
   pub codes-after : codes′ ≡ strikeCodes codes positions c codes₀ positions₀
   pub positions-after : positions′ ≡ strikePositions codes positions c codes₀ positions₀
@@ -33,7 +34,8 @@ pub record SaveCall (k w : ℕ) (codes positions words₀ : List ℕ) (result nu
   pub words-after : words′ ≡ saveWords k w codes positions words₀
 
 -- the words; the two lent for k and w, and both buffers; the same behind the call
-pub record LoadCall (words : List ℕ) (k₀ w₀ : ℕ) (codes₀ positions₀ : List ℕ) (result number k′ w′ : ℕ) (codes′ positions′ : List ℕ) : Type 0 where
+pub record LoadCall (words : List ℕ) (k₀ w₀ : ℕ) (codes₀ positions₀ : List ℕ) (result number k′ w′ : ℕ)
+    (codes′ positions′ : List ℕ) : Type 0 where
   pub tells : Tells (loadReply words (length codes₀) (length positions₀)) result number
   pub k-after : k′ ≡ kAfter (loadReply words (length codes₀) (length positions₀)) k₀
   pub w-after : w′ ≡ wAfter (loadReply words (length codes₀) (length positions₀)) w₀

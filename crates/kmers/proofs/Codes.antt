@@ -83,7 +83,8 @@ module _ (letters : List ℕ) where
   codeAt-length k p h = length-map (take k (drop p letters)) value ∙ length-take-le k (drop p letters) (rw (length-drop p letters) (omega arith))
 
   -- k letters of the eight have a code below 4^k
-  pub codeAt-below : (k p : ℕ) → p + k ≤ length letters → ((q : ℕ) → p ≤ q → q < p + k → isForeign (getD letters q 0) ≡ false) → codeAt k letters p < 4 ^ k
+  pub codeAt-below : (k p : ℕ) → p + k ≤ length letters → ((q : ℕ) → p ≤ q → q < p + k → isForeign (getD letters q 0) ≡ false)
+      → codeAt k letters p < 4 ^ k
   unfolding codeAt codeOf
   codeAt-below k p h known =
       let below : digits 0 vs < 1 * 4 ^ length vs = digits-below 0 vs small in
@@ -100,7 +101,8 @@ module _ (letters : List ℕ) where
           (value-below (getD letters (p + i) 0) (known (p + i) (omega arith) (omega arith)))
 
   -- one letter more behind
-  pub codeAt-suc : (last p : ℕ) → p + last < length letters → codeAt (suc last) letters p ≡ 4 * codeAt last letters p + value (getD letters (p + last) 0)
+  pub codeAt-suc : (last p : ℕ) → p + last < length letters
+      → codeAt (suc last) letters p ≡ 4 * codeAt last letters p + value (getD letters (p + last) 0)
   unfolding codeAt codeOf
   codeAt-suc last p h =
       ap (λ (l : List ℕ). digits 0 (map value l)) (take-suc (drop p letters) last 0 (rw (length-drop p letters) (omega arith)))

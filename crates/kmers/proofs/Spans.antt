@@ -14,7 +14,8 @@ use Rattle.kmers.specs.Kmers.{codeOf, kmers}
 use Rattle.kmers.specs.Places.{codeAt, entryAt, span}
 
 -- the first k-mer of a span and the others
-pub span-cons : (k : ℕ) (letters : List ℕ) (from to : ℕ) → from < to → span k letters from to ≡ entryAt k letters from ∷ span k letters (suc from) to
+pub span-cons : (k : ℕ) (letters : List ℕ) (from to : ℕ) → from < to
+    → span k letters from to ≡ entryAt k letters from ∷ span k letters (suc from) to
 span-cons k letters from to h =
     let e : to - from ≡ suc (to - suc from) = omega arith in
     ap (λ (n : ℕ). map (entryAt k letters) (range from n)) e

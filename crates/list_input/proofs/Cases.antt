@@ -28,7 +28,8 @@ pub record InputCases : Type 0 where
   pub example : inputOf (behind (withThreshold (49 ∷ []))) ≡ readWith 1 (pos 1)
   pub more : inputOf (behind (withThreshold (49 ∷ [])) ++ 65 ∷ lineFeed ∷ []) ≡ readWith 1 (pos 1)
   pub unended : inputOf (withThreshold (49 ∷ lineFeed ∷ 65 ∷ lineFeed ∷ 65 ∷ [])) ≡ malformed
-  pub lowest : inputOf (behind (withThreshold (45 ∷ 50 ∷ 49 ∷ 52 ∷ 55 ∷ 52 ∷ 56 ∷ 51 ∷ 54 ∷ 52 ∷ 56 ∷ []))) ≡ readWith 1 (negsuc 2147483647)
+  pub lowest : inputOf (behind (withThreshold (45 ∷ 50 ∷ 49 ∷ 52 ∷ 55 ∷ 52 ∷ 56 ∷ 51 ∷ 54 ∷ 52 ∷ 56 ∷ [])))
+      ≡ readWith 1 (negsuc 2147483647)
   pub lower : inputOf (behind (withThreshold (45 ∷ 50 ∷ 49 ∷ 52 ∷ 55 ∷ 52 ∷ 56 ∷ 51 ∷ 54 ∷ 52 ∷ 57 ∷ []))) ≡ malformed
   pub minusZero : inputOf (behind (withThreshold (45 ∷ 48 ∷ []))) ≡ malformed
   pub higher : inputOf (behind (withThreshold (50 ∷ 49 ∷ 52 ∷ 55 ∷ 52 ∷ 56 ∷ 51 ∷ 54 ∷ 52 ∷ 56 ∷ []))) ≡ malformed

@@ -126,7 +126,8 @@ module _ (line : List ℕ) (from : ℕ) where
       ltb-true (length p) (length (drop from line)) (and-left (ltb (length p) (length (drop from line))) (isUnsigned p) (good .0)) in
       let place : from + suc (length p) ≡ next = omega (arith, good .2) in
       left-good n ns (drop from line) h (and-right (ltb (length p) (length (drop from line))) (isUnsigned p) (good .0))
-      ∙ ap (λ (l : List ℕ). left n (ns ++ decimalValue 0 p ∷ []) (fields l)) (drop-drop (suc (length p)) from line ∙ ap (λ (k : ℕ). drop k line) place)
+      ∙ ap (λ (l : List ℕ). left n (ns ++ decimalValue 0 p ∷ []) (fields l))
+      (drop-drop (suc (length p)) from line ∙ ap (λ (k : ℕ). drop k line) place)
       ∙ ap (λ (x : ℕ). left n (ns ++ x ∷ []) (fields (drop next line))) (sym (good .1))
 
   -- which begins within the line
@@ -176,7 +177,8 @@ unfolding firstPart
 signed-whole [] e = refl
 signed-whole (b ∷ l) e = go (signed-tests b l e)
   where
-    go : ((b ≡ minus) × (isDecimal l ≡ true) × (decimalValue 0 l ≤ signedLimit)) ⊎ ((isDecimal (b ∷ l) ≡ true) × (decimalValue 0 (b ∷ l) < signedLimit))
+    go : ((b ≡ minus) × (isDecimal l ≡ true) × (decimalValue 0 l ≤ signedLimit)) ⊎
+        ((isDecimal (b ∷ l) ≡ true) × (decimalValue 0 (b ∷ l) < signedLimit))
         → length (firstPart space (b ∷ l)) ≡ suc (length l)
     go (inl t) =
         let is : b ≡ minus = t .0 in
@@ -194,7 +196,8 @@ more-than-one ns p (b ∷ l) = go (eqb b space) refl (parts space l) refl
 
 module _ (ns l : List ℕ) where
   -- a space is left: there are too many fields, and what has a space is no number
-  too-many : length (firstPart space l) < length l → (t : Bool) → isSigned l ≡ t → lastField ns (parts space l) ≡ cond t (made ns (signedValue l)) noFirstLine
+  too-many : length (firstPart space l) < length l → (t : Bool) → isSigned l ≡ t
+      → lastField ns (parts space l) ≡ cond t (made ns (signedValue l)) noFirstLine
   too-many h true s = absurd (omega (arith, signed-whole l s))
   too-many h false s = ap (lastField ns) (parts-more space l h) ∙ more-than-one ns (firstPart space l) (drop (suc (length (firstPart space l))) l)
 

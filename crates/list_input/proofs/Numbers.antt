@@ -101,12 +101,14 @@ module _ (limit : ℕ) where
 -- ---- a signed number is a minus and a number, or a number
 
 pub signed-tests : (b : ℕ) (l : List ℕ) → isSigned (b ∷ l) ≡ true
-    → ((b ≡ minus) × (isDecimal l ≡ true) × (decimalValue 0 l ≤ signedLimit)) ⊎ ((isDecimal (b ∷ l) ≡ true) × (decimalValue 0 (b ∷ l) < signedLimit))
+    → ((b ≡ minus) × (isDecimal l ≡ true) × (decimalValue 0 l ≤ signedLimit)) ⊎
+    ((isDecimal (b ∷ l) ≡ true) × (decimalValue 0 (b ∷ l) < signedLimit))
 unfolding isSigned
 signed-tests b l e = go (eqb b minus) refl
   where
     go : (t : Bool) → eqb b minus ≡ t
-        → ((b ≡ minus) × (isDecimal l ≡ true) × (decimalValue 0 l ≤ signedLimit)) ⊎ ((isDecimal (b ∷ l) ≡ true) × (decimalValue 0 (b ∷ l) < signedLimit))
+        → ((b ≡ minus) × (isDecimal l ≡ true) × (decimalValue 0 l ≤ signedLimit)) ⊎
+        ((isDecimal (b ∷ l) ≡ true) × (decimalValue 0 (b ∷ l) < signedLimit))
     go true t =
         let v : ℕ = decimalValue 0 l in
         let tests : (isDecimal l && ltb 0 v && leb v signedLimit) ≡ true = rw t at e in
@@ -194,7 +196,8 @@ threshold-minus (b ∷ l) some e =
     (minus-tests (isDecimal l) (leb (decimalValue 0 l) (2 ^ 31)) (decimalValue 0 l)
     ∙ sym (after-cond asNegative (isDecimal l && leb (decimalValue 0 l) (2 ^ 31)) (number (decimalValue 0 l)) noNumber))
 
-pub threshold-plain : (l : List ℕ) → (length l ≡ 0 → ⊥) → (getD l 0 0 ≡ minus → ⊥) → thresholdOf l ≡ asPositive (numberOf (signedLimit - 1) l)
+pub threshold-plain : (l : List ℕ) → (length l ≡ 0 → ⊥) → (getD l 0 0 ≡ minus → ⊥)
+    → thresholdOf l ≡ asPositive (numberOf (signedLimit - 1) l)
 unfolding thresholdOf isSigned signedValue numberOf
 threshold-plain [] some ne = absurd (some refl)
 threshold-plain (b ∷ l) some ne =

@@ -43,7 +43,8 @@ module _ (k w : ℕ) (letters codes₀ places₀ codes₁ places₁ : List ℕ) 
   module _ (zero : n ≡ 0) where
     pub sketch-accepts : reply ≡ accepted (m ∷ [])
     sketch-accepts =
-        sketch-tells k w letters lineLimit lineLimit .tells (sym sketch-number ∙ zero) ∙ ap (λ (i : ℕ). accepted (i ∷ [])) (sym (count ∙ ap valueOf replied))
+        sketch-tells k w letters lineLimit lineLimit .tells (sym sketch-number ∙ zero)
+        ∙ ap (λ (i : ℕ). accepted (i ∷ [])) (sym (count ∙ ap valueOf replied))
 
     held : Held (length (sketch k w letters)) lineLimit lineLimit m
     held = sketch-held k w letters lineLimit lineLimit m sketch-accepts

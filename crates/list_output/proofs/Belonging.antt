@@ -22,7 +22,8 @@ module _ (task : Task) (before places : List ℕ) (k size q found : ℕ) (accept
   limits : Admitted task (length before) (hitCount task ∷ [])
   limits = admitted task (length before) (hitCount task ∷ []) (accepts .accepts)
 
-  module _ {out : List ℕ} {r : Filled} {work′ out′ : List ℕ} {q′ : ℕ} (piece : Piece task places k size q found out r out′ q′ before work′) where
+  module _ {out : List ℕ} {r : Filled} {work′ out′ : List ℕ} {q′ : ℕ}
+      (piece : Piece task places k size q found out r out′ q′ before work′) where
     never-stuck : Stuck task places k size q found out r out′ q′ → ⊥
     never-stuck stuck =
         let mapping : Mapping = stuck .mapping in

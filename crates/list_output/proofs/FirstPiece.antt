@@ -9,7 +9,8 @@ use Rattle.list_line.specs.Writing.{Written}
 use Rattle.list_output.specs.Beginning.{firstLine, kOf, sizeOf, leftOf, BeginsWith, Begins}
 use Rattle.list_output.specs.declared.beginning.Begun.{Begun}
 
-pub begins : (bytes places work out : List ℕ) (o o₁ : Opened) (r : Begun) (places′ work′ out′ : List ℕ) → Opens (inputOf bytes) places work o places′ work′
+pub begins : (bytes places work out : List ℕ) (o o₁ : Opened) (r : Begun) (places′ work′ out′ : List ℕ)
+    → Opens (inputOf bytes) places work o places′ work′
     → o ≡ o₁ → BeginsWith o₁ work′ out r out′ → Begins bytes places work out r places′ work′ out′
 begins bytes places work out o o₁ r places′ work′ out′ opens e b =
     record {

@@ -61,7 +61,8 @@ pub record Going (work₀ places : List ℕ) (k size found : ℕ) (out₀ out wo
   pub beyond : drop workWords work ≡ drop workWords work₀
   pub past : drop at out ≡ drop at out₀
   pub unmoved : refusedWords work₀ ≡ true → (at ≡ 0) × (count ≡ found) × (work ≡ work₀) × (out ≡ out₀)
-  pub on : (task : Task) (before : List ℕ) (q₀ : ℕ) → InPiece task before work₀ q₀ → (q : ℕ) × On task before places k size q₀ found out₀ out work at count q
+  pub on : (task : Task) (before : List ℕ) (q₀ : ℕ) → InPiece task before work₀ q₀
+      → (q : ℕ) × On task before places k size q₀ found out₀ out work at count q
 
 pub going-start : (work places : List ℕ) (k size count : ℕ) (out : List ℕ) → Going work places k size count out out work 0 count
 going-start work places k size count out = record {
@@ -142,26 +143,31 @@ printed places k size count mapping h e = rw (lt-ltb count cellLimit h, e)
 -- ---- the contract
 
 -- all of the contract, from what is so at a turn and what the turn adds
-fills : (work₀ places : List ℕ) (k size found₀ : ℕ) (out₀ out work : List ℕ) (at count : ℕ) → Going work₀ places k size found₀ out₀ out work at count
+fills : (work₀ places : List ℕ) (k size found₀ : ℕ) (out₀ out work : List ℕ) (at count : ℕ)
+    → Going work₀ places k size found₀ out₀ out work at count
     → length out ≡ length out₀ → length work ≡ length work₀ → (r : Filled) (work′ out′ : List ℕ)
-    → length work′ ≡ length work → drop workWords work′ ≡ drop workWords work → length out′ ≡ length out → at ≤ r .written → r .written ≤ length out
+    → length work′ ≡ length work → drop workWords work′ ≡ drop workWords work → length out′ ≡ length out → at ≤ r .written
+    → r .written ≤ length out
     → drop (r .written) out′ ≡ drop (r .written) out
     → (refusedWords work₀ ≡ true → Unmoved work₀ found₀ out₀ r work′ out′)
-    → ((task : Task) (before : List ℕ) (q₀ : ℕ) → InPiece task before work₀ q₀ → (q′ : ℕ) × Piece task places k size q₀ found₀ out₀ r out′ q′ before work′)
+    → ((task : Task) (before : List ℕ) (q₀ : ℕ) → InPiece task before work₀ q₀
+    → (q′ : ℕ) × Piece task places k size q₀ found₀ out₀ r out′ q′ before work′)
     → Fills work₀ places k size found₀ out₀ r work′ out′
-fills work₀ places k size found₀ out₀ out work at count going same-out same-work r work′ out′ number beyond long onward inside past unmoved piece = record {
-  inside = omega arith;
-  long = long ∙ same-out;
-  past = past ∙ drop-later at (r .written) out out₀ onward (going .past);
-  number = number ∙ same-work;
-  beyond = beyond ∙ going .beyond;
-  refused = unmoved;
-  session = λ task before q a l w. piece task before q (record { accepts = a; among = l; words = w });
-}
+fills work₀ places k size found₀ out₀ out work at count going same-out same-work r work′ out′ number beyond long onward inside past unmoved
+    piece = record {
+      inside = omega arith;
+      long = long ∙ same-out;
+      past = past ∙ drop-later at (r .written) out out₀ onward (going .past);
+      number = number ∙ same-work;
+      beyond = beyond ∙ going .beyond;
+      refused = unmoved;
+      session = λ task before q a l w. piece task before q (record { accepts = a; among = l; words = w });
+    }
 
 -- ---- a turn with room for a line
 
-module _ (work₀ places : List ℕ) (k size found₀ : ℕ) (out₀ out work : List ℕ) (at count : ℕ) (inside : at ≤ length out) (same : length out ≡ length out₀)
+module _ (work₀ places : List ℕ) (k size found₀ : ℕ) (out₀ out work : List ℕ) (at count : ℕ) (inside : at ≤ length out)
+    (same : length out ≡ length out₀)
     (room : 64 ≤ length out - at) (going : Going work₀ places k size found₀ out₀ out work at count) where
   refused-now : (answer : Stepped) (work′ : List ℕ) → StepPromise work stepBudget answer work′ → refusedWords work₀ ≡ true
       → ((n : ℕ) × (answerOf answer ≡ refused n)) × (work′ ≡ work)
@@ -276,7 +282,8 @@ module _ (work₀ places : List ℕ) (k size found₀ : ℕ) (out₀ out work : 
         )
 
       -- the line is not written
-      stuck-piece : isPrinted places k size count mapping ≡ false → (out′ : List ℕ) → out′ ≡ out → (r : Filled) → r .written ≡ at → r .found ≡ count
+      stuck-piece : isPrinted places k size count mapping ≡ false → (out′ : List ℕ) → out′ ≡ out → (r : Filled)
+          → r .written ≡ at → r .found ≡ count
           → r .left ≡ 0 → (q′ : ℕ) × Piece task places k size q₀ found₀ out₀ r out′ q′ before work′
       stuck-piece unprinted out′ eo r ew ef el =
           let none-more : linesIn places k size (length out₀ - at) count (finalsAfter task q) ≡ 0 =
@@ -364,7 +371,8 @@ module _ (work₀ places : List ℕ) (k size found₀ : ℕ) (out₀ out work : 
     not-other TooFewWords o work′ promise = never-refused task q stepBudget (on .among) 10 (ruled TooFewWords work′ promise .0)
     not-other BadWords o work′ promise = never-refused task q stepBudget (on .among) 15 (ruled BadWords work′ promise .0)
 
-  not-found : (a b : ℕ) (score : ℤ) (m cells : ℕ) (work′ : List ℕ) → StepPromise work stepBudget (Found a b score m cells) work′ → refusedWords work₀ ≡ true → ⊥
+  not-found : (a b : ℕ) (score : ℤ) (m cells : ℕ) (work′ : List ℕ) → StepPromise work stepBudget (Found a b score m cells) work′
+      → refusedWords work₀ ≡ true → ⊥
   not-found a b score m cells work′ promise e =
       let r = refused-now (Found a b score m cells) work′ promise e in
       let d : found (record { a = a; b = b; score = score; m = m }) cells ≡ refused (r .0 .0) = r .0 .1 in
@@ -400,15 +408,18 @@ module _ (work₀ places : List ℕ) (k size found₀ : ℕ) (out₀ out work : 
         (omega arith) (omega arith) (ap (drop (r .written)) eo) (λ e. absurd (not-found a b score m cells work′ promise e))
         (λ task before q₀ p. stuck-piece task before q₀ p a b score m cells work′ promise unprinted out′ eo r ew ef el)
 
-    pub fills-finished : (cells passed : ℕ) (out′ work′ : List ℕ) → StepPromise work stepBudget (Finished cells) work′ → passed ≡ getD work′ 3 0
+    pub fills-finished : (cells passed : ℕ) (out′ work′ : List ℕ) → StepPromise work stepBudget (Finished cells) work′
+        → passed ≡ getD work′ 3 0
         → Written (lastLine count passed) at out out′ (r .written) → length out′ ≡ length out → r .found ≡ count → r .left ≡ 0
         → Fills work₀ places k size found₀ out₀ r work′ out′
     fills-finished cells passed out′ work′ promise is-passed put long ef el =
-        fills work₀ places k size found₀ out₀ out work at count going same number r work′ out′ (promise .number) (promise .beyond) long (written-onward put)
+        fills work₀ places k size found₀ out₀ out work at count going same number r work′ out′ (promise .number) (promise .beyond) long
+        (written-onward put)
         (written-inside put inside) (written-past put inside) (λ e. absurd (not-finished cells work′ promise e))
         (λ task before q₀ p. finished-piece task before q₀ p cells passed (r .written) out′ work′ promise is-passed put r refl ef el)
 
-    pub fills-other : (answer : Stepped) → Other answer → (work′ : List ℕ) → StepPromise work stepBudget answer work′ → r .written ≡ at → r .found ≡ count
+    pub fills-other : (answer : Stepped) → Other answer → (work′ : List ℕ) → StepPromise work stepBudget answer work′
+        → r .written ≡ at → r .found ≡ count
         → r .left ≡ 0 → Fills work₀ places k size found₀ out₀ r work′ out
     fills-other answer other work′ promise ew ef el =
         fills work₀ places k size found₀ out₀ out work at count going same number r work′ out (promise .number) (promise .beyond) refl (omega arith)
@@ -427,7 +438,8 @@ module _ (work₀ places : List ℕ) (k size found₀ : ℕ) (out₀ out work : 
 
 -- ---- no room for a line
 
-pub session-left : (task : Task) (before : List ℕ) (q : ℕ) (work : List ℕ) → Accepts task before → q ≤ total task → work ≡ sessionWords task before q
+pub session-left : (task : Task) (before : List ℕ) (q : ℕ) (work : List ℕ) → Accepts task before → q ≤ total task
+    → work ≡ sessionWords task before q
     → cellsLeft work ≡ suc (total task - q)
 unfolding cellsLeft
 session-left task before q work a l e =
@@ -443,7 +455,8 @@ session-left task before q work a l e =
 module _ (work₀ places : List ℕ) (k size found₀ : ℕ) (out₀ out work : List ℕ) (at count : ℕ)
     (going : Going work₀ places k size found₀ out₀ out work at count) (none : length out - at < 64) (same : length out ≡ length out₀) (r : Filled)
     (ew : r .written ≡ at) (ef : r .found ≡ count) (el : r .left ≡ cellsLeft work) where
-  full-piece : (task : Task) (before : List ℕ) (q₀ : ℕ) → InPiece task before work₀ q₀ → (q′ : ℕ) × Piece task places k size q₀ found₀ out₀ r out q′ before work
+  full-piece : (task : Task) (before : List ℕ) (q₀ : ℕ) → InPiece task before work₀ q₀
+      → (q′ : ℕ) × Piece task places k size q₀ found₀ out₀ r out q′ before work
   full-piece task before q₀ p =
       let q = going .on task before q₀ p .0 in
       let on = going .on task before q₀ p .1 in

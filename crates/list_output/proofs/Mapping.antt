@@ -22,7 +22,8 @@ use Rattle.list_output.specs.Pieces.{Holds, isHeld, EndOf}
 
 -- ---- the test
 
-pub held-true : (places : List ℕ) (k size a b m : ℕ) → Holds places k size a b → m ≤ lengthOf a b → m ≤ size → isHeld places k size a b m ≡ true
+pub held-true : (places : List ℕ) (k size a b m : ℕ) → Holds places k size a b → m ≤ lengthOf a b → m ≤ size
+    → isHeld places k size a b m ≡ true
 unfolding isHeld
 held-true places k size a b m h l s =
     rw (
@@ -36,7 +37,8 @@ held-true places k size a b m h l s =
       le-leb m size s,
     )
 
-pub held-facts : (places : List ℕ) (k size a b m : ℕ) → isHeld places k size a b m ≡ true → Holds places k size a b × (m ≤ lengthOf a b) × (m ≤ size)
+pub held-facts : (places : List ℕ) (k size a b m : ℕ) → isHeld places k size a b m ≡ true
+    → Holds places k size a b × (m ≤ lengthOf a b) × (m ≤ size)
 unfolding isHeld
 held-facts places k size a b m e8 =
     let c2 : Bool = leb a b && ltb b (length places) in
@@ -84,7 +86,8 @@ module _ (places : List ℕ) (k size a b from to end : ℕ) (ea : from ≡ a) (e
   last-is h = ap (λ (n : ℕ). n - 1) (end-is h)
 
 -- what per mille answers for a mapping
-pub per-mille-is : (m a b from to size : ℕ) → from ≡ a → to ≡ b → a ≤ b → b - a < textLimit → size ≤ patternLimit → m ≤ lengthOf a b → m ≤ size
+pub per-mille-is : (m a b from to size : ℕ) → from ≡ a → to ≡ b → a ≤ b → b - a < textLimit → size ≤ patternLimit → m ≤ lengthOf a b
+    → m ≤ size
     → perMilleNumber m (to - from + 1) size ≡ pos (perMille m (lengthOf a b) size)
 unfolding perMilleNumber isRefused lengthOf
 per-mille-is m a b from to size ea eb ordered short small in-length in-size =
@@ -125,7 +128,8 @@ module _ (z : ℤ) (fits : SFits w32 z) where
   abs-is n e = ap natAbs (toZ-ofZ fits ∙ e)
 
 -- the line by the numbers that the code has
-pub line-is : (places : List ℕ) (k size a b : ℕ) (score score′ : ℤ) (m first last per : ℕ) → first ≡ getD places a 0 → last ≡ getD places b 0 + k - 1
+pub line-is : (places : List ℕ) (k size a b : ℕ) (score score′ : ℤ) (m first last per : ℕ) → first ≡ getD places a 0
+    → last ≡ getD places b 0 + k - 1
     → score′ ≡ score → per ≡ perMille m (lengthOf a b) size
     → line first last score′ m per ≡ mappingLine places k size (record { a = a; b = b; score = score; m = m })
 unfolding mappingLine

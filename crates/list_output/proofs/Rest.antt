@@ -45,7 +45,8 @@ module _ (task : Task) where
       ∙ map-append (mappingOf task) (keep (isFinalCell task) first) (keep (isFinalCell task) (drop (q + n) (cellsOf task)))
 
   module _ (q B : ℕ) (among : q ≤ total task) where
-    handed : {answer : Answer} → ruleAnswer task q B ≡ answer → handedOut (answer ∷ []) ≡ finalsOf task (take (reported answer) (drop q (cellsOf task)))
+    handed : {answer : Answer} → ruleAnswer task q B ≡ answer
+        → handedOut (answer ∷ []) ≡ finalsOf task (take (reported answer) (drop q (cellsOf task)))
     handed e = subst (λ (a : Answer). handedOut (a ∷ []) ≡ finalsOf task (take (reported a) (drop q (cellsOf task)))) e
         (passing-list task (passing task q B among))
 
@@ -63,7 +64,8 @@ module _ (task : Task) where
         go (as-found _ _ p h k) = (p, k)
 
     -- finished: none is left
-    pub finished-next : (n : ℕ) → ruleAnswer task q B ≡ finished n → (finalsAfter task q ≡ []) × (q + n ≡ total task) × (finalsAfter task (q + n) ≡ [])
+    pub finished-next : (n : ℕ) → ruleAnswer task q B ≡ finished n
+        → (finalsAfter task q ≡ []) × (q + n ≡ total task) × (finalsAfter task (q + n) ≡ [])
     unfolding cellsOf
     finished-next n e = go (came e)
       where

@@ -46,7 +46,8 @@ isHeld places k size a b m =
 
 -- what `end_of` answers: 0 where the line's numbers do not hold it
 pub record EndOf (places : List ℕ) (k size a b end : ℕ) : Type 0 where
-  pub inside : 0 < end → (a ≤ b) × (b < length places) × (b - a < textLimit) × (size ≤ patternLimit) × (end ≤ wordLimit) × (end ≡ getD places b 0 + k)
+  pub inside : 0 < end
+      → (a ≤ b) × (b < length places) × (b - a < textLimit) × (size ≤ patternLimit) × (end ≤ wordLimit) × (end ≡ getD places b 0 + k)
   pub held : Holds places k size a b → end ≡ getD places b 0 + k
 
 -- what `put_mapping` leaves: the mapping's line where its numbers hold it, else nothing

@@ -104,7 +104,8 @@ fn put_mapping(
     mapping: Mapping,
 ) -> usize
     ensures { λ r.
-        ⌜ MappingWritten (now (positions .entry)) k size (mapping .a) (mapping .b) (mapping .score) (mapping .m) at (now (out .entry)) (now (out .exit)) r ⌝ }
+        ⌜ MappingWritten (now (positions .entry)) k size (mapping .a) (mapping .b) (mapping .score) (mapping .m) at (now (out .entry))
+        (now (out .exit)) r ⌝ }
 {
     let from = wide(mapping.a);
     let to = wide(mapping.b);

@@ -51,7 +51,8 @@ module _ (task : Task) where
       least-before zero before t B h = omega arith
       least-before (suc i) before t B h = t .least B (λ r c a b l. h r c (omega arith) b l)
 
-      same-column : (r c : ℕ) → c ≡ j → r ≤ i → c < hitCount task → (r ≡ i) ⊎ (r ≡ i → ⊥) → scoreAt r c ≤ max before (max own (scoreAt i j))
+      same-column : (r c : ℕ) → c ≡ j → r ≤ i → c < hitCount task → (r ≡ i) ⊎ (r ≡ i → ⊥)
+          → scoreAt r c ≤ max before (max own (scoreAt i j))
       same-column r c e a l (inl f) = rw (e, f) (omega arith)
       same-column r c e a l (inr n) = let d : scoreAt r c ≤ before = rows-before i before t r c (omega arith) (omega arith) l in omega arith
 
@@ -79,7 +80,8 @@ module _ (task : Task) where
   before-top best (suc i) j a b = b .passed-rows i (le-refl (suc i)) (omega arith)
 
   -- one more cell of the column
-  best-cell : (best : List ℕ) (i j : ℕ) → i ≤ j → j < hitCount task → j < length best → BestAt best i j → BestAt (withCell task best (cellAt i j)) (suc i) j
+  best-cell : (best : List ℕ) (i j : ℕ) → i ≤ j → j < hitCount task → j < length best → BestAt best i j
+      → BestAt (withCell task best (cellAt i j)) (suc i) j
   unfolding withCell leftEnd rightEnd scoreAt
   best-cell best i j a l n b = record { passed-rows = passed; other-rows = others }
     where

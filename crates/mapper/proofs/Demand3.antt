@@ -160,7 +160,8 @@ module _ (task : Task) (before : List ℕ) (a : Accepts task before) where
       (length-drop workWords (sessionWords task before q) ∙ ap (λ (n : ℕ). n - workWords) (holds .number) ∙ sym (length-drop workWords before))
       (λ i k.
       (getD-drop workWords (sessionWords task before q) i 0
-      ∙ holds .free-word (workWords + i) (beyond-free task (limits .few-hits) before workWords (omega arith) (limits .many-words) (workWords + i) (omega arith))
+      ∙ holds .free-word (workWords + i)
+      (beyond-free task (limits .few-hits) before workWords (omega arith) (limits .many-words) (workWords + i) (omega arith))
       ∙ sym (getD-drop workWords before i 0)))
 
   -- ---- any codes that start accepts

@@ -93,7 +93,8 @@ module _ (task : Task) (limited : Limited task) (threshold-fits : mag (task .thr
 
   -- a word that no block holds is as it was, wherever it lies
   free-back : (q : ℕ) (work part : List ℕ) → HoldsBlocks task before q work → length part ≡ partLength
-      → SameOutside task limited threshold-fits (partOf work) part → (n : ℕ) → Free (hitCount task) n → getD (withPart work part) n 0 ≡ getD work n 0
+      → SameOutside task limited threshold-fits (partOf work) part → (n : ℕ) → Free (hitCount task) n
+      → getD (withPart work part) n 0 ≡ getD work n 0
   free-back q work part h size same n f = go (ltb n indexFrom) refl (ltb n partEnd) refl
     where
       back-in : (k : ℕ) → n ≡ indexFrom + k → k < partLength → Outside bestFrom (hitCount task) n → getD (withPart work part) n 0 ≡ getD work n 0
@@ -118,7 +119,8 @@ module _ (task : Task) (limited : Limited task) (threshold-fits : mag (task .thr
       go false e false g =
           let low : partEnd ≤ n = ltb-false n partEnd g in
           let k : n ≡ partEnd + (n - partEnd) = omega arith in
-          ap (λ (i : ℕ). getD (withPart work part) i 0) k ∙ word-behind work part (many-of q work h) size (n - partEnd) ∙ ap (λ (i : ℕ). getD work i 0) (sym k)
+          ap (λ (i : ℕ). getD (withPart work part) i 0) k ∙ word-behind work part (many-of q work h) size (n - partEnd)
+          ∙ ap (λ (i : ℕ). getD work i 0) (sym k)
 
   pub part-blocks : (q q′ : ℕ) (work part : List ℕ) → HoldsBlocks task before q work → PartHolds task limited threshold-fits q′ part
       → SameOutside task limited threshold-fits (partOf work) part → HoldsBlocks task before q′ (withPart work part)
@@ -188,7 +190,8 @@ module _ (task : Task) (limited : Limited task) (threshold-fits : mag (task .thr
       free-word = λ n f. saved-behind work place cells n (f .heading-before) ∙ held .free-word n f;
     }
 
-    pub place-saved : q < wordLimit → getD work passedAt 0 + cells ≡ q → place .columns ≡ columnsLeft (hitCount task) q → place .row ≡ nextRow (hitCount task) q
+    pub place-saved : q < wordLimit → getD work passedAt 0 + cells ≡ q → place .columns ≡ columnsLeft (hitCount task) q
+        → place .row ≡ nextRow (hitCount task) q
         → place .m ≡ nextShared task (columnsLeft (hitCount task) q) (nextRow (hitCount task) q) → Holds task before q (saved work place cells)
     unfolding saved
     place-saved fits e ec er em = record {

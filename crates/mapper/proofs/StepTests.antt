@@ -49,7 +49,8 @@ module _ (work : List ℕ) (h : ℕ) (eh : h ≡ getD work hitsAt 0) where
                 lt-ltb weightLimit (getD work vAt 0) e,
               )
 
-          pub many-cells : getD work vAt 0 ≤ weightLimit → (passed : ℕ) → passed ≡ getD work passedAt 0 → ltb (h * (h + 1) / 2) passed ≡ badWords work
+          pub many-cells : getD work vAt 0 ≤ weightLimit → (passed : ℕ) → passed ≡ getD work passedAt 0
+              → ltb (h * (h + 1) / 2) passed ≡ badWords work
           unfolding badWords badWeights cellCount
           many-cells e passed f =
               rw (

@@ -45,7 +45,8 @@ kept-part work part l e = record {
     further : (xs ys : List ℕ) → drop partEnd xs ≡ drop partEnd ys → drop workWords xs ≡ drop workWords ys
     further xs ys e = sym (drop-drop (workWords - partEnd) partEnd xs) ∙ ap (drop (workWords - partEnd)) e ∙ drop-drop (workWords - partEnd) partEnd ys
 
-update-size : (terms : Terms) (j row m left : ℕ) (work : List ℕ) → workWords ≤ length work → length (columnUpdate terms j row m left work .part) ≡ partLength
+update-size : (terms : Terms) (j row m left : ℕ) (work : List ℕ) → workWords ≤ length work
+    → length (columnUpdate terms j row m left work .part) ≡ partLength
 unfolding columnUpdate partOf
 update-size terms j row m left work l =
     bounded (lineOf work terms j) (min left (suc j - row)) row m (seenBefore (partOf work) row) (partOf work) .size

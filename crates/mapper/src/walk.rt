@@ -41,7 +41,8 @@ fn finished(work: &mut [u32], place: Place, cells: usize) -> Stepped
 
 // The cell passed last, in the last of these columns, is a candidate: it is decided.
 fn found(work: &mut [u32], terms: Terms, columns: usize, p: Passed, cells: usize) -> Stepped
-    requires { ⌜ (workWords ≤ length (now work)) × (1 ≤ columns) × (columns ≤ hitLimit) × (1 ≤ p .row) × (p .row ≤ hitLimit) × (cells < wordLimit) ⌝ }
+    requires { ⌜ (workWords ≤ length (now work)) × (1 ≤ columns) × (columns ≤ hitLimit) × (1 ≤ p .row) × (p .row ≤ hitLimit)
+        × (cells < wordLimit) ⌝ }
     ensures { λ r. ⌜ r ≡ foundWalk terms (now (work .entry)) columns p cells .answer ⌝ }
     ensures { λ r. ⌜ now (work .exit) ≡ foundWalk terms (now (work .entry)) columns p cells .words ⌝ }
 {

@@ -43,7 +43,8 @@ figure1 = record {
 pub record MappingCases : Type 0 where
   pub case5 : answers (task (0 ∷ 3 ∷ 3 ∷ 1 ∷ []) (0 ∷ 1 ∷ []) (pos 0)) 0 (step 9 ∷ step 9 ∷ step 9 ∷ step 9 ∷ [])
       ≡ found (mapping 0 3 (pos 0) 2) 1 ∷ found (mapping 3 3 (pos 0) 1) 1 ∷ found (mapping 0 0 (pos 0) 1) 1 ∷ finished 0 ∷ []
-  pub case6 : answers (task (0 ∷ 1 ∷ 0 ∷ 2 ∷ []) (0 ∷ 1 ∷ 2 ∷ []) (pos 1)) 0 (step 99 ∷ step 99 ∷ []) ≡ found (mapping 1 3 (pos 3) 3) 2 ∷ finished 8 ∷ []
+  pub case6 : answers (task (0 ∷ 1 ∷ 0 ∷ 2 ∷ []) (0 ∷ 1 ∷ 2 ∷ []) (pos 1)) 0 (step 99 ∷ step 99 ∷ [])
+      ≡ found (mapping 1 3 (pos 3) 3) 2 ∷ finished 8 ∷ []
   pub case7 : answers (task (0 ∷ 1 ∷ 0 ∷ 2 ∷ []) (0 ∷ 1 ∷ 2 ∷ []) (pos 1)) 0 (step 0 ∷ step 1 ∷ step 5 ∷ step 8 ∷ [])
       ≡ spent 0 ∷ spent 1 ∷ found (mapping 1 3 (pos 3) 3) 1 ∷ finished 8 ∷ []
   pub case8 : answers figure1 0 (step 99 ∷ step 99 ∷ step 99 ∷ step 99 ∷ [])
@@ -62,11 +63,14 @@ mapping-cases = record { case5 = refl; case6 = refl; case7 = refl; case8 = refl;
 pub record MappingExamples : Type 0 where
   pub tied : answers (task (0 ∷ 0 ∷ 3 ∷ 1 ∷ []) (0 ∷ 1 ∷ []) (pos 0)) 0 (step 9 ∷ step 9 ∷ step 9 ∷ [])
       ≡ found (mapping 1 3 (pos 1) 2) 2 ∷ found (mapping 0 0 (pos 0) 1) 4 ∷ finished 0 ∷ []
-  pub wider : answers (taskWith (1 ∷ 1 ∷ 0 ∷ 3 ∷ []) (0 ∷ 1 ∷ []) 2 1 (pos 1)) 0 (step 9 ∷ step 9 ∷ []) ≡ found (mapping 1 2 (pos 4) 2) 2 ∷ finished 4 ∷ []
-  pub one-end : answers (task (0 ∷ 1 ∷ 1 ∷ []) (0 ∷ 1 ∷ []) (pos 0)) 0 (step 9 ∷ step 9 ∷ []) ≡ found (mapping 0 1 (pos 2) 2) 4 ∷ finished 2 ∷ []
+  pub wider : answers (taskWith (1 ∷ 1 ∷ 0 ∷ 3 ∷ []) (0 ∷ 1 ∷ []) 2 1 (pos 1)) 0 (step 9 ∷ step 9 ∷ [])
+      ≡ found (mapping 1 2 (pos 4) 2) 2 ∷ finished 4 ∷ []
+  pub one-end : answers (task (0 ∷ 1 ∷ 1 ∷ []) (0 ∷ 1 ∷ []) (pos 0)) 0 (step 9 ∷ step 9 ∷ [])
+      ≡ found (mapping 0 1 (pos 2) 2) 4 ∷ finished 2 ∷ []
   pub weights : answers (taskWith (0 ∷ 3 ∷ 2 ∷ 1 ∷ 0 ∷ []) (0 ∷ 1 ∷ []) 2 3 (negsuc 1)) 0 (step 9 ∷ step 9 ∷ step 9 ∷ step 9 ∷ [])
       ≡ found (mapping 3 4 (pos 4) 2) 2 ∷ found (mapping 0 3 (negsuc 1) 2) 2 ∷ found (mapping 0 0 (negsuc 0) 1) 2 ∷ finished 0 ∷ []
-  pub refusals : answers (task (0 ∷ 1 ∷ 0 ∷ 2 ∷ []) (0 ∷ 1 ∷ 2 ∷ []) (pos 1)) 0 (step 1 ∷ short 9 16383 ∷ step 5 ∷ short 8 0 ∷ step 8 ∷ step 0 ∷ [])
+  pub refusals : answers (task (0 ∷ 1 ∷ 0 ∷ 2 ∷ []) (0 ∷ 1 ∷ 2 ∷ []) (pos 1)) 0
+      (step 1 ∷ short 9 16383 ∷ step 5 ∷ short 8 0 ∷ step 8 ∷ step 0 ∷ [])
       ≡ spent 1 ∷ refused 10 ∷ found (mapping 1 3 (pos 3) 3) 1 ∷ refused 10 ∷ finished 8 ∷ finished 0 ∷ []
   pub found-first : answers (task (0 ∷ 1 ∷ 0 ∷ 2 ∷ []) (0 ∷ 1 ∷ 2 ∷ []) (pos 1)) 0 (step 2 ∷ step 7 ∷ step 1 ∷ [])
       ≡ found (mapping 1 3 (pos 3) 3) 2 ∷ spent 7 ∷ finished 1 ∷ []

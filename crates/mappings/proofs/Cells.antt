@@ -94,7 +94,8 @@ pub getD-cells : (h i j : ℕ) (d : Cell) → i ≤ j → j < h → getD (cells 
 getD-cells zero i j d l k = absurd (not-suc-le-zero k)
 getD-cells (suc h) i j d l k = go (λ q. getD-cells h i j d l q) (le-suc-iff .0 k)
   where
-    go : (j < h → getD (cells h) (place h i j) d ≡ cellAt i j) → (j < h) ⊎ (suc j ≡ suc h) → getD (cells (suc h)) (place (suc h) i j) d ≡ cellAt i j
+    go : (j < h → getD (cells h) (place h i j) d ≡ cellAt i j) → (j < h) ⊎ (suc j ≡ suc h)
+        → getD (cells (suc h)) (place (suc h) i j) d ≡ cellAt i j
     go rec (inl q) = ap (λ (n : ℕ). getD (cells (suc h)) n d) (place-later h i j q) ∙ cells-later h (place h i j) d ∙ rec q
     go rec (inr e) =
         let same : j ≡ h = omega arith in
@@ -205,11 +206,13 @@ hits-cell task a b l k hit-a hit-b =
       last .2,
     )
 
-pub final-cell : (task : Task) (a b : ℕ) → Final task a b → (cell : Cell) × List·Memᴰ cell (cellsOf task) × (leftEnd task cell ≡ a) × (rightEnd task cell ≡ b)
+pub final-cell : (task : Task) (a b : ℕ) → Final task a b
+    → (cell : Cell) × List·Memᴰ cell (cellsOf task) × (leftEnd task cell ≡ a) × (rightEnd task cell ≡ b)
 final-cell task a b f = hits-cell task a b (f .ordered) (f .within) (final-hit-left task a b f) (final-hit-right task a b f)
 
 -- different cells have different ends
-pub ends-once : (task : Task) {cell other : Cell} → List·Memᴰ cell (cellsOf task) → List·Memᴰ other (cellsOf task) → leftEnd task cell ≡ leftEnd task other
+pub ends-once : (task : Task) {cell other : Cell} → List·Memᴰ cell (cellsOf task) → List·Memᴰ other (cellsOf task)
+    → leftEnd task cell ≡ leftEnd task other
     → rightEnd task cell ≡ rightEnd task other → cell ≡ other
 unfolding cellsOf leftEnd rightEnd
 ends-once task {cell} {other} m n e f =

@@ -126,11 +126,13 @@ MaximalCell task i j =
     → j′ < hitCount task
     → AtMost (scoreOf task (getD (hits task) i′ 0) (getD (hits task) j′ 0)) (scoreOf task (getD (hits task) i 0) (getD (hits task) j 0))
 
-maximal-cell : (task : Task) (i j : ℕ) → i ≤ j → j < hitCount task → Maximal task (getD (hits task) i 0) (getD (hits task) j 0) → MaximalCell task i j
+maximal-cell : (task : Task) (i j : ℕ) → i ≤ j → j < hitCount task → Maximal task (getD (hits task) i 0) (getD (hits task) j 0)
+    → MaximalCell task i j
 maximal-cell task i j h k m i′ j′ p q l =
     m (getD (hits task) i′ 0) (getD (hits task) j′ 0) (hit-at-most task i′ i p (omega arith)) (hit-at-most task j j′ q l) (hit-within task j′ l)
 
-cell-maximal : (task : Task) (i j : ℕ) → i ≤ j → j < hitCount task → MaximalCell task i j → Maximal task (getD (hits task) i 0) (getD (hits task) j 0)
+cell-maximal : (task : Task) (i j : ℕ) → i ≤ j → j < hitCount task → MaximalCell task i j
+    → Maximal task (getD (hits task) i 0) (getD (hits task) j 0)
 unfolding AtMost scoreOf sharedOf
 cell-maximal task i j h k m c d p q l =
     let x : ℕ → ℕ = λ n. getD (hits task) n 0 in

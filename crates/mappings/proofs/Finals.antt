@@ -49,7 +49,8 @@ Different (cell ∷ rest) = (¬ List·Memᴰ cell rest) × Different rest
 different : (d : Cell) (l : List Cell) → ((n k : ℕ) → n < length l → k < length l → getD l n d ≡ getD l k d → n ≡ k) → Different l
 different d [] once = tt
 different d (cell ∷ rest) once = (
-  λ m. (let at = mem-getD d rest m in absurd (suc-ne-zero (at .0) (sym (once 0 (suc (at .0)) (zero-lt-suc (length rest)) (suc-le-suc (at .1)) (sym (at .2)))))),
+  λ m. (let at =
+      mem-getD d rest m in absurd (suc-ne-zero (at .0) (sym (once 0 (suc (at .0)) (zero-lt-suc (length rest)) (suc-le-suc (at .1)) (sym (at .2)))))),
   different d rest (λ n k l₁ l₂ e. suc-inj (once (suc n) (suc k) (suc-le-suc l₁) (suc-le-suc l₂) e)),
 )
 
@@ -79,7 +80,8 @@ mem-map f (List·Memᴰ·head e) = List·Memᴰ·head (ap f e)
 mem-map f (List·Memᴰ·tail m) = List·Memᴰ·tail (mem-map f m)
 
 -- different cells give different mappings
-map-once : (task : Task) (l : List Cell) → ((cell : Cell) → List·Memᴰ cell l → List·Memᴰ cell (cellsOf task)) → Different l → EachOnce (map (mappingOf task) l)
+map-once : (task : Task) (l : List Cell) → ((cell : Cell) → List·Memᴰ cell l → List·Memᴰ cell (cellsOf task)) → Different l
+    → EachOnce (map (mappingOf task) l)
 unfolding mappingOf
 map-once task [] part h = tt
 map-once task (cell ∷ rest) part h = (

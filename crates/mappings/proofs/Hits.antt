@@ -58,7 +58,8 @@ module _ (task : Task) where
   hit-in-pattern i h = hits-mem task (getD-mem 0 (hits task) i h) .1
 
   -- and each such index is a hit
-  pub hit-index : (x : ℕ) → x < length (task .text) → IsHit (task .pattern) (task .text) x → (i : ℕ) × (i < hitCount task) × (getD (hits task) i 0 ≡ x)
+  pub hit-index : (x : ℕ) → x < length (task .text) → IsHit (task .pattern) (task .text) x
+      → (i : ℕ) × (i < hitCount task) × (getD (hits task) i 0 ≡ x)
   unfolding hitCount isHit
   hit-index x h k =
       mem-getD 0 (hits task)

@@ -84,7 +84,8 @@ covers-distinct p = record {
   whole = λ y h. (let e : occ y (distinct p) ≡ min 1 (occ y p) = occ-distinct y p in omega arith);
 }
 
-covered-one-more : (l p s s′ : List ℕ) (x : ℕ) → Covers l p → OneMore x s s′ → sharedOver l p s′ ≡ bit (ltb (occ x s) (occ x p)) + sharedOver l p s
+covered-one-more : (l p s s′ : List ℕ) (x : ℕ) → Covers l p → OneMore x s s′
+    → sharedOver l p s′ ≡ bit (ltb (occ x s) (occ x p)) + sharedOver l p s
 covered-one-more l p s s′ x c h = over-one-more l p s s′ x h ∙ ap (λ (n : ℕ). n + sharedOver l p s) (go (ltb (occ x s) (occ x p)) refl)
   where
     go : (b : Bool) → ltb (occ x s) (occ x p) ≡ b → occ x l * bit b ≡ bit b

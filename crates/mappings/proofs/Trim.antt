@@ -69,7 +69,8 @@ module _ {S : Type 0} (atMost : S → S → Bool) (score : ℕ → ℕ → S) (l
       let l : suc d - c ≡ suc (suc d - suc c) = omega arith in
       rw (m, l) (laws .longer (shared p (interval t (suc c) d)) (suc d - suc c))
 
-  cut-right : (c d : ℕ) → c ≤ d → suc d < length t → occ (getD t (suc d) 0) p ≡ 0 → atMost (scoreAt score p t c (suc d)) (scoreAt score p t c d) ≡ true
+  cut-right : (c d : ℕ) → c ≤ d → suc d < length t → occ (getD t (suc d) 0) p ≡ 0
+      → atMost (scoreAt score p t c (suc d)) (scoreAt score p t c d) ≡ true
   unfolding lengthOf
   cut-right c d h k e =
       let m : shared p (interval t c (suc d)) ≡ shared p (interval t c d) =

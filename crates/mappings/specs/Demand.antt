@@ -81,6 +81,7 @@ pub record Demanded (task : Task) (steps : List Step) (given : List Answer) : Ty
   pub finishes : (n : ℕ) → n < length steps → Finished (answerAt given n)
       ↔ ((workWords ≤ stepAt steps n .lent) × (¬ Found (answerAt given n)) × (passedBefore given (suc n) ≡ cellCount (hitCount task)))
   -- then no final mapping is missing: each has been handed out by that step or one before it
-  pub complete : (n : ℕ) → n < length steps → Finished (answerAt given n) → (a b : ℕ) → Final task a b → Among (handedOut (take (suc n) given)) a b
+  pub complete : (n : ℕ) → n < length steps → Finished (answerAt given n) → (a b : ℕ) → Final task a b
+      → Among (handedOut (take (suc n) given)) a b
   -- once h(h + 1)/2 + 1 accepted steps have had budgets of at least 1, finished has been answered
   pub ends : cellCount (hitCount task) + 1 ≤ length (keep isAmple steps) → HasFinished steps given

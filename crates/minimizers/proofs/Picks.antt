@@ -59,7 +59,8 @@ module _ (ranks : ℕ → ℕ) where
   lowest-moved from to p is h = record { first = h; last = is .last; left = λ q a b. is .left q (omega arith) b; right = is .right }
 
   -- the lowest never moves left
-  lowest-mono : (from to p from′ to′ p′ : ℕ) → IsLowest ranks from to p → IsLowest ranks from′ to′ p′ → from ≤ from′ → to ≤ to′ → p ≤ p′
+  lowest-mono : (from to p from′ to′ p′ : ℕ) → IsLowest ranks from to p → IsLowest ranks from′ to′ p′ → from ≤ from′
+      → to ≤ to′ → p ≤ p′
   lowest-mono from to p from′ to′ p′ is is′ a b = go (ltb p′ p) refl
     where
       go : (l : Bool) → ltb p′ p ≡ l → p ≤ p′
@@ -70,14 +71,16 @@ module _ (ranks : ℕ → ℕ) where
           absurd (omega arith)
       go false l = ltb-false p′ p l
 
-  pub lowest-same : (ranks′ : ℕ → ℕ) (from to p : ℕ) → ((q : ℕ) → from ≤ q → q < to → ranks q ≡ ranks′ q) → IsLowest ranks from to p → IsLowest ranks′ from to p
+  pub lowest-same : (ranks′ : ℕ → ℕ) (from to p : ℕ) → ((q : ℕ) → from ≤ q → q < to → ranks q ≡ ranks′ q)
+      → IsLowest ranks from to p → IsLowest ranks′ from to p
   lowest-same ranks′ from to p same is =
       let at : ranks p ≡ ranks′ p = same p (is .first) (is .last) in
       record {
         first = is .first;
         last = is .last;
         left = λ q a b. subst (λ (x : ℕ). x ≤ ranks′ q) at (subst (λ (x : ℕ). ranks p ≤ x) (same q a (lt-trans b (is .last))) (is .left q a b));
-        right = λ q a b. subst (λ (x : ℕ). x < ranks′ q) at (subst (λ (x : ℕ). ranks p < x) (same q (le-trans (is .first) (le-of-lt a)) b) (is .right q a b));
+        right = λ q a b. subst (λ (x : ℕ). x < ranks′ q)
+            at (subst (λ (x : ℕ). ranks p < x) (same q (le-trans (is .first) (le-of-lt a)) b) (is .right q a b));
       }
 
   lowest-unique : (from to p p′ : ℕ) → IsLowest ranks from to p → IsLowest ranks from to p′ → p ≡ p′
@@ -95,7 +98,8 @@ keep-nothing (e ∷ es) = keep-nothing es
 module _ (k : ℕ) (letters : List ℕ) where
   -- what `lowest` finds from the k-mer at p on, where p is the lowest up to b, is the lowest of all
   lowest-onward : (from to n b p : ℕ) → b + n ≡ to → IsLowest (rankAt k letters) from b p
-      → (p′ : ℕ) × IsLowest (rankAt k letters) from to p′ × (lowest (entryAt k letters p) (map (entryAt k letters) (range b n)) ≡ entryAt k letters p′)
+      → (p′ : ℕ) × IsLowest (rankAt k letters) from to p′
+      × (lowest (entryAt k letters p) (map (entryAt k letters) (range b n)) ≡ entryAt k letters p′)
   unfolding lower rankAt
   lowest-onward from to zero b p h is = (p, subst (λ (x : ℕ). IsLowest (rankAt k letters) from x p) (sym (add-zero b) ∙ h) is, refl)
   lowest-onward from to (suc n) b p h is =
@@ -135,7 +139,8 @@ module _ (k : ℕ) (letters : List ℕ) where
   line-take (suc w) (suc n) a h = ap (λ (es : List Entry). entryAt k letters a ∷ es) (line-take w n (suc a) (omega arith))
 
   -- the window at i, and the later ones
-  neighbours-span : (w i to : ℕ) → 1 ≤ w → i + w ≤ to → neighbours w (span k letters i to) ≡ span k letters i (i + w) ∷ neighbours w (span k letters (suc i) to)
+  neighbours-span : (w i to : ℕ) → 1 ≤ w → i + w ≤ to
+      → neighbours w (span k letters i to) ≡ span k letters i (i + w) ∷ neighbours w (span k letters (suc i) to)
   neighbours-span w i to some h =
       let n : ℕ = to - suc i in
       let all : span k letters i to ≡ map (entryAt k letters) (range i (suc n)) = span-cons k letters i to (omega arith) in
@@ -236,7 +241,8 @@ module _ (k : ℕ) (letters : List ℕ) where
             (rw (le-ltb (suc (length (span k letters (suc from) to))) w (rw (line-length (suc from) (to - suc from)) (omega arith))) refl)
 
     -- the sketch of a run with fewer k-mers than w, which form one window
-    pub spanSketch-short : (from p : ℕ) → to < from + w → IsLowest (rankAt k letters) from to p → spanSketch k w letters from to ≡ entryAt k letters p ∷ []
+    pub spanSketch-short : (from p : ℕ) → to < from + w → IsLowest (rankAt k letters) from to p
+        → spanSketch k w letters from to ≡ entryAt k letters p ∷ []
     unfolding spanSketch pickedBy windows
     spanSketch-short from p h is =
         ap (λ (ws : List (List Entry)). keep (λ (e : Entry). any (picks (e .position)) ws) (span k letters from to)) one

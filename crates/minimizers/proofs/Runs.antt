@@ -28,7 +28,8 @@ run-within (a ∷ l) = go (isForeign a) (run-within l)
     go false h = omega arith
 
 -- the parts of a list: the one before the first foreign letter, and those behind that letter, where there is one
-parts-run : (l : List ℕ) → runLength l < length l → partsBetween isForeign l ≡ take (runLength l) l ∷ partsBetween isForeign (drop (suc (runLength l)) l)
+parts-run : (l : List ℕ) → runLength l < length l
+    → partsBetween isForeign l ≡ take (runLength l) l ∷ partsBetween isForeign (drop (suc (runLength l)) l)
 parts-run [] h = absurd (omega arith)
 parts-run (a ∷ l) h = go (isForeign a) (parts-run l) h
   where
@@ -87,7 +88,8 @@ sketchFrom-run k w at letters pos h = go (eq-or-lt-of-le (run-within l))
         ap (sketchRuns k w at) p
         ∙ ap₂ (λ (es : List Entry) (n : ℕ). es ++ sketchRuns k w n rs) (run-span k w at e letters pos within) next
 
-    go : (e ≡ length l) ⊎ (e < length l) → sketchFrom k w letters at ≡ spanSketch k w letters at (suc (at + e) - k) ++ sketchFrom k w letters (suc (at + e))
+    go : (e ≡ length l) ⊎ (e < length l)
+        → sketchFrom k w letters at ≡ spanSketch k w letters at (suc (at + e) - k) ++ sketchFrom k w letters (suc (at + e))
     go (inl p) =
         first [] (ap (map (map value)) (parts-last l p ∙ ap (λ (r : List ℕ). r ∷ []) (sym (take-all e l (omega arith)))))
         ∙ ap (λ (es : List Entry). spanSketch k w letters at (suc (at + e) - k) ++ es)
@@ -106,7 +108,8 @@ run-known : (l : List ℕ) (i : ℕ) → i < runLength l → isForeign (getD l i
 run-known [] i h = absurd (omega arith)
 run-known (a ∷ l) i h = go (isForeign a) refl i h (run-known l)
   where
-    go : (b : Bool) → isForeign a ≡ b → (i : ℕ) → i < cond b 0 (suc (runLength l)) → ((i : ℕ) → i < runLength l → isForeign (getD l i 0) ≡ false)
+    go : (b : Bool) → isForeign a ≡ b → (i : ℕ) → i < cond b 0 (suc (runLength l))
+        → ((i : ℕ) → i < runLength l → isForeign (getD l i 0) ≡ false)
         → isForeign (getD (a ∷ l) i 0) ≡ false
     go true e i h rec = absurd (omega arith)
     go false e zero h rec = e

@@ -35,7 +35,8 @@ zero-words (suc n) zero k = refl
 zero-words (suc n) (suc m) zero = refl
 zero-words (suc n) (suc m) (suc k) = zero-words n m k
 
-module _ (sorted slots : List ℕ) (begin : Begin sorted slots) (turns ring : List ℕ) (j slot turn : ℕ) (now : Ring sorted (wordsAt sorted slots) turns ring j)
+module _ (sorted slots : List ℕ) (begin : Begin sorted slots) (turns ring : List ℕ) (j slot turn : ℕ)
+    (now : Ring sorted (wordsAt sorted slots) turns ring j)
     (h : j < length slots) (e : slot ≡ getD slots j 0) (f : turn ≡ getD turns slot 0) where
   abbrev codes : List ℕ
   codes = wordsAt sorted slots
@@ -54,9 +55,11 @@ module _ (sorted slots : List ℕ) (begin : Begin sorted slots) (turns ring : Li
 
   pub finds-back : getD ring (slot + turn) 0 ≡ getD (backs sorted codes) j 0
   finds-back =
-      rw f (ring-back sorted codes (begin .in-order) (words-in sorted slots begin) turns ring j slot now within lower) ∙ sym (getD-backs sorted codes j within)
+      rw f (ring-back sorted codes (begin .in-order) (words-in sorted slots begin) turns ring j slot now within lower)
+      ∙ sym (getD-backs sorted codes j within)
 
-  pub links-more : (one : ℕ) → one ≡ oneAt sorted (slot + turn + 1) (getD sorted slot 0) → length turns ≡ length sorted → length ring ≡ length sorted
+  pub links-more : (one : ℕ) → one ≡ oneAt sorted (slot + turn + 1) (getD sorted slot 0) → length turns ≡ length sorted
+      → length ring ≡ length sorted
       → Ring sorted codes (set turns slot ((getD turns slot 0 + 1) * one)) (set ring (slot + turn) (j + 1)) (j + 1)
   links-more one o p q =
       rw (add-one j, o, f, ← code-is) (ring-more sorted codes (begin .in-order) (words-in sorted slots begin) turns ring j slot now within lower p q)

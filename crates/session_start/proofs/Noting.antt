@@ -70,7 +70,8 @@ module _ (text sorted : List ℕ) where
   }
 
   -- one entry more: a word that stands at its slot is a hit
-  pub noting-more : Sorted sorted → (index slots : List ℕ) (h i slot : ℕ) → Noting index slots h i → i < length text → LowerBound sorted (getD text i 0) slot
+  pub noting-more : Sorted sorted → (index slots : List ℕ) (h i slot : ℕ) → Noting index slots h i → i < length text
+      → LowerBound sorted (getD text i 0) slot
       → Noting (set index h i) (set slots h slot) (h + oneAt sorted slot (getD text i 0)) (i + 1)
   noting-more in-order index slots h i slot now l bound =
       rw (add-one i, ap (λ (n : ℕ). oneAt sorted n x) (let e : slot ≡ slot + 0 = omega arith in e), one-at-run sorted in-order x slot 0 bound)

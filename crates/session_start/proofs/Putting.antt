@@ -145,7 +145,8 @@ module _ (task : Task) where
     past₃ : (n : ℕ) → 10 ≤ n → Outside wholeFrom h n → Outside bestFrom h n → Outside reachFrom h n → getD w₆ n 0 ≡ getD w₂ n 0
     past₃ n l o₅ o₄ o = past₄ n l o₅ o₄ ∙ puts .put-reach .outside n (rw reach-long o)
 
-    past₂ : (n : ℕ) → 10 ≤ n → Outside wholeFrom h n → Outside bestFrom h n → Outside reachFrom h n → Outside indexFrom h n → getD w₆ n 0 ≡ getD w₁ n 0
+    past₂ : (n : ℕ) → 10 ≤ n → Outside wholeFrom h n → Outside bestFrom h n → Outside reachFrom h n → Outside indexFrom h n
+        → getD w₆ n 0 ≡ getD w₁ n 0
     past₂ n l o₅ o₄ o₃ o = past₃ n l o₅ o₄ o₃ ∙ puts .put-index .outside n (rw index-long o)
 
     free : (n : ℕ) → Free h n → getD w₆ n 0 ≡ getD old n 0

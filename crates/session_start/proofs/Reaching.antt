@@ -71,7 +71,8 @@ module _ (p g : List ℕ) where
 
   module _ (all : AllIn p g) where
     -- one hit more
-    told-more : (j : ℕ) (words : List ℕ) → j < length g → length words ≡ length g → Told p g j words → Told p g (suc j) (withPair (back p g j) j words)
+    told-more : (j : ℕ) (words : List ℕ) → j < length g → length words ≡ length g → Told p g j words
+        → Told p g (suc j) (withPair (back p g j) j words)
     unfolding Told
     told-more j words h n t i l = go (back p g j) refl
       where
@@ -117,14 +118,16 @@ module _ (p g noted : List ℕ) (e : noted ≡ backs p g) where
       told-none p g words
       (λ i l. ap (λ (w : List ℕ). getD w i 0) f ∙ getD-replicate n i (length noted) 0 (omega (arith, length-noted)) ∙ length-noted)
 
-  pub told-next : AllIn p g → (words next : List ℕ) (j b : ℕ) → j < length noted → length words ≡ length noted → b ≡ getD noted j 0 → next ≡ withPair b j words
+  pub told-next : AllIn p g → (words next : List ℕ) (j b : ℕ) → j < length noted → length words ≡ length noted → b ≡ getD noted j 0
+      → next ≡ withPair b j words
       → Told p g j words → Told p g (j + 1) next
   told-next all words next j b h n f w t =
       let l : j < length g = omega (arith, length-noted) in
       let same : b ≡ back p g j = f ∙ ap (λ (l : List ℕ). getD l j 0) e ∙ getD-backs p g j l in
       rw (add-one j, w, same) (told-more p g all j words l (omega (arith, length-noted)) t)
 
-  pub told-end : (words : List ℕ) (j : ℕ) → j ≤ length noted → length noted ≤ j → length words ≡ length noted → Told p g j words → words ≡ reaches p g
+  pub told-end : (words : List ℕ) (j : ℕ) → j ≤ length noted → length noted ≤ j → length words ≡ length noted → Told p g j words
+      → words ≡ reaches p g
   told-end words j h l n t =
       let end : j ≡ length g = omega (arith, length-noted) in
       told-all p g words (omega (arith, length-noted)) (rw end at t)
@@ -153,7 +156,8 @@ module _ (p g : List ℕ) (all : AllIn p g) where
 
   pub whole-zeros : (j : ℕ) → j < length g → occ 0 (take (suc j) (backs p g)) ≡ whole p g j
   whole-zeros zero h = one-more 0 h ∙ (let e : 0 + bit (eqb (back p g 0) 0) ≡ bit (eqb (back p g 0) 0) = omega arith in e) ∙ sym (whole-first p g all h)
-  whole-zeros (suc j) h = one-more (suc j) h ∙ ap (λ (n : ℕ). n + bit (eqb (back p g (suc j)) 0)) (whole-zeros j (omega arith)) ∙ sym (whole-suc p g all j h)
+  whole-zeros (suc j) h = one-more (suc j) h ∙ ap (λ (n : ℕ). n + bit (eqb (back p g (suc j)) 0)) (whole-zeros j (omega arith))
+      ∙ sym (whole-suc p g all j h)
 
 -- one word more
 pub count-more : (words : List ℕ) (j m r : ℕ) → j < length words → m ≡ occ 0 (take j words) → r ≡ bit (eqb 0 (getD words j 0))

@@ -13,7 +13,8 @@ use Rattle.session_start.specs.Start.{badWeights, startReply, startWords
 use Rattle.session_start.specs.Noting.{hitReply}
 
 -- the words that go with the answer
-pub words-of : (task : Task) (before : List ℕ) (reply : Reply) → reply ≡ startReply task (length before) → afterStart reply task before ≡ startWords task before
+pub words-of : (task : Task) (before : List ℕ) (reply : Reply) → reply ≡ startReply task (length before)
+    → afterStart reply task before ≡ startWords task before
 unfolding startWords
 words-of task before reply e = ap (λ (r : Reply). afterStart r task before) e
 

@@ -55,9 +55,11 @@ module _ (sorted : List ℕ) (in-order : Sorted sorted) where
       go false e false f = refl
 
   -- places of different words differ
-  same-place : (x y s t i k : ℕ) → LowerBound sorted x s → LowerBound sorted y t → i < occ x sorted → k < occ y sorted → s + i ≡ t + k → (x ≡ y) × (i ≡ k)
+  same-place : (x y s t i k : ℕ) → LowerBound sorted x s → LowerBound sorted y t → i < occ x sorted → k < occ y sorted → s + i ≡ t + k
+      → (x ≡ y) × (i ≡ k)
   same-place x y s t i k l m h j e =
-      let same : x ≡ y = sym (lower-bound-at sorted in-order x s l i h) ∙ ap (λ (n : ℕ). getD sorted n 0) e ∙ lower-bound-at sorted in-order y t m k j in
+      let same : x ≡ y = sym (lower-bound-at sorted in-order x s l i h) ∙ ap (λ (n : ℕ). getD sorted n 0) e
+      ∙ lower-bound-at sorted in-order y t m k j in
       let n : s ≡ t = lower-bound-unique sorted x s t l (subst (λ (z : ℕ). LowerBound sorted z t) (sym same) m) in
       (same, omega arith)
 
@@ -181,7 +183,8 @@ module _ (sorted g : List ℕ) where
               ∙ now .turn x t l h
               ∙ ap (λ (k : ℕ). k % occ x sorted) (sym (before-other x n))
 
-      kept-after : (i t : ℕ) → i < suc j → LowerBound sorted (getD g i 0) t → before g (getD g i 0) (suc j) ≤ before g (getD g i 0) i + occ (getD g i 0) sorted
+      kept-after : (i t : ℕ) → i < suc j → LowerBound sorted (getD g i 0) t
+          → before g (getD g i 0) (suc j) ≤ before g (getD g i 0) i + occ (getD g i 0) sorted
           → getD (set ring (s + getD turns s 0) (suc j)) (t + before g (getD g i 0) i % occ (getD g i 0) sorted) 0 ≡ suc i
       kept-after i t h l m = go (eq-or-ne i j)
         where
@@ -211,7 +214,8 @@ module _ (sorted g : List ℕ) where
                   same-rest (before g (getD g i 0) i) (before g (getD g i 0) j) (occ (getD g i 0) sorted) rest less in
                   omega arith
 
-      free-after : (x t r : ℕ) → LowerBound sorted x t → before g x (suc j) ≤ r → r < occ x sorted → getD (set ring (s + getD turns s 0) (suc j)) (t + r) 0 ≡ 0
+      free-after : (x t r : ℕ) → LowerBound sorted x t → before g x (suc j) ≤ r → r < occ x sorted
+          → getD (set ring (s + getD turns s 0) (suc j)) (t + r) 0 ≡ 0
       free-after x t r l h k =
           getD-set-other ring (s + getD turns s 0) (t + r) (suc j) 0
           (λ e. apart (same-place sorted in-order x code t s r (getD turns s 0) l lower k turn-less e))

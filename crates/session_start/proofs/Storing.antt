@@ -16,7 +16,8 @@ Stored at block old i now = sets now (at + i) (drop i block) ≡ sets old at blo
 pub stored-none : (at : ℕ) (block old : List ℕ) → Stored at block old 0 old
 stored-none at block old = ap (λ (n : ℕ). sets old n block) (add-zero at)
 
-pub stored-more : (at : ℕ) (block old : List ℕ) (i : ℕ) (now : List ℕ) (v : ℕ) → Stored at block old i now → i < length block → v ≡ getD block i 0
+pub stored-more : (at : ℕ) (block old : List ℕ) (i : ℕ) (now : List ℕ) (v : ℕ) → Stored at block old i now → i < length block
+    → v ≡ getD block i 0
     → Stored at block old (i + 1) (set now (at + i) v)
 stored-more at block old i now v s h e =
     let next : at + (i + 1) ≡ suc (at + i) = omega arith in
@@ -26,7 +27,8 @@ pub stored-all : (at : ℕ) (block old : List ℕ) (i : ℕ) (now : List ℕ) �
 stored-all at block old i now s h = sym (ap (sets now (at + i)) (drop-of-length-le block h)) ∙ s
 
 -- what stands before the block, the block, and what stands behind it
-pub store-is : (at : ℕ) (block old : List ℕ) → at + length block ≤ length old → sets old at block ≡ take at old ++ (block ++ drop (at + length block) old)
+pub store-is : (at : ℕ) (block old : List ℕ) → at + length block ≤ length old
+    → sets old at block ≡ take at old ++ (block ++ drop (at + length block) old)
 store-is at block old l = sets-eq block old at l ∙ append-assoc (take at old) block (drop (at + length block) old)
 
 -- a block that is as long as the words are

@@ -48,7 +48,8 @@ module _ (f : ℕ → Bool) where
   first-before a zero k h l = absurd (omega arith)
   first-before a (suc n) k h l = go (f a) refl l (λ q r. first-before (suc a) n k q r) (eq-or-ne a k)
     where
-      go : (b : Bool) → f a ≡ b → k < cond b a (firstFrom f (suc a) n) → (suc a ≤ k → k < firstFrom f (suc a) n → f k ≡ false) → (a ≡ k) ⊎ (a ≡ k → ⊥)
+      go : (b : Bool) → f a ≡ b → k < cond b a (firstFrom f (suc a) n) → (suc a ≤ k → k < firstFrom f (suc a) n → f k ≡ false)
+          → (a ≡ k) ⊎ (a ≡ k → ⊥)
           → f k ≡ false
       go true e m rec s = absurd (omega arith)
       go false e m rec (inl s) = ap f (sym s) ∙ e
@@ -59,13 +60,15 @@ module _ (f : ℕ → Bool) where
   first-passes a zero h = absurd (omega arith)
   first-passes a (suc n) h = go (f a) refl h (λ q. first-passes (suc a) n q)
     where
-      go : (b : Bool) → f a ≡ b → cond b a (firstFrom f (suc a) n) < a + suc n → (firstFrom f (suc a) n < suc a + n → f (firstFrom f (suc a) n) ≡ true)
+      go : (b : Bool) → f a ≡ b → cond b a (firstFrom f (suc a) n) < a + suc n
+          → (firstFrom f (suc a) n < suc a + n → f (firstFrom f (suc a) n) ≡ true)
           → f (cond b a (firstFrom f (suc a) n)) ≡ true
       go true e m rec = e
       go false e m rec = rec (omega arith)
 
   -- it is the only such number
-  first-is : (a n k : ℕ) → a ≤ k → k ≤ a + n → ((i : ℕ) → a ≤ i → i < k → f i ≡ false) → (k < a + n → f k ≡ true) → firstFrom f a n ≡ k
+  first-is : (a n k : ℕ) → a ≤ k → k ≤ a + n → ((i : ℕ) → a ≤ i → i < k → f i ≡ false) → (k < a + n → f k ≡ true)
+      → firstFrom f a n ≡ k
   first-is a n k h l none some = go (ltb (firstFrom f a n) k) refl (ltb k (firstFrom f a n)) refl
     where
       go : (b : Bool) → ltb (firstFrom f a n) k ≡ b → (c : Bool) → ltb k (firstFrom f a n) ≡ c → firstFrom f a n ≡ k
@@ -160,11 +163,13 @@ module _ (p g : List ℕ) where
           let t : ltb (occ (getD g i 0) p) (occ (getD g i 0) (interval g i j)) ≡ false =
           first-before (λ (y : ℕ). ltb (occ (getD g i 0) p) (occ (getD g i 0) (interval g i y))) i (length g - i) j (omega arith) l in
           let u : occ (getD g i 0) (interval g i j) ≤ occ (getD g i 0) p = ltb-false (occ (getD g i 0) p) (occ (getD g i 0) (interval g i j)) t in
-          let e : before g (getD g i 0) i + occ (getD g i 0) (interval g i j) ≡ before g (getD g i 0) (suc j) = occ-interval g (getD g i 0) i j (omega arith) in
+          let e : before g (getD g i 0) i + occ (getD g i 0) (interval g i j) ≡ before g (getD g i 0) (suc j) =
+          occ-interval g (getD g i 0) i j (omega arith) in
           omega arith
 
   -- from it on more often
-  reach-high : (i : ℕ) → i < length g → reach p g i < length g → before g (getD g i 0) i + occ (getD g i 0) p < before g (getD g i 0) (suc (reach p g i))
+  reach-high : (i : ℕ) → i < length g → reach p g i < length g
+      → before g (getD g i 0) i + occ (getD g i 0) p < before g (getD g i 0) (suc (reach p g i))
   unfolding reach
   reach-high i h l =
       let t : ltb (occ (getD g i 0) p) (occ (getD g i 0) (interval g i (reach p g i))) ≡ true =

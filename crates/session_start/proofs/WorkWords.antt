@@ -21,7 +21,8 @@ use Rattle.mappings.specs.HitCodes.{hitCodes}
 use Rattle.session_words.specs.FirstWords.{hitsAt, uAt, vAt, passedAt}
 use Rattle.session_words.specs.Layout.{kindAt, sizeAt, thresholdAt, columnsAt, rowAt, mAt, backFrom, indexFrom, reachFrom, bestFrom, wholeFrom}
 use Rattle.session_start.specs.Tables.{reach, back, whole}
-use Rattle.session_start.specs.WorkWords.{columnsLeft, nextRow, nextShared, withCell, withCells, bestAfter, heading, Block, blocks, wordIn, sessionWords}
+use Rattle.session_start.specs.WorkWords.{columnsLeft, nextRow, nextShared, withCell, withCells, bestAfter, heading, Block, blocks, wordIn}
+use Rattle.session_start.specs.WorkWords.{sessionWords}
 
 -- index n lies outside the n words of a block that begins here
 abbrev pub Outside : ℕ → ℕ → ℕ → Type 0
@@ -132,13 +133,16 @@ module _ (task : Task) (q : ℕ) where
     past₀ = out-block block₀ (block₁ ∷ block₂ ∷ block₃ ∷ block₄ ∷ block₅ ∷ []) old n 10 refl (inr low)
 
     past₁ : Outside backFrom h n → wordIn (blocks task q) old n ≡ wordIn (block₂ ∷ block₃ ∷ block₄ ∷ block₅ ∷ []) old n
-    past₁ o = past₀ ∙ out-block block₁ (block₂ ∷ block₃ ∷ block₄ ∷ block₅ ∷ []) old n h (length-table (back (task .pattern) (hitCodes task)) h) o
+    past₁ o = past₀
+        ∙ out-block block₁ (block₂ ∷ block₃ ∷ block₄ ∷ block₅ ∷ []) old n h (length-table (back (task .pattern) (hitCodes task)) h) o
 
     past₂ : Outside backFrom h n → Outside indexFrom h n → wordIn (blocks task q) old n ≡ wordIn (block₃ ∷ block₄ ∷ block₅ ∷ []) old n
     past₂ o₁ o = past₁ o₁ ∙ out-block block₂ (block₃ ∷ block₄ ∷ block₅ ∷ []) old n h hits-number o
 
-    past₃ : Outside backFrom h n → Outside indexFrom h n → Outside reachFrom h n → wordIn (blocks task q) old n ≡ wordIn (block₄ ∷ block₅ ∷ []) old n
-    past₃ o₁ o₂ o = past₂ o₁ o₂ ∙ out-block block₃ (block₄ ∷ block₅ ∷ []) old n h (length-table (reach (task .pattern) (hitCodes task)) h) o
+    past₃ : Outside backFrom h n → Outside indexFrom h n → Outside reachFrom h n
+        → wordIn (blocks task q) old n ≡ wordIn (block₄ ∷ block₅ ∷ []) old n
+    past₃ o₁ o₂ o = past₂ o₁ o₂
+        ∙ out-block block₃ (block₄ ∷ block₅ ∷ []) old n h (length-table (reach (task .pattern) (hitCodes task)) h) o
 
     past₄ : Outside backFrom h n → Outside indexFrom h n → Outside reachFrom h n → Outside bestFrom h n
         → wordIn (blocks task q) old n ≡ wordIn (block₅ ∷ []) old n
@@ -173,7 +177,8 @@ module _ (task : Task) (q : ℕ) where
     at-reach : (i : ℕ) → i < h → wordIn (blocks task q) old (reachFrom + i) ≡ reach (task .pattern) (hitCodes task) i
     at-reach i l =
         past₂ old (reachFrom + i) (omega arith) (inr (omega arith)) (inr (omega arith))
-        ∙ in-block block₃ (block₄ ∷ block₅ ∷ []) old (reachFrom + i) (omega arith) (rw (length-table (reach (task .pattern) (hitCodes task)) h) (omega arith))
+        ∙ in-block block₃ (block₄ ∷ block₅ ∷ []) old (reachFrom + i) (omega arith)
+        (rw (length-table (reach (task .pattern) (hitCodes task)) h) (omega arith))
         ∙ (let e : reachFrom + i - reachFrom ≡ i = omega arith in ap (λ (k : ℕ). getD (block₃ .holds) k 0) e)
         ∙ getD-table (reach (task .pattern) (hitCodes task)) h i l
 
@@ -285,11 +290,13 @@ module _ (task : Task) (before : List ℕ) (q : ℕ) (small : hitCount task ≤ 
             → getD work n 0 ≡ getD (sessionWords task before q) n 0
         fifth low o₁ o₂ o₃ o₄ (inl at) = in-both wholeFrom (λ i l. held .held .whole-word i l ∙ sym (blocks-of .whole-word i l)) n at
         fifth low o₁ o₂ o₃ o₄ (inr o₅) =
-            let f : Free (hitCount task) n = record { heading-before = low; no-back = o₁; no-index = o₂; no-reach = o₃; no-best = o₄; no-whole = o₅ } in
+            let f : Free (hitCount task) n =
+            record { heading-before = low; no-back = o₁; no-index = o₂; no-reach = o₃; no-best = o₄; no-whole = o₅ } in
             held .held .free-word n f ∙ sym (blocks-of .free-word n f)
 
         fourth : 10 ≤ n → Outside backFrom (hitCount task) n → Outside indexFrom (hitCount task) n → Outside reachFrom (hitCount task) n
-            → ((i : ℕ) × (i < hitCount task) × (n ≡ bestFrom + i)) ⊎ Outside bestFrom (hitCount task) n → getD work n 0 ≡ getD (sessionWords task before q) n 0
+            → ((i : ℕ) × (i < hitCount task) × (n ≡ bestFrom + i)) ⊎ Outside bestFrom (hitCount task) n
+            → getD work n 0 ≡ getD (sessionWords task before q) n 0
         fourth low o₁ o₂ o₃ (inl at) = in-both bestFrom (λ i l. held .held .best-word i l ∙ sym (blocks-of .best-word i l)) n at
         fourth low o₁ o₂ o₃ (inr o₄) = fifth low o₁ o₂ o₃ o₄ (where-is wholeFrom n)
 
@@ -299,7 +306,8 @@ module _ (task : Task) (before : List ℕ) (q : ℕ) (small : hitCount task ≤ 
         third low o₁ o₂ (inl at) = in-both reachFrom (λ i l. held .held .reach-word i l ∙ sym (blocks-of .reach-word i l)) n at
         third low o₁ o₂ (inr o₃) = fourth low o₁ o₂ o₃ (where-is bestFrom n)
 
-        second : 10 ≤ n → Outside backFrom (hitCount task) n → ((i : ℕ) × (i < hitCount task) × (n ≡ indexFrom + i)) ⊎ Outside indexFrom (hitCount task) n
+        second : 10 ≤ n → Outside backFrom (hitCount task) n
+            → ((i : ℕ) × (i < hitCount task) × (n ≡ indexFrom + i)) ⊎ Outside indexFrom (hitCount task) n
             → getD work n 0 ≡ getD (sessionWords task before q) n 0
         second low o₁ (inl at) = in-both indexFrom (λ i l. held .held .index-word i l ∙ sym (blocks-of .index-word i l)) n at
         second low o₁ (inr o₂) = third low o₁ o₂ (where-is reachFrom n)
@@ -353,7 +361,8 @@ module _ (task : Task) (small : hitCount task ≤ hitLimit) (before : List ℕ) 
       let n : length (sessionWords task before q) ≡ length before = session-number task before q small (omega arith) in
       let n′ : length (sessionWords task before q′) ≡ length before = session-number task before q′ small (omega arith) in
       ext-getD 0 (drop lent (sessionWords task before q)) (drop lent (sessionWords task before q′))
-      (length-drop lent (sessionWords task before q) ∙ ap (λ (m : ℕ). m - lent) (n ∙ sym n′) ∙ sym (length-drop lent (sessionWords task before q′)))
+      (length-drop lent (sessionWords task before q) ∙ ap (λ (m : ℕ). m - lent) (n ∙ sym n′)
+      ∙ sym (length-drop lent (sessionWords task before q′)))
       (λ i k.
       (let f = beyond-free (lent + i) (omega arith) in
       getD-drop lent (sessionWords task before q) i 0

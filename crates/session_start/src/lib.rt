@@ -90,7 +90,8 @@ fn put_session(
     requires { ⌜ (length (now sorted) ≤ patternLimit) × (length (now index) ≤ hitLimit) × (length (now slots) ≡ length (now index))
         × (workWords ≤ length (now work)) ⌝ }
     ensures { λ _. ⌜ ((task : Task) → Prepared task u v (length (now (sorted .entry))) threshold (now (index .entry))
-        (backsOf (now (sorted .entry)) (wordsAt (now (sorted .entry)) (now (slots .entry)))) → now (work .exit) ≡ sessionWords task (now (work .entry)) 0) ⌝ }
+        (backsOf (now (sorted .entry)) (wordsAt (now (sorted .entry)) (now (slots .entry))))
+        → now (work .exit) ≡ sessionWords task (now (work .entry)) 0) ⌝ }
 {
     let h = slots.len();
     let mut backs = zeros_2048();
@@ -143,7 +144,8 @@ fn begin_sorted(
 fn begin(text: &[u32], pattern: &[u32], u: u32, v: u32, threshold: i32, work: &mut [u32]) -> Started
     requires { ⌜ (length (now text) ≤ textLimit) × (length (now pattern) ≤ patternLimit) × (workWords ≤ length (now work)) ⌝ }
     ensures { λ r. ⌜ startedReply r ≡ hitReply (taskWith (now (text .entry)) (now (pattern .entry)) u v threshold) ⌝ }
-    ensures { λ r. ⌜ now (work .exit) ≡ afterStart (startedReply r) (taskWith (now (text .entry)) (now (pattern .entry)) u v threshold) (now (work .entry)) ⌝ }
+    ensures { λ r.
+        ⌜ now (work .exit) ≡ afterStart (startedReply r) (taskWith (now (text .entry)) (now (pattern .entry)) u v threshold) (now (work .entry)) ⌝ }
 {
     let n = pattern.len();
     let mut sorted = zeros_4096();

@@ -77,7 +77,9 @@ fn put_pairs(backs: &[u32], reach: &mut [u32])
 pub(crate) fn put_reach(backs: &[u32], work: &mut [u32])
     requires { ⌜ (length (now backs) ≤ hitLimit) × (workWords ≤ length (now work)) ⌝ }
     requires { ⌜ ((k : ℕ) → k < length (now backs) → getD (now backs) k 0 ≤ k) ⌝ }
-    ensures { λ _. ⌜ ((p g : List ℕ) → AllIn p g → now (backs .entry) ≡ backsOf p g → now (work .exit) ≡ sets (now (work .entry)) reachFrom (reaches p g)) ⌝ }
+    ensures { λ _.
+        ⌜ ((p g : List ℕ) → AllIn p g → now (backs .entry) ≡ backsOf p g
+        → now (work .exit) ≡ sets (now (work .entry)) reachFrom (reaches p g)) ⌝ }
 {
     put_pairs(backs, &mut work[REACH..REACH + backs.len()]);
 }

@@ -28,11 +28,13 @@ module _ (k w : ℕ) (letters : List ℕ) (rest : Reply) where
   unfolding checkedLetters
   checked-w h i = rw (h, i)
 
-  pub checked-many : outside 1 kLimit k ≡ false → outside 1 wLimit w ≡ false → letterLimit < length letters → checkedLetters k w letters rest ≡ refused 3 []
+  pub checked-many : outside 1 kLimit k ≡ false → outside 1 wLimit w ≡ false → letterLimit < length letters
+      → checkedLetters k w letters rest ≡ refused 3 []
   unfolding checkedLetters
   checked-many h i l = rw (h, i, lt-ltb letterLimit (length letters) l)
 
-  pub checked-all : outside 1 kLimit k ≡ false → outside 1 wLimit w ≡ false → length letters ≤ letterLimit → checkedLetters k w letters rest ≡ rest
+  pub checked-all : outside 1 kLimit k ≡ false → outside 1 wLimit w ≡ false → length letters ≤ letterLimit
+      → checkedLetters k w letters rest ≡ rest
   unfolding checkedLetters
   checked-all h i l = rw (h, i, le-ltb letterLimit (length letters) l)
 

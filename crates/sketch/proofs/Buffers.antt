@@ -45,7 +45,8 @@ pour-all room n (x ∷ xs) buffer h l =
     (pour-all room (suc n) xs there (omega arith) (rw (length-set buffer n x) l)
     ∙ ap (λ (r : List ℕ). r ++ xs ++ drop (suc n + length xs) there) (take-suc-set buffer n x room-here)
     ∙ ap (λ (r : List ℕ). r ++ drop (suc n + length xs) there) (append-assoc (take n buffer) (x ∷ []) xs)
-    ∙ ap (λ (r : List ℕ). take n buffer ++ x ∷ xs ++ r) (drop-set-lt (suc n + length xs) buffer n x (omega arith) ∙ ap (λ (m : ℕ). drop m buffer) count))
+    ∙ ap (λ (r : List ℕ). take n buffer ++ x ∷ xs ++ r)
+    (drop-set-lt (suc n + length xs) buffer n x (omega arith) ∙ ap (λ (m : ℕ). drop m buffer) count))
 
 pour-start : (room : ℕ) (xs buffer : List ℕ) → length xs ≤ room → room ≤ length buffer → pour room 0 xs buffer ≡ over xs buffer
 pour-start room xs buffer h l = pour-all room 0 xs buffer (omega arith) l ∙ ap (λ (m : ℕ). xs ++ drop m buffer) (zero-add (length xs))

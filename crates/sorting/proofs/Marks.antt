@@ -6,7 +6,8 @@ use native.Mathlib.Omega.{arith}
 use native.Mathlib.Numerals.{add-one}
 use mathlib.Core.Path.{_≡_, refl, sym, ap, _∙_, subst}
 use mathlib.Core.Logic.{_⊎_, inl, inr, _≢_}
-use mathlib.Core.List.{List, [], _∷_, _++_, map, map-id, List·Memᴰ, List·Memᴰ·head, List·Memᴰ·tail, List·Memᴰ·cases-cons, List·Memᴰ·not-nil}
+use mathlib.Core.List.{List, [], _∷_, _++_, map, map-id, List·Memᴰ, List·Memᴰ·head, List·Memᴰ·tail, List·Memᴰ·cases-cons}
+use mathlib.Core.List.{List·Memᴰ·not-nil}
 use lib.Dec.{leb}
 use lib.ListN.{length, getD, set, take, drop, length-set, length-map, take-append-drop, drop-of-length-le, List·getD-map}
 use lib.Seq.{slice, slice-cons, slice-empty, getD-set-same, getD-set-other, getD-take, getD-drop, length-slice, length-take-le, drop-append-le, ext-getD}
@@ -28,7 +29,8 @@ mem-at : {x : ℕ} (l : List ℕ) → List·Memᴰ x l → (i : ℕ) × (i < len
 mem-at [] m = absurd (List·Memᴰ·not-nil m)
 mem-at {x} (y ∷ ys) m = go (mem-at ys) (List·Memᴰ·cases-cons m)
   where
-    go : (List·Memᴰ x ys → (i : ℕ) × (i < length ys) × (x ≡ getD ys i 0)) → (x ≡ y) ⊎ List·Memᴰ x ys → (i : ℕ) × (i < length (y ∷ ys)) × (x ≡ getD (y ∷ ys) i 0)
+    go : (List·Memᴰ x ys → (i : ℕ) × (i < length ys) × (x ≡ getD ys i 0)) → (x ≡ y) ⊎ List·Memᴰ x ys
+        → (i : ℕ) × (i < length (y ∷ ys)) × (x ≡ getD (y ∷ ys) i 0)
     go rec (inl e) = (0, omega arith, e)
     go rec (inr m′) = let r = rec m′ in (suc (r .0), (let h : r .0 < length ys = r .1 in omega arith), r .2)
 
@@ -58,7 +60,8 @@ marked-append : (f : ℕ → ℕ) (l r marks : List ℕ) → markedBy f (l ++ r)
 marked-append f [] r marks = refl
 marked-append f (key ∷ l) r marks = marked-append f l r (set marks (indexOf key) (f key))
 
-marked-same : (f g : ℕ → ℕ) (keys marks : List ℕ) → ((key : ℕ) → List·Memᴰ key keys → f key ≡ g key) → markedBy f keys marks ≡ markedBy g keys marks
+marked-same : (f g : ℕ → ℕ) (keys marks : List ℕ) → ((key : ℕ) → List·Memᴰ key keys → f key ≡ g key)
+    → markedBy f keys marks ≡ markedBy g keys marks
 marked-same f g [] marks h = refl
 marked-same f g (key ∷ keys) marks h =
     ap (λ (x : ℕ). markedBy f keys (set marks (indexOf key) x)) (h key (List·Memᴰ·head refl))
@@ -66,7 +69,8 @@ marked-same f g (key ∷ keys) marks h =
 
 module _ (f at : ℕ → ℕ) where
   -- where the mark is a function of the index, what is right stays right
-  marked-kept : (keys marks : List ℕ) → ((key : ℕ) → List·Memᴰ key keys → f key ≡ at (indexOf key)) → (i : ℕ) → i < length marks → getD marks i 0 ≡ at i
+  marked-kept : (keys marks : List ℕ) → ((key : ℕ) → List·Memᴰ key keys → f key ≡ at (indexOf key)) → (i : ℕ) → i < length marks
+      → getD marks i 0 ≡ at i
       → getD (markedBy f keys marks) i 0 ≡ at i
   marked-kept [] marks h i l e = e
   marked-kept (key ∷ keys) marks h i l e =
@@ -77,7 +81,8 @@ module _ (f at : ℕ → ℕ) where
       go (inl p) = rw p (getD-set-same marks (indexOf key) (f key) 0 (rw (← p) l) ∙ h key (List·Memᴰ·head refl))
       go (inr n) = getD-set-other marks (indexOf key) i (f key) 0 n ∙ e
 
-  marked-at : (keys marks : List ℕ) → ((key : ℕ) → List·Memᴰ key keys → f key ≡ at (indexOf key)) → (k : ℕ) → List·Memᴰ k keys → indexOf k < length marks
+  marked-at : (keys marks : List ℕ) → ((key : ℕ) → List·Memᴰ key keys → f key ≡ at (indexOf key)) → (k : ℕ) → List·Memᴰ k keys
+      → indexOf k < length marks
       → getD (markedBy f keys marks) (indexOf k) 0 ≡ at (indexOf k)
   marked-at [] marks h k m l = absurd (List·Memᴰ·not-nil m)
   marked-at (key ∷ keys) marks h k m l =
@@ -89,7 +94,8 @@ module _ (f at : ℕ → ℕ) where
       within : indexOf k < length next
       within = rw (length-set marks (indexOf key) (f key)) l
 
-      go : (List·Memᴰ k keys → indexOf k < length next → getD (markedBy f keys next) (indexOf k) 0 ≡ at (indexOf k)) → (k ≡ key) ⊎ List·Memᴰ k keys
+      go : (List·Memᴰ k keys → indexOf k < length next → getD (markedBy f keys next) (indexOf k) 0 ≡ at (indexOf k))
+          → (k ≡ key) ⊎ List·Memᴰ k keys
           → getD (markedBy f keys next) (indexOf k) 0 ≡ at (indexOf k)
       go rec (inl e) =
           marked-kept keys next (λ x n. h x (List·Memᴰ·tail n)) (indexOf k) within
@@ -104,7 +110,8 @@ pub rare-marks : (words : List ℕ) (limit : ℕ) (keys marks : List ℕ) → Fi
 unfolding runMarks
 rare-marks words limit keys marks fit long same =
     ext-getD 0 (markedBy f keys marks) (marksOf words limit) lengths
-    (λ i h. let l : i < length words = rw (← long) (rw (← length-marked f keys marks) h) in marked-i i l ∙ sym (getD-map-in (markOf words limit) words i l))
+    (λ i h. let l : i < length words = rw (← long) (rw (← length-marked f keys marks) h) in marked-i i l
+    ∙ sym (getD-map-in (markOf words limit) words i l))
   where
     f : ℕ → ℕ
     f key = markOf (map wordOf keys) limit (wordOf key)
@@ -145,10 +152,12 @@ run-more keys from i all here k h l = go (eq-or-ne k i)
 
 -- one more key of the run marked
 pub mark-more : (mark : ℕ) (keys : List ℕ) (i to : ℕ) (marks : List ℕ) → i < to → to ≤ length keys
-    → markedBy (λ (k : ℕ). mark) (slice (i + 1) to keys) (set marks (indexOf (getD keys i 0)) mark) ≡ markedBy (λ (k : ℕ). mark) (slice i to keys) marks
+    → markedBy (λ (k : ℕ). mark) (slice (i + 1) to keys) (set marks (indexOf (getD keys i 0)) mark)
+    ≡ markedBy (λ (k : ℕ). mark) (slice i to keys) marks
 mark-more mark keys i to marks h l = rw (add-one i) (ap (λ (k : List ℕ). markedBy (λ (x : ℕ). mark) k marks) (sym (slice-cons i to keys 0 h l)))
 
-pub mark-all : (mark : ℕ) (keys : List ℕ) (i to : ℕ) (marks : List ℕ) → i ≤ to → to ≤ i → markedBy (λ (k : ℕ). mark) (slice i to keys) marks ≡ marks
+pub mark-all : (mark : ℕ) (keys : List ℕ) (i to : ℕ) (marks : List ℕ) → i ≤ to → to ≤ i
+    → markedBy (λ (k : ℕ). mark) (slice i to keys) marks ≡ marks
 mark-all mark keys i to marks h l =
     let e : i ≡ to = omega arith in
     rw e (ap (λ (k : List ℕ). markedBy (λ (x : ℕ). mark) k marks) (slice-empty to keys))
@@ -215,7 +224,8 @@ module _ (keys : List ℕ) (sorted : Sorted (map wordOf keys)) (i j : ℕ) (apar
   -- the marks that the keys from i on put are those of the run, and then of the keys behind it
   run-marks : (limit : ℕ) (marks : List ℕ) →
       markedBy (λ (key : ℕ). markOf (map wordOf keys) limit (wordOf key)) (drop i keys) marks ≡
-      markedBy (λ (key : ℕ). markOf (map wordOf keys) limit (wordOf key)) (drop j keys) (markedBy (λ (key : ℕ). bit (leb (j - i) limit)) (slice i j keys) marks)
+      markedBy (λ (key : ℕ). markOf (map wordOf keys) limit (wordOf key)) (drop j keys)
+      (markedBy (λ (key : ℕ). bit (leb (j - i) limit)) (slice i j keys) marks)
   run-marks limit marks =
       let p : i < j = run .past in
       let f : ℕ → ℕ = λ (key : ℕ). markOf (map wordOf keys) limit (wordOf key) in
@@ -253,13 +263,15 @@ runs-all limit keys marks₀ marks i h e =
 -- ---- the indices of the keys
 
 -- keys that are those of the words have indices below their number
-index-below : (words keys : List ℕ) → Fit32 words → SameKeys keys (keysFrom 0 words) → (k : ℕ) → k < length keys → indexOf (getD keys k 0) < length words
+index-below : (words keys : List ℕ) → Fit32 words → SameKeys keys (keysFrom 0 words) → (k : ℕ) → k < length keys
+    → indexOf (getD keys k 0) < length words
 index-below words keys fit same k h =
     let r = keys-mem 0 words fit (same-mem keys (keysFrom 0 words) same (at-mem keys k h)) in
     let e : indexOf (getD keys k 0) ≡ 0 + r .0 = r .2 in
     let l : r .0 < length words = r .1 in
     omega arith
 
-pub marks-index : (words keys marks : List ℕ) → Fit32 words → SameKeys keys (keysFrom 0 words) → length marks ≡ length words → (k : ℕ) → k < length keys
+pub marks-index : (words keys marks : List ℕ) → Fit32 words → SameKeys keys (keysFrom 0 words) → length marks ≡ length words → (k : ℕ)
+    → k < length keys
     → indexOf (getD keys k 0) < length marks
 marks-index words keys marks fit same e k h = rw e (index-below words keys fit same k h)

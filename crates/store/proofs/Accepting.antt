@@ -89,14 +89,16 @@ module _ (words : List ℕ) (codeRoom positionRoom : ℕ) where
   unfolding loadReply loadRoom
   load-accepted {answer} e = go (judge words) refl
     where
-      go : (j : Judged) → judge words ≡ j → (es : List Entry) × Loads words es codeRoom positionRoom × (answer ≡ storeK words ∷ storeW words ∷ length es ∷ [])
+      go : (j : Judged) → judge words ≡ j
+          → (es : List Entry) × Loads words es codeRoom positionRoom × (answer ≡ storeK words ∷ storeW words ∷ length es ∷ [])
       go (bad number index) h =
           let refusal : refused number (index ∷ []) ≡ accepted answer = rw h at e in
           let z : _≡_ {A = ℕ} 0 1 = cc in
           absurd (omega arith)
       go (good es) h =
           let short = ltb codeRoom (length es) || ltb positionRoom (length es) in
-          let answered : cond short (refused 4 (length es ∷ [])) (accepted (storeK words ∷ storeW words ∷ length es ∷ [])) ≡ accepted answer = rw h at e in
+          let answered : cond short (refused 4 (length es ∷ [])) (accepted (storeK words ∷ storeW words ∷ length es ∷ [])) ≡ accepted answer =
+          rw h at e in
           let p = past short 4 (length es ∷ []) answered in
           let rooms = or-neither (ltb codeRoom (length es)) (ltb positionRoom (length es)) (p .0) in (
             es,

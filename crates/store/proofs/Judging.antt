@@ -52,11 +52,14 @@ Decided b = (b ≡ true) ⊎ (b ≡ false)
 pub data Way (k : ℕ) : ℕ → ℕ → ℕ → List ℕ → Judged → Type 0 where
   run-out : {index n low : ℕ} → Way k index n low [] (bad 14 index)
   last : {index n low x : ℕ} → eqb (kind x) 3 ≡ true → eqb (content x) n ≡ true → Way k index n low (x ∷ []) (good [])
-  more : {index n low x y : ℕ} {rest : List ℕ} → eqb (kind x) 3 ≡ true → eqb (content x) n ≡ true → Way k index n low (x ∷ y ∷ rest) (bad 14 (suc index))
-  miscount : {index n low x : ℕ} {rest : List ℕ} → eqb (kind x) 3 ≡ true → eqb (content x) n ≡ false → Way k index n low (x ∷ rest) (bad 14 index)
+  more : {index n low x y : ℕ} {rest : List ℕ} → eqb (kind x) 3 ≡ true → eqb (content x) n ≡ true
+      → Way k index n low (x ∷ y ∷ rest) (bad 14 (suc index))
+  miscount : {index n low x : ℕ} {rest : List ℕ} → eqb (kind x) 3 ≡ true → eqb (content x) n ≡ false
+      → Way k index n low (x ∷ rest) (bad 14 index)
   first : {index n low x : ℕ} {rest : List ℕ} → eqb (kind x) 3 ≡ false → isCodeWord k x ≡ false → Way k index n low (x ∷ rest) (bad 13 index)
   half : {index n low x : ℕ} → isCodeWord k x ≡ true → Way k index n low (x ∷ []) (bad 14 (suc index))
-  second : {index n low x y : ℕ} {rest : List ℕ} → isCodeWord k x ≡ true → isPositionWord low y ≡ false → Way k index n low (x ∷ y ∷ rest) (bad 13 (suc index))
+  second : {index n low x y : ℕ} {rest : List ℕ} → isCodeWord k x ≡ true → isPositionWord low y ≡ false
+      → Way k index n low (x ∷ y ∷ rest) (bad 13 (suc index))
   entry :
       {index n low x y : ℕ} {rest : List ℕ} {j : Judged} →
       isCodeWord k x ≡ true →
@@ -69,7 +72,8 @@ unfolding judgeFrom lastWord
 way k index n low [] = run-out
 way k index n low (x ∷ []) = go (decided (eqb (kind x) 3)) (decided (eqb (content x) n)) (decided (isCodeWord k x))
   where
-    go : Decided (eqb (kind x) 3) → Decided (eqb (content x) n) → Decided (isCodeWord k x) → Way k index n low (x ∷ []) (judgeFrom k index n low (x ∷ []))
+    go : Decided (eqb (kind x) 3) → Decided (eqb (content x) n) → Decided (isCodeWord k x)
+        → Way k index n low (x ∷ []) (judgeFrom k index n low (x ∷ []))
     go (inl h) (inl e) c = rw (h, e) (last h e)
     go (inl h) (inr e) c = rw (h, e) (miscount h e)
     go (inr h) e (inl c) = rw (h, c) (half c)

@@ -40,7 +40,8 @@ sum-left l i h = go (leb (length l) i) refl
 -- ---- copying
 
 -- the marked words of the first i and of the rest
-marked-parts : (i : ℕ) (marks words : List ℕ) → markedWords marks words ≡ markedWords (take i marks) (take i words) ++ markedWords (drop i marks) (drop i words)
+marked-parts : (i : ℕ) (marks words : List ℕ)
+    → markedWords marks words ≡ markedWords (take i marks) (take i words) ++ markedWords (drop i marks) (drop i words)
 marked-parts zero marks words = refl
 marked-parts (suc i) [] words = refl
 marked-parts (suc i) (m ∷ marks) [] = go (drop i marks)
@@ -49,7 +50,8 @@ marked-parts (suc i) (m ∷ marks) [] = go (drop i marks)
     go [] = refl
     go (x ∷ xs) = refl
 marked-parts (suc i) (m ∷ marks) (w ∷ words) =
-    ap (addIf (eqb m 1) w) (marked-parts i marks words) ∙ add (eqb m 1) (markedWords (take i marks) (take i words)) (markedWords (drop i marks) (drop i words))
+    ap (addIf (eqb m 1) w) (marked-parts i marks words)
+    ∙ add (eqb m 1) (markedWords (take i marks) (take i words)) (markedWords (drop i marks) (drop i words))
   where
     add : (b : Bool) (l r : List ℕ) → addIf b w (l ++ r) ≡ addIf b w l ++ r
     add true l r = refl
@@ -65,7 +67,8 @@ marked-none (m ∷ marks) (w ∷ words) h =
 
 -- one index further: the word where its mark is 1
 marked-suc : (marks words : List ℕ) (i : ℕ) → i < length marks → length words ≡ length marks
-    → markedWords (take (suc i) marks) (take (suc i) words) ≡ markedWords (take i marks) (take i words) ++ addIf (eqb (getD marks i 0) 1) (getD words i 0) []
+    → markedWords (take (suc i) marks) (take (suc i) words)
+    ≡ markedWords (take i marks) (take i words) ++ addIf (eqb (getD marks i 0) 1) (getD words i 0) []
 marked-suc [] words i h l = absurd (omega arith)
 marked-suc (m ∷ marks) [] i h l = absurd (omega arith)
 marked-suc (m ∷ marks) (w ∷ words) zero h l = refl
@@ -89,7 +92,8 @@ pub copied-none : (words marks : List ℕ) (n : ℕ) (out : List ℕ) → n ≡ 
 copied-none words marks n out e =
     record { long = refl; within = zero-le; counted = (let z : 0 + sum marks ≡ sum marks = omega arith in z ∙ sym e); copied = refl; rest = refl }
 
-pub copied-index : (words marks : List ℕ) (n : ℕ) (out₀ out : List ℕ) (i at : ℕ) → Copied words marks n out₀ out i at → at < n → i < length marks
+pub copied-index : (words marks : List ℕ) (n : ℕ) (out₀ out : List ℕ) (i at : ℕ) → Copied words marks n out₀ out i at → at < n
+    → i < length marks
 copied-index words marks n out₀ out i at c h = let k : at + sum (drop i marks) ≡ n = c .counted in sum-left marks i (omega arith)
 
 pub copied-more : (words marks : List ℕ) (n : ℕ) (out₀ out : List ℕ) (i at m : ℕ) → Copied words marks n out₀ out i at → at < n
@@ -129,7 +133,8 @@ copied-more words marks n out₀ out i at m c h l one room e =
         ∙ ap (λ (b : Bool). markedWords (take i marks) (take i words) ++ addIf b (getD words i 0) []) (ne-eqb (getD marks i 0) 1 q)
         ∙ append-nil (markedWords (take i marks) (take i words))))
 
-pub copied-all : (words marks : List ℕ) (n : ℕ) (out₀ out : List ℕ) (i at : ℕ) → Copied words marks n out₀ out i at → n ≤ at → n ≤ length out₀
+pub copied-all : (words marks : List ℕ) (n : ℕ) (out₀ out : List ℕ) (i at : ℕ)
+    → Copied words marks n out₀ out i at → n ≤ at → n ≤ length out₀
     → out ≡ over (markedWords marks words) out₀
 copied-all words marks n out₀ out i at c h room =
     let w : at ≤ n = c .within in

@@ -88,7 +88,8 @@ module _ (cs ps : List ℕ) (c : ℕ) (codes₀ positions₀ : List ℕ) where
   )
 
   pub answered : (reply : Reply) (codes₁ positions₁ : List ℕ) → reply ≡ strikeReply cs ps c (length codes₀) (length positions₀) →
-      codes₁ ≡ after reply (codes (struck c (entries cs ps))) codes₀ → positions₁ ≡ after reply (positions (struck c (entries cs ps))) positions₀ →
+      codes₁ ≡ after reply (codes (struck c (entries cs ps))) codes₀
+      → positions₁ ≡ after reply (positions (struck c (entries cs ps))) positions₀ →
       (reply ≡ strikeReply cs ps c (length codes₀) (length positions₀)) ×
       ((codes₁ ≡ strikeCodes cs ps c codes₀ positions₀) × (positions₁ ≡ strikePositions cs ps c codes₀ positions₀))
   unfolding strikeCodes strikePositions

@@ -111,7 +111,8 @@ pub fn strike(
         ⌜ replyOf r ≡ strikeReply (now (codes .entry)) (now (positions .entry)) c (length (now («codes_out» .entry)))
         (length (now («positions_out» .entry))) ⌝ }
     ensures { λ _.
-        ⌜ now («codes_out» .exit) ≡ strikeCodes (now (codes .entry)) (now (positions .entry)) c (now («codes_out» .entry)) (now («positions_out» .entry)) ⌝ }
+        ⌜ now («codes_out» .exit)
+        ≡ strikeCodes (now (codes .entry)) (now (positions .entry)) c (now («codes_out» .entry)) (now («positions_out» .entry)) ⌝ }
     ensures { λ _.
         ⌜ now («positions_out» .exit)
         ≡ strikePositions (now (codes .entry)) (now (positions .entry)) c (now («codes_out» .entry)) (now («positions_out» .entry)) ⌝ }

@@ -45,7 +45,8 @@ module _ (last w room to : ℕ) (letters : List ℕ) (some : 1 ≤ w) (i b p : �
   here = subst (λ (x : ℕ). IsLowest (rankAt (suc last) letters) i x p) (sym wide) is
 
   -- the lowest of a window is put where it is new
-  pub window-new : (m n code n′ : ℕ) (cs ps cs′ ps′ : List ℕ) → m ≤ p → code ≡ codeAt (suc last) letters p → IsPut room n code p n′ cs ps cs′ ps′
+  pub window-new : (m n code n′ : ℕ) (cs ps cs′ ps′ : List ℕ) → m ≤ p → code ≡ codeAt (suc last) letters p
+      → IsPut room n code p n′ cs ps cs′ ps′
       → SameEnd room n′ cs′ ps′ (pickedFrom (suc last) w letters to (suc i) (suc p)) n cs ps (pickedFrom (suc last) w letters to i m)
   window-new m n code n′ cs ps cs′ ps′ h e put es =
       put-first room n code p n′ cs ps cs′ ps′ put (pickedFrom (suc last) w letters to (suc i) (suc p) ++ es)
@@ -83,13 +84,15 @@ toPick last w letters p₀ i m = pickedFrom (suc last) w letters (runEnd letters
 
 -- ---- one letter more
 
-module _ (last w room : ℕ) (letters : List ℕ) (p₀ : ℕ) (ready : p₀ ≤ length letters) (short : last < kLimit) (some : 1 ≤ w) (narrow : w ≤ ringSize)
+module _ (last w room : ℕ) (letters : List ℕ) (p₀ : ℕ) (ready : p₀ ≤ length letters) (short : last < kLimit) (some : 1 ≤ w)
+    (narrow : w ≤ ringSize)
     (ring cs ps : List ℕ) (p code n low-at low : ℕ) (wide : w ≤ p) (at : Picking last w room letters p₀ ring cs ps p code n low-at low) where
   -- the run ends: nothing is left to pick
   pub picking-end : p + last ≡ runEnd letters p₀ → toPick last w letters p₀ (suc (p - w)) (suc low-at) ≡ []
   picking-end h = picked-none (suc last) letters w (runEnd letters p₀ - last) some (suc (p - w)) (suc low-at) (omega arith)
 
-  module _ (v code′ r : ℕ) (more : p + last < runEnd letters p₀) (ev : v ≡ value (getD letters (p + last) 0)) (ec : code′ ≡ (4 * code + v) % 4 ^ suc last)
+  module _ (v code′ r : ℕ) (more : p + last < runEnd letters p₀) (ev : v ≡ value (getD letters (p + last) 0))
+      (ec : code′ ≡ (4 * code + v) % 4 ^ suc last)
       (er : r ≡ rank code′) where
     next : p + 1 - w ≡ suc (p - w)
     next = omega arith
@@ -115,7 +118,8 @@ module _ (last w room : ℕ) (letters : List ℕ) (p₀ : ℕ) (ready : p₀ ≤
     picking-new n′ cs′ ps′ h put room′ =
         let lowest : IsLowest (rankAt (suc last) letters) (suc (p - w)) (suc p) p =
         lowest-moved (rankAt (suc last) letters) (p - w) (suc p) p
-        (lowest-new (rankAt (suc last) letters) (p - w) p low-at (at .is-lowest) (subst₂ (λ (x y : ℕ). x ≤ y) (step .1) (at .is-rank) h)) (omega arith) in (
+        (lowest-new (rankAt (suc last) letters) (p - w) p low-at (at .is-lowest) (subst₂ (λ (x y : ℕ). x ≤ y) (step .1) (at .is-rank) h))
+        (omega arith) in (
           record {
             start = omega (arith, at .start);
             within = omega arith;
@@ -136,7 +140,8 @@ module _ (last w room : ℕ) (letters : List ℕ) (p₀ : ℕ) (ready : p₀ ≤
     picking-kept s h =
         let lowest : IsLowest (rankAt (suc last) letters) (suc (p - w)) (suc p) low-at =
         lowest-moved (rankAt (suc last) letters) (p - w) (suc p) low-at
-        (lowest-kept (rankAt (suc last) letters) (p - w) p low-at (at .is-lowest) (subst₂ (λ (x y : ℕ). x < y) (at .is-rank) (step .1) h)) (omega arith) in (
+        (lowest-kept (rankAt (suc last) letters) (p - w) p low-at (at .is-lowest) (subst₂ (λ (x y : ℕ). x < y) (at .is-rank) (step .1) h))
+        (omega arith) in (
           record {
             start = omega (arith, at .start);
             within = omega arith;
@@ -158,7 +163,8 @@ module _ (last w room : ℕ) (letters : List ℕ) (some : 1 ≤ w) (from to n : 
   run-none h es = ap (λ (l : List Entry). written room n cs ps (l ++ es)) (sym (spanSketch-none (suc last) letters w to some from h))
 
   -- a run with fewer k-mers than w puts the lowest of all
-  pub run-short : (p code n′ : ℕ) (cs′ ps′ : List ℕ) → to < from + w → IsLowest (rankAt (suc last) letters) from to p → code ≡ codeAt (suc last) letters p
+  pub run-short : (p code n′ : ℕ) (cs′ ps′ : List ℕ) → to < from + w → IsLowest (rankAt (suc last) letters) from to p
+      → code ≡ codeAt (suc last) letters p
       → IsPut room n code p n′ cs ps cs′ ps′ → SameEnd room n′ cs′ ps′ [] n cs ps (spanSketch (suc last) w letters from to)
   run-short p code n′ cs′ ps′ h is e put es =
       put-first room n code p n′ cs ps cs′ ps′ put es
@@ -166,7 +172,8 @@ module _ (last w room : ℕ) (letters : List ℕ) (some : 1 ≤ w) (from to n : 
       ∙ ap (λ (l : List Entry). written room n cs ps (l ++ es)) (sym (spanSketch-short (suc last) letters w to some from p h is))
 
   -- a longer one puts what its windows pick
-  pub run-long : (n′ : ℕ) (cs′ ps′ : List ℕ) → from + w ≤ to → SameEnd room n′ cs′ ps′ [] n cs ps (pickedFrom (suc last) w letters to from from)
+  pub run-long : (n′ : ℕ) (cs′ ps′ : List ℕ) → from + w ≤ to
+      → SameEnd room n′ cs′ ps′ [] n cs ps (pickedFrom (suc last) w letters to from from)
       → SameEnd room n′ cs′ ps′ [] n cs ps (spanSketch (suc last) w letters from to)
   run-long n′ cs′ ps′ h put = rw (spanSketch-long (suc last) letters w to some from h) put
 

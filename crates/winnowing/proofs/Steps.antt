@@ -27,7 +27,8 @@ unfolding isForeign value
 run-stop [] = refl
 run-stop (a ∷ l) = go (isForeign a) refl (run-stop l)
   where
-    go : (b : Bool) → isForeign a ≡ b → isForeign (getD l (runLength l) 0) ≡ true → isForeign (getD (a ∷ l) (cond b 0 (suc (runLength l))) 0) ≡ true
+    go : (b : Bool) → isForeign a ≡ b → isForeign (getD l (runLength l) 0) ≡ true
+        → isForeign (getD (a ∷ l) (cond b 0 (suc (runLength l))) 0) ≡ true
     go true e rec = e
     go false e rec = rec
 
@@ -136,9 +137,11 @@ module _ (letters : List ℕ) (from : ℕ) (in-letters : from ≤ length letters
         here c = getD-set-same ring (at % ringSize) r 0 (rw (is .sized) (mod-lt at (lit< tt)))
 
     -- the same of the next code and its rank, as the calls answer them
-    pub pushed : (ring : List ℕ) (first first′ code v code′ r : ℕ) → Scanned last letters ring first at code → first ≤ first′ → at < first′ + ringSize
+    pub pushed : (ring : List ℕ) (first first′ code v code′ r : ℕ) → Scanned last letters ring first at code → first ≤ first′
+        → at < first′ + ringSize
         → v ≡ value (getD letters (at + last) 0) → code′ ≡ (4 * code + v) % 4 ^ suc last → r ≡ rank code′
-        → (code′ ≡ codeAt (suc last) letters at) × (r ≡ rankAt (suc last) letters at) × Scanned last letters (set ring (at % ringSize) r) first′ (at + 1) code′
+        → (code′ ≡ codeAt (suc last) letters at) × (r ≡ rankAt (suc last) letters at)
+        × Scanned last letters (set ring (at % ringSize) r) first′ (at + 1) code′
     unfolding rankAt
     pushed ring first first′ code v code′ r is a b ev ec er =
         let there : code′ ≡ codeAt (suc last) letters at = ec ∙ ap (λ (x : ℕ). (4 * code + x) % 4 ^ suc last) ev ∙ code-next code (is .code-there) in

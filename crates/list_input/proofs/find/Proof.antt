@@ -21,7 +21,8 @@ abbrev μ-loop : tie.MeasureT-loop
 
 module _ (b : ℕ) (l : List ℕ) (i : ℕ) where
   left-at : i < length l → getD l i 0 ≡ b → length (firstPart b (drop i l)) ≡ 0
-  left-at h e = ap (λ (r : List ℕ). length (firstPart b r)) (drop-cons l i 0 h) ∙ ap length (first-at b (getD l i 0) (drop (suc i) l) (eq-eqb (getD l i 0) b e))
+  left-at h e = ap (λ (r : List ℕ). length (firstPart b r)) (drop-cons l i 0 h)
+      ∙ ap length (first-at b (getD l i 0) (drop (suc i) l) (eq-eqb (getD l i 0) b e))
 
   left-more : i < length l → (getD l i 0 ≡ b → ⊥) → length (firstPart b (drop i l)) ≡ suc (length (firstPart b (drop (i + 1) l)))
   left-more h ne =

@@ -32,7 +32,8 @@ module _ (limit value : ℕ) (l : List ℕ) (i : ℕ) where
   bad : i < length l → isDigit (getD l i 0) ≡ false → digitsOf limit value (drop i l) ≡ noNumber
   bad h e = ap (digitsOf limit value) (drop-cons l i 0 h) ∙ digits-bad limit value (getD l i 0) (drop (suc i) l) e
 
-  next : i < length l → 48 ≤ getD l i 0 → getD l i 0 ≤ 57 → digitsOf limit value (drop i l) ≡ digitsOf limit (10 * value + (getD l i 0 - 48)) (drop (i + 1) l)
+  next : i < length l → 48 ≤ getD l i 0 → getD l i 0 ≤ 57
+      → digitsOf limit value (drop i l) ≡ digitsOf limit (10 * value + (getD l i 0 - 48)) (drop (i + 1) l)
   next h low high =
       ap (digitsOf limit value) (drop-cons l i 0 h)
       ∙ digits-next limit value (getD l i 0) (drop (suc i) l) (is-digit (getD l i 0) low high)
@@ -106,7 +107,8 @@ returns-4 : tie.Need-returns-4 Inv-loop μ-loop
 returns-4 c =
     let at-loop = c .before in
     let args = at-loop .before .args in
-    sym (none (args .limit) (at-loop .loop .value) (now (args .bytes)) (at-loop .loop .i) (c .loop-test .left) (at-loop .loop .inv .1)) ∙ at-loop .loop .inv .2
+    sym (none (args .limit) (at-loop .loop .value) (now (args .bytes)) (at-loop .loop .i) (c .loop-test .left) (at-loop .loop .inv .1))
+    ∙ at-loop .loop .inv .2
 
 pub read-digits-spec : {M : Type 1} → statement M
 read-digits-spec =

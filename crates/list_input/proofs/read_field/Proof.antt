@@ -31,7 +31,8 @@ entry-read-number c = entry-else1 (c .before .before)
 abbrev else1-read-number : tie.After-read-number → tie.Else1
 else1-read-number c = c .before .before
 
-module _ (line : List ℕ) (from n : ℕ) (inside : from ≤ length line) (found : n ≡ length (firstPart space (take (length line - from) (drop from line)))) where
+module _ (line : List ℕ) (from n : ℕ) (inside : from ≤ length line)
+    (found : n ≡ length (firstPart space (take (length line - from) (drop from line)))) where
   abbrev rest : List ℕ
   rest = take (length line - from) (drop from line)
 

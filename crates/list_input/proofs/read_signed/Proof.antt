@@ -75,7 +75,8 @@ module _ (l : List ℕ) (some : length l ≡ 0 → ⊥) (first : getD l 0 0 ≡ 
   behind-some {v} e ne = ap (λ (t : Bool). cond t noSigned (signedNumber (negℤ (pos v)))) (sym (ne-eqb v 0 ne)) ∙ behind e
 
 -- what the number read without a minus makes
-module _ (l : List ℕ) (some : length l ≡ 0 → ⊥) (first : getD l 0 0 ≡ minus → ⊥) {read : Number} (is : read ≡ numberOf (signedLimit - 1) l) where
+module _ (l : List ℕ) (some : length l ≡ 0 → ⊥) (first : getD l 0 0 ≡ minus → ⊥) {read : Number}
+    (is : read ≡ numberOf (signedLimit - 1) l) where
   plain : {other : Number} → read ≡ other → asPositive other ≡ thresholdOf l
   plain e = ap asPositive (sym e ∙ is) ∙ sym (threshold-plain l some first)
 

@@ -162,7 +162,8 @@ returns-6 c =
       entries-good = entries-good f;
       enough = rw (size e) (g .if5 .left);
     } in (
-      sym (save-accepts (a .k) (a .w) (now (a .codes)) (now (a .positions)) (length (now (a .words))) savable ∙ ap (λ (n : ℕ). accepted (n ∷ [])) (size e)),
+      sym (save-accepts (a .k) (a .w) (now (a .codes)) (now (a .positions)) (length (now (a .words))) savable
+          ∙ ap (λ (n : ℕ). accepted (n ∷ [])) (size e)),
       c .before .before .write .ensures ∙ sym (save-fills (a .k) (a .w) (now (a .codes)) (now (a .positions)) (now (a .words)) savable),
     )
 

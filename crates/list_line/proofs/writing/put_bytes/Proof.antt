@@ -28,7 +28,8 @@ copied old bytes new at j e in-old in-bytes =
     ∙ ap (paste old at bytes) (sym (add-one j))
 
 -- all bytes
-whole : (old bytes new : List ℕ) (at j : ℕ) → new ≡ paste old at bytes j → at + length bytes ≤ length old → j ≡ length bytes → Written bytes at old new (at + j)
+whole : (old bytes new : List ℕ) (at j : ℕ) → new ≡ paste old at bytes j → at + length bytes ≤ length old → j ≡ length bytes
+    → Written bytes at old new (at + j)
 unfolding overFrom
 whole old bytes new at j e room end =
     let w : Written bytes at old (overFrom at bytes old) (at + length bytes) = wrote bytes at old room in

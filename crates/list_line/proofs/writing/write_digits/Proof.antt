@@ -37,7 +37,8 @@ more digits n rest (suc (suc i)) long large held =
     )
 
 -- the highest digit
-last : (digits : List ℕ) (n rest i : ℕ) → length digits ≡ 10 → rest < 10 → Left digits n rest i → drop (i - 1) (set digits (i - 1) (48 + rest)) ≡ decimal n
+last : (digits : List ℕ) (n rest i : ℕ) → length digits ≡ 10 → rest < 10 → Left digits n rest i
+    → drop (i - 1) (set digits (i - 1) (48 + rest)) ≡ decimal n
 last digits n rest zero long small held = absurd (omega arith)
 last digits n rest (suc i) long small held =
     let e : suc i - 1 ≡ i = omega arith in

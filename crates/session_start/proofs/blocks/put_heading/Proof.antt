@@ -29,11 +29,13 @@ slice-write-work-6 : tie.Need-slice-write-work-6
 slice-write-work-6 c = lt-length-sets (c .args .work .now) 0 (c .args .h ∷ c .args .u ∷ c .args .v ∷ 0 ∷ 0 ∷ []) (omega (arith, c .pre))
 
 slice-write-work-7 : tie.Need-slice-write-work-7
-slice-write-work-7 c = lt-length-sets (c .args .work .now) 0 (c .args .h ∷ c .args .u ∷ c .args .v ∷ 0 ∷ 0 ∷ c .args .size ∷ []) (omega (arith, c .pre))
+slice-write-work-7 c =
+    lt-length-sets (c .args .work .now) 0 (c .args .h ∷ c .args .u ∷ c .args .v ∷ 0 ∷ 0 ∷ c .args .size ∷ []) (omega (arith, c .pre))
 
 slice-write-work-8 : tie.Need-slice-write-work-8
 slice-write-work-8 c =
-    lt-length-sets (c .args .work .now) 0 (c .args .h ∷ c .args .u ∷ c .args .v ∷ 0 ∷ 0 ∷ c .args .size ∷ c .args .threshold ∷ []) (omega (arith, c .pre))
+    lt-length-sets (c .args .work .now) 0 (c .args .h ∷ c .args .u ∷ c .args .v ∷ 0 ∷ 0 ∷ c .args .size ∷ c .args .threshold ∷ [])
+    (omega (arith, c .pre))
 
 slice-write-work-9 : tie.Need-slice-write-work-9
 slice-write-work-9 c =
@@ -42,7 +44,8 @@ slice-write-work-9 c =
 
 slice-write-work-10 : tie.Need-slice-write-work-10
 slice-write-work-10 c =
-    lt-length-sets (c .args .work .now) 0 (c .args .h ∷ c .args .u ∷ c .args .v ∷ 0 ∷ 0 ∷ c .args .size ∷ c .args .threshold ∷ c .args .h ∷ 0 ∷ [])
+    lt-length-sets (c .args .work .now) 0
+    (c .args .h ∷ c .args .u ∷ c .args .v ∷ 0 ∷ 0 ∷ c .args .size ∷ c .args .threshold ∷ c .args .h ∷ 0 ∷ [])
     (omega (arith, c .pre))
 
 same-length : tie.Need-same-length

@@ -17,7 +17,8 @@ is-position-requires : tie.Need-is-position-requires
 is-position-requires c κs = search needs
 
 returns-2 : tie.Need-returns-2
-returns-2 c = simp (c .is-position .ensures, c .before .content .ensures, ← c .before .before .before .kind .ensures, eq-eqb _ _ (c .before .before .if1 .left))
+returns-2 c =
+    simp (c .is-position .ensures, c .before .content .ensures, ← c .before .before .before .kind .ensures, eq-eqb _ _ (c .before .before .if1 .left))
 
 pub is-position-word-spec : {M : Type 1} → statement M
 is-position-word-spec = tie.close (tie.spec kind-requires returns content-requires is-position-requires returns-2)

@@ -78,7 +78,8 @@ code-test c =
     let s = entry-turn (d .before) in
     let x = getD (now (s .args .words)) (d .before .loop .index) 0 in
     let limit = d .before .before .code-limit in
-    c .is-code-word .ensures ∙ ap (λ (b : Bool). eqb (kind x) 1 && b) (sym (isCode-limit (s .args .k) (limit .result) (content x) (s .pre .1) (limit .ensures)))
+    c .is-code-word .ensures
+    ∙ ap (λ (b : Bool). eqb (kind x) 1 && b) (sym (isCode-limit (s .args .k) (limit .result) (content x) (s .pre .1) (limit .ensures)))
 
 code-word :
     (c : tie.Else2 Inv-loop μ-loop) →

@@ -13,7 +13,8 @@ use Rattle.kmers.specs.Places.{codeAt, rankAt, runEnd}
 use Rattle.winnowing.specs.Winnowed.{written}
 use Rattle.winnowing.specs.Scan.{SameEnd}
 use Rattle.minimizers.specs.Places.{IsLowest}
-use Rattle.winnowing.proofs.Passing.{Standing, Picking, toPick, ring-lowest, ring-code, window-new, picking-end, picking-left, picking-new, picking-kept}
+use Rattle.winnowing.proofs.Passing.{Standing, Picking, toPick, ring-lowest, ring-code, window-new, picking-end, picking-left, picking-new}
+use Rattle.winnowing.proofs.Passing.{picking-kept}
 use Rattle.minimizers.proofs.Runs.{runEnd-within}
 use Rattle.winnowing.proofs.Steps.{runEnd-same, end-here, end-later, digit-below, ring-scaled}
 use Rattle.winnowing.proofs.windows.pass_windows.Statement.{statement}
@@ -28,7 +29,8 @@ Inv-loop letters values ring₀ measures codes₀ positions₀ before p₀ code�
     n₀ codes₀ positions₀ (toPick (measures .last) (measures .w) letters p₀ (suc (p₀ - measures .w)) (suc low-at₀))
 
 abbrev μ-loop : tie.MeasureT-loop
-μ-loop letters values ring₀ measures codes₀ positions₀ before p₀ code₀ n₀ low-at₀ low₀ ring codes positions p code n low-at low = runEnd letters p₀ - p
+μ-loop letters values ring₀ measures codes₀ positions₀ before p₀ code₀ n₀ low-at₀ low₀ ring codes positions p code n low-at low =
+    runEnd letters p₀ - p
 
 abbrev Inv-windows : tie.InvT-windows
 Inv-windows letters values ring₀ measures codes₀ positions₀ before p₀ code₀ n₀ ring codes positions p code n =

@@ -1,0 +1,32 @@
+-- Examples that tell the task of a request from likely mistakes: each is computed from letters on.
+use mathlib.Core.Path.{_≡_, refl}
+use mathlib.Core.List.{List, [], _∷_}
+use lib.IntN.{negsuc}
+use Rattle.base.specs.Bytes.{asBytes}
+use Rattle.kmers.specs.Kmers.{codes, positions}
+use Rattle.strike.proofs.Compute.{strike-computes}
+use Rattle.mappings.specs.Score.{taskWith}
+use Rattle.requests.specs.declared.Settings.{Settings}
+use Rattle.requests.specs.Requests.{textOf, patternOf, taskOf}
+
+-- k 1, w 1, c 1, u 2, v 3, threshold −4
+abbrev asked : Settings
+asked = record { k = 1; w = 1; c = 1; u = 2; v = 3; threshold = negsuc 3 }
+
+-- k 2, w 1, c 1
+abbrev longer : Settings
+longer = record { k = 2; w = 1; c = 1; u = 1; v = 1; threshold = negsuc 0 }
+
+pub record RequestExamples : Type 0 where
+  -- ACAG and AACG: A occurs twice in the text and is struck there; it stays in the read, whose sketch is not struck
+  pub task : taskOf asked (asBytes "ACAG") (asBytes "AACG") ≡ taskWith (1 ∷ 2 ∷ []) (0 ∷ 0 ∷ 1 ∷ 2 ∷ []) 2 3 (negsuc 3)
+  -- the struck text keeps the positions of its entries
+  pub text-positions : positions (textOf asked (asBytes "ACAG")) ≡ 1 ∷ 3 ∷ []
+  -- ACG with k 2 and w 1: AC and CG
+  pub longer-read : codes (patternOf longer (asBytes "ACG")) ≡ 1 ∷ 6 ∷ []
+  -- TACG: TA, AC and CG
+  pub longer-text : codes (textOf longer (asBytes "TACG")) ≡ 12 ∷ 1 ∷ 6 ∷ []
+
+pub request-examples : RequestExamples
+unfolding strike-computes textOf patternOf taskOf
+request-examples = record { task = refl; text-positions = refl; longer-read = refl; longer-text = refl }

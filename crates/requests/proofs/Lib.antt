@@ -1,0 +1,2 @@
+-- Examples of the task of a request.
+pub mod Cases
