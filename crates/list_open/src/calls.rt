@@ -2,11 +2,13 @@
 use answers::of_sketch;
 use answers::of_start;
 use answers::of_strike;
+use base::PATTERN_LIMIT;
 use list_input::Request;
 use list_input::read_input;
 use requests::Settings;
 ghost use mathlib.Core.Path.{_≡_};
 ghost use lib.ListN.{length};
+ghost use Rattle.base.specs.Limits.{lineLimit};
 ghost use Rattle.base.specs.Zeros.{zeros};
 ghost use Rattle.list_input.specs.Input.{given, inputOf};
 ghost use Rattle.list_open.specs.Opening.{Opens, OpensSketches};
@@ -19,10 +21,10 @@ pub enum Opened {
     Session { k: u32, size: usize },
 }
 
-fn zeros_4096() -> [u32; 4096]
-    ensures { λ r. ⌜ (4096 ≡ length r) × (r ≡ zeros 4096) ⌝ }
+fn line_zeros() -> [u32; PATTERN_LIMIT]
+    ensures { λ r. ⌜ (lineLimit ≡ length r) × (r ≡ zeros lineLimit) ⌝ }
 {
-    [0u32; 4096]
+    [0u32; PATTERN_LIMIT]
 }
 
 // Strikes the text's sketch and starts the session. The struck text's positions stay in `positions`.
@@ -38,7 +40,7 @@ fn open_sketches(
         ⌜ OpensSketches (now (codes .entry)) (now (places .entry)) (now (pattern .entry)) settings (now (positions .entry)) (now (work .entry)) r
         (now (positions .exit)) (now (work .exit)) ⌝ }
 {
-    let mut text = zeros_4096();
+    let mut text = line_zeros();
     let struck = of_strike(strike::strike(codes, places, settings.c, &mut text, positions));
     if struck.0 != 0 {
         return Opened::Refused(struck.0);
@@ -72,14 +74,14 @@ fn open_lines(
         ⌜ Opens (given settings (now (text .entry)) (now (read .entry))) (now (positions .entry)) (now (work .entry)) r (now (positions .exit))
         (now (work .exit)) ⌝ }
 {
-    let mut codes = zeros_4096();
-    let mut places = zeros_4096();
+    let mut codes = line_zeros();
+    let mut places = line_zeros();
     let of_text = of_sketch(sketch::sketch(text, settings.k, settings.w, &mut codes, &mut places));
     if of_text.0 != 0 {
         return Opened::Refused(of_text.0);
     }
-    let mut pattern = zeros_4096();
-    let mut unused = zeros_4096();
+    let mut pattern = line_zeros();
+    let mut unused = line_zeros();
     let of_read = of_sketch(sketch::sketch(
         read,
         settings.k,

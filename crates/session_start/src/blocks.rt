@@ -1,5 +1,7 @@
 // Blocks of words: arrays of zeros, and blocks of the work words, each written from an index of its own: one word again and again,
 // a copy, and the heading.
+use base::HIT_LIMIT;
+use base::PATTERN_LIMIT;
 use session_words::COLUMNS;
 use session_words::HITS;
 use session_words::KIND;
@@ -14,19 +16,20 @@ ghost use mathlib.Core.Path.{_≡_};
 ghost use Prim.Native.Nat.{_+_, _≤_};
 ghost use lib.ListN.{length, replicate};
 ghost use lib.Seq.{sets};
+ghost use Rattle.base.specs.Limits.{hitLimit, patternLimit};
 ghost use Rattle.base.specs.Zeros.{zeros};
 ghost use Rattle.session_start.specs.Noting.{freshHeading};
 
-pub(crate) fn zeros_2048() -> [u32; 2048]
-    ensures { λ r. ⌜ (2048 ≡ length r) × (r ≡ zeros 2048) ⌝ }
+pub(crate) fn hit_zeros() -> [u32; HIT_LIMIT]
+    ensures { λ r. ⌜ (hitLimit ≡ length r) × (r ≡ zeros hitLimit) ⌝ }
 {
-    [0u32; 2048]
+    [0u32; HIT_LIMIT]
 }
 
-pub(crate) fn zeros_4096() -> [u32; 4096]
-    ensures { λ r. ⌜ (4096 ≡ length r) × (r ≡ zeros 4096) ⌝ }
+pub(crate) fn pattern_zeros() -> [u32; PATTERN_LIMIT]
+    ensures { λ r. ⌜ (patternLimit ≡ length r) × (r ≡ zeros patternLimit) ⌝ }
 {
-    [0u32; 4096]
+    [0u32; PATTERN_LIMIT]
 }
 
 // n times this word, from an index on.

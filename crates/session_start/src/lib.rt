@@ -6,10 +6,10 @@ mod search;
 mod threshold;
 
 use crate::blocks::fill;
+use crate::blocks::hit_zeros;
+use crate::blocks::pattern_zeros;
 use crate::blocks::put_block;
 use crate::blocks::put_heading;
-use crate::blocks::zeros_2048;
-use crate::blocks::zeros_4096;
 use crate::hits::collect;
 use crate::per_hit::put_back;
 use crate::per_hit::put_reach;
@@ -94,7 +94,7 @@ fn put_session(
         → now (work .exit) ≡ sessionWords task (now (work .entry)) 0) ⌝ }
 {
     let h = slots.len();
-    let mut backs = zeros_2048();
+    let mut backs = hit_zeros();
     put_back(sorted, slots, &mut backs[..h]);
     put_words(
         index,
@@ -122,8 +122,8 @@ fn begin_sorted(
     ensures { λ r. ⌜ ((pattern : List ℕ) → SortedCopyOf pattern (now (sorted .entry))
         → now (work .exit) ≡ afterStart (startedReply r) (taskWith (now (text .entry)) pattern u v threshold) (now (work .entry))) ⌝ }
 {
-    let mut index = zeros_2048();
-    let mut slots = zeros_2048();
+    let mut index = hit_zeros();
+    let mut slots = hit_zeros();
     let h = collect(text, sorted, &mut index, &mut slots);
     if HIT_LIMIT < h {
         return Started::TooManyHits(h);
@@ -148,7 +148,7 @@ fn begin(text: &[u32], pattern: &[u32], u: u32, v: u32, threshold: i32, work: &m
         ⌜ now (work .exit) ≡ afterStart (startedReply r) (taskWith (now (text .entry)) (now (pattern .entry)) u v threshold) (now (work .entry)) ⌝ }
 {
     let n = pattern.len();
-    let mut sorted = zeros_4096();
+    let mut sorted = pattern_zeros();
     sort_words(pattern, &mut sorted[..n]);
     begin_sorted(text, &sorted[..n], u, v, threshold, work)
 }

@@ -1,6 +1,6 @@
 // What a session knows of each hit: back, reach and whole.
 use crate::blocks::fill;
-use crate::blocks::zeros_4096;
+use crate::blocks::pattern_zeros;
 use crate::hits::one_at;
 use session_words::REACH;
 use session_words::WHOLE;
@@ -44,8 +44,8 @@ pub(crate) fn put_back(sorted: &[u32], slots: &[u32], backs: &mut [u32])
     ensures { λ _. ⌜ now (backs .exit) ≡ backsOf (now (sorted .entry)) (wordsAt (now (sorted .entry)) (now (slots .entry))) ⌝ }
 {
     let n = sorted.len();
-    let mut turns = zeros_4096();
-    let mut ring = zeros_4096();
+    let mut turns = pattern_zeros();
+    let mut ring = pattern_zeros();
     link(sorted, slots, &mut turns[..n], &mut ring[..n], backs);
 }
 

@@ -1,5 +1,6 @@
 // Marking rare words by sorting their keys: equal words then stand side by side.
 use crate::radix;
+use base::TEXT_LIMIT;
 use base::WORD_LIMIT;
 ghost use mathlib.Core.Path.{_≡_};
 ghost use mathlib.Core.Bool.{true, false};
@@ -15,10 +16,10 @@ ghost use Rattle.sorting.specs.Keys.{wordOf, indexOf, keysFrom, passed, 
 ghost use Rattle.base.specs.Limits.{textLimit};
 ghost use Rattle.sorting.specs.Marks.{marksOf, RunEnd, markedBy, runMarks};
 
-fn zeros_65535() -> [u64; 65535]
-    ensures { λ r. ⌜ (65535 ≡ length r) × (r ≡ zeros 65535) ⌝ }
+fn text_zeros() -> [u64; TEXT_LIMIT]
+    ensures { λ r. ⌜ (textLimit ≡ length r) × (r ≡ zeros textLimit) ⌝ }
 {
-    [0u64; 65535]
+    [0u64; TEXT_LIMIT]
 }
 
 fn in_order(words: &[u32]) -> bool
@@ -116,11 +117,11 @@ pub(crate) fn mark_words(words: &[u32], limit: u32, marks: &mut [u8])
     ensures { λ _. ⌜ now (marks .exit) ≡ marksOf (now (words .entry)) limit ⌝ }
 {
     let n = words.len();
-    let mut keys = zeros_65535();
+    let mut keys = text_zeros();
     if in_order(words) {
         mark_in_order(words, limit, &mut keys[..n], marks);
         return;
     }
-    let mut by_word = zeros_65535();
+    let mut by_word = text_zeros();
     mark_by_sorting(words, limit, &mut keys[..n], &mut by_word[..n], marks);
 }

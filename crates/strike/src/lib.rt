@@ -23,10 +23,10 @@ pub enum Struck {
     TooShort(usize),
 }
 
-fn zeros_65535() -> [u8; 65535]
-    ensures { λ r. ⌜ (65535 ≡ length r) × (r ≡ zeros 65535) ⌝ }
+fn text_zeros() -> [u8; TEXT_LIMIT]
+    ensures { λ r. ⌜ (textLimit ≡ length r) × (r ≡ zeros textLimit) ⌝ }
 {
-    [0u8; 65535]
+    [0u8; TEXT_LIMIT]
 }
 
 fn wide(x: u8) -> usize
@@ -130,7 +130,7 @@ pub fn strike(
     if TEXT_LIMIT < c as usize {
         return Struck::BadLimit;
     }
-    let mut marks = zeros_65535();
+    let mut marks = text_zeros();
     strike_marked(
         codes,
         positions,

@@ -3,7 +3,7 @@ use Prim.Native.Nat.{ℕ, suc, _+_, _-_, _%_, _^_, _≤_, _<_}
 use mathlib.Core.Path.{_≡_}
 use mathlib.Core.List.{List, [], _++_}
 use lib.ListN.{length, getD}
-use Rattle.base.specs.Limits.{kLimit, letterLimit}
+use Rattle.base.specs.Limits.{kLimit, wLimit, letterLimit}
 use Rattle.kmers.specs.Letters.{value}
 use Rattle.kmers.specs.Kmers.{Entry}
 use Rattle.winnowing.specs.Winnowed.{placed, written}
@@ -16,9 +16,9 @@ pub record IsTable (values : List ℕ) : Type 0 where
   pub sized : length values ≡ 256
   pub known : (b : ℕ) → b < 256 → getD values b 0 ≡ value b
 
--- how many ranks the ring holds: those of a window, which is at most 64
+-- how many ranks the ring holds: those of the widest window
 abbrev pub ringSize : ℕ
-ringSize = 64
+ringSize = wLimit
 
 -- the rank that the ring has for position q
 abbrev pub ringAt : List ℕ → ℕ → ℕ

@@ -1,4 +1,5 @@
 // Windows of k-mers: the scan of a run's letters, and the k-mers that its windows pick.
+use base::W_LIMIT;
 ghost use Prim.Native.Nat.{suc, _+_, _-_, _≤_, _<_};
 ghost use mathlib.Core.Path.{_≡_};
 ghost use lib.ListN.{length};
@@ -12,8 +13,8 @@ use crate::codes::unrank;
 use crate::letters::FOREIGN;
 use crate::letters::value_at;
 
-// How many ranks the ring holds.
-pub(crate) const RING: usize = 64;
+// How many ranks the ring holds: those of the widest window.
+pub(crate) const RING: usize = W_LIMIT as usize;
 
 // A position, and the code in hand there.
 pub(crate) struct Reached {

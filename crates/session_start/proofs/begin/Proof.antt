@@ -21,11 +21,11 @@ use Rattle.session_start.proofs.begin.Statement.{statement}
 use Rattle.session_start.proofs.begin.Tie as tie
 
 -- the places that the proofs below speak of, each from a later one
-abbrev at-zeros-4096 : tie.After-sorted → tie.After-zeros-4096
-at-zeros-4096 c = c .before
+abbrev at-pattern-zeros : tie.After-sorted → tie.After-pattern-zeros
+at-pattern-zeros c = c .before
 
 abbrev at-shared-slice-known : tie.After-sorted → tie.After-shared-slice-known
-at-shared-slice-known c = at-zeros-4096 c .before .before .before
+at-shared-slice-known c = at-pattern-zeros c .before .before .before
 
 abbrev entry : tie.After-sorted → tie.Start
 entry c = at-shared-slice-known c .before
@@ -36,8 +36,8 @@ at-sort-words c = c .before .before .before
 abbrev at-sorted : tie.After-begin-sorted-arg → tie.After-sorted
 at-sorted c = at-sort-words c .before
 
-zeros-4096-requires : tie.Need-zeros-4096-requires
-zeros-4096-requires c κs = search needs
+pattern-zeros-requires : tie.Need-pattern-zeros-requires
+pattern-zeros-requires c κs = search needs
 
 array-borrow-prefix-sorted : tie.Need-array-borrow-prefix-sorted
 array-borrow-prefix-sorted c = search needs
@@ -45,7 +45,7 @@ array-borrow-prefix-sorted c = search needs
 slice-aggregate-sort-words : tie.Need-slice-aggregate-sort-words
 slice-aggregate-sort-words c =
     let pattern = entry c .args .pattern .now in
-    let zeros = c .before .zeros-4096 in
+    let zeros = c .before .pattern-zeros in
     let few : length pattern ≤ patternLimit = entry c .pre .1 in
     let part : length (take (length pattern) (zeros .result)) ≡ length pattern =
     length-take-le (length pattern) (zeros .result) (omega (arith, zeros .ensures .0)) in
@@ -57,7 +57,7 @@ sort-words-requires c κs = search needs
 array-share-prefix-sorted : tie.Need-array-share-prefix-sorted
 array-share-prefix-sorted c =
     let pattern = entry (c .before .before) .args .pattern .now in
-    let zeros = c .before .before .before .zeros-4096 in
+    let zeros = c .before .before .before .pattern-zeros in
     let few : length pattern ≤ patternLimit = entry (c .before .before) .pre .1 in
     let part : length (take (length pattern) (zeros .result)) ≡ length pattern =
     length-take-le (length pattern) (zeros .result) (omega (arith, zeros .ensures .0)) in
@@ -69,7 +69,7 @@ array-share-prefix-sorted c =
 slice-aggregate-begin-sorted : tie.Need-slice-aggregate-begin-sorted
 slice-aggregate-begin-sorted c =
     let pattern = entry (c .before .before .before) .args .pattern .now in
-    let zeros = at-zeros-4096 (c .before .before .before) .zeros-4096 in
+    let zeros = at-pattern-zeros (c .before .before .before) .pattern-zeros in
     let few : length pattern ≤ patternLimit = entry (c .before .before .before) .pre .1 in
     let part : length (take (length pattern) (zeros .result)) ≡ length pattern =
     length-take-le (length pattern) (zeros .result) (omega (arith, zeros .ensures .0)) in
@@ -83,7 +83,7 @@ slice-aggregate-begin-sorted c =
 begin-sorted-requires : tie.Need-begin-sorted-requires
 begin-sorted-requires c κs =
     let pattern = entry (at-sorted c) .args .pattern .now in
-    let zeros = at-zeros-4096 (at-sorted c) .zeros-4096 in
+    let zeros = at-pattern-zeros (at-sorted c) .pattern-zeros in
     let few : length pattern ≤ patternLimit = entry (at-sorted c) .pre .1 in
     let part : length (take (length pattern) (zeros .result)) ≡ length pattern =
     length-take-le (length pattern) (zeros .result) (omega (arith, zeros .ensures .0)) in
@@ -100,7 +100,7 @@ same-length c = search needs
 returns : tie.Need-returns
 returns c =
     let pattern = entry (at-sorted (c .before .before .before)) .args .pattern .now in
-    let zeros = at-zeros-4096 (at-sorted (c .before .before .before)) .zeros-4096 in
+    let zeros = at-pattern-zeros (at-sorted (c .before .before .before)) .pattern-zeros in
     let few : length pattern ≤ patternLimit = entry (at-sorted (c .before .before .before)) .pre .1 in
     let part : length (take (length pattern) (zeros .result)) ≡ length pattern =
     length-take-le (length pattern) (zeros .result) (omega (arith, zeros .ensures .0)) in
@@ -122,7 +122,7 @@ pub begin-spec : {M : Type 1} → statement M
 begin-spec =
     tie.close
     (tie.spec
-    zeros-4096-requires
+    pattern-zeros-requires
     array-borrow-prefix-sorted
     slice-aggregate-sort-words
     sort-words-requires

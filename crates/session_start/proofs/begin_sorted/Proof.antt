@@ -17,14 +17,14 @@ use Rattle.session_start.proofs.begin_sorted.Tie as tie
 abbrev at-collect : tie.After-slots2 → tie.After-collect
 at-collect c = c .before .before
 
-abbrev at-zeros-20482 : tie.After-slots2 → tie.After-zeros-20482
-at-zeros-20482 c = at-collect c .before .before .before
+abbrev at-hit-zeros2 : tie.After-slots2 → tie.After-hit-zeros2
+at-hit-zeros2 c = at-collect c .before .before .before
 
-abbrev at-zeros-2048 : tie.After-slots2 → tie.After-zeros-2048
-at-zeros-2048 c = at-zeros-20482 c .before
+abbrev at-hit-zeros : tie.After-slots2 → tie.After-hit-zeros
+at-hit-zeros c = at-hit-zeros2 c .before
 
 abbrev at-shared-slice-known : tie.After-slots2 → tie.After-shared-slice-known
-at-shared-slice-known c = at-zeros-2048 c .before .before .before
+at-shared-slice-known c = at-hit-zeros c .before .before .before
 
 abbrev entry : tie.After-slots2 → tie.Start
 entry c = at-shared-slice-known c .before
@@ -37,16 +37,16 @@ else1 c = at-biased c .before .before .before
 
 -- there is room for each hit
 index-room : (c : tie.Else1) → c .before .before .before .collect .result ≤ length (c .before .before .before .collect .last .1 .1 .0)
-index-room c = omega (arith, c .if1 .left, c .before .before .before .collect .kept .1 .1 .0, at-zeros-2048 (c .before) .zeros-2048 .ensures .0)
+index-room c = omega (arith, c .if1 .left, c .before .before .before .collect .kept .1 .1 .0, at-hit-zeros (c .before) .hit-zeros .ensures .0)
 
 slots-room : (c : tie.Else1) → c .before .before .before .collect .result ≤ length (c .before .before .before .collect .last .1 .1 .1 .0)
-slots-room c = omega (arith, c .if1 .left, c .before .before .before .collect .kept .1 .1 .1 .0, at-zeros-20482 (c .before) .zeros-20482 .ensures .0)
+slots-room c = omega (arith, c .if1 .left, c .before .before .before .collect .kept .1 .1 .1 .0, at-hit-zeros2 (c .before) .hit-zeros2 .ensures .0)
 
-zeros-2048-requires : tie.Need-zeros-2048-requires
-zeros-2048-requires c κs = search needs
+hit-zeros-requires : tie.Need-hit-zeros-requires
+hit-zeros-requires c κs = search needs
 
-zeros-2048-requires-2 : tie.Need-zeros-2048-requires-2
-zeros-2048-requires-2 c κs = search needs
+hit-zeros-requires-2 : tie.Need-hit-zeros-requires-2
+hit-zeros-requires-2 c κs = search needs
 
 slice-aggregate-collect : tie.Need-slice-aggregate-collect
 slice-aggregate-collect c = search needs
@@ -132,8 +132,8 @@ pub begin-sorted-spec : {M : Type 1} → statement M
 begin-sorted-spec =
     tie.close
     (tie.spec
-    zeros-2048-requires
-    zeros-2048-requires-2
+    hit-zeros-requires
+    hit-zeros-requires-2
     slice-aggregate-collect
     slice-aggregate-collect-2
     collect-requires

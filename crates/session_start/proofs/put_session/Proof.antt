@@ -13,44 +13,44 @@ use Rattle.session_start.proofs.put_session.Statement.{statement}
 use Rattle.session_start.proofs.put_session.Tie as tie
 use Rattle.session_start.proofs.put_session.Reads as reads
 use Rattle.session_start.proofs.put_session.Lts as lts
-use Rattle.session_start.proofs.blocks.zeros_2048.Reads as zeros-2048-reads
+use Rattle.session_start.proofs.blocks.hit_zeros.Reads as hit-zeros-reads
 use Rattle.session_start.proofs.per_hit.put_back.Reads as put-back-reads
 use Rattle.session_start.proofs.put_words.Reads as put-words-reads
 
 -- the entry of the function, from where the array is there; and the slots
-abbrev known : tie.After-zeros-2048 → tie.After-shared-slice-known3
+abbrev known : tie.After-hit-zeros → tie.After-shared-slice-known3
 known c = c .before .before
 
-abbrev entry : tie.After-zeros-2048 → tie.Start
+abbrev entry : tie.After-hit-zeros → tie.Start
 entry c = known c .before .before .before
 
-abbrev slots : tie.After-zeros-2048 → List ℕ
+abbrev slots : tie.After-hit-zeros → List ℕ
 slots c = entry c .args .slots .now
 
 -- from where the array is filled back to where it is there, and from the last call back to where it is filled
-abbrev zeroed : tie.After-put-back → tie.After-zeros-2048
+abbrev zeroed : tie.After-put-back → tie.After-hit-zeros
 zeroed c = c .before .before
 
 abbrev filled : tie.After-put-words-arg → tie.After-put-back
 filled c = c .before .before .before
 
 -- the part that is lent has a word for each hit
-part-long : (c : tie.After-zeros-2048) → length (take (length (slots c)) (c .zeros-2048 .result)) ≡ length (slots c)
-part-long c = length-take-le (length (slots c)) (c .zeros-2048 .result) (omega (arith, entry c .pre .1, c .zeros-2048 .ensures .0))
+part-long : (c : tie.After-hit-zeros) → length (take (length (slots c)) (c .hit-zeros .result)) ≡ length (slots c)
+part-long c = length-take-le (length (slots c)) (c .hit-zeros .result) (omega (arith, entry c .pre .1, c .hit-zeros .ensures .0))
 
 backs-long : (c : tie.After-put-back) → length (c .put-back .last .1 .1 .0) ≡ length (slots (zeroed c))
 backs-long c = c .put-back .kept .1 .1 .0 ∙ part-long (zeroed c)
 
 -- the rest of the array
 abbrev rest : tie.After-put-back → List ℕ
-rest c = drop (length (slots (zeroed c))) (zeroed c .zeros-2048 .result)
+rest c = drop (length (slots (zeroed c))) (zeroed c .hit-zeros .result)
 
 -- and is the front of the array once it is back
 front : (c : tie.After-put-back) → take (length (slots (zeroed c))) (c .put-back .last .1 .1 .0 ++ rest c) ≡ c .put-back .last .1 .1 .0
 front c = take-at (c .put-back .last .1 .1 .0) (rest c) (length (slots (zeroed c))) (backs-long c)
 
-zeros-2048-requires : tie.Need-zeros-2048-requires
-zeros-2048-requires c κs = search needs
+hit-zeros-requires : tie.Need-hit-zeros-requires
+hit-zeros-requires c κs = search needs
 
 array-borrow-prefix-backs : tie.Need-array-borrow-prefix-backs
 array-borrow-prefix-backs c = search needs
@@ -104,7 +104,7 @@ pub put-session-spec : {M : Type 1} → statement M
 put-session-spec =
     tie.close
     (tie.spec
-    zeros-2048-requires
+    hit-zeros-requires
     array-borrow-prefix-backs
     slice-aggregate-put-back
     put-back-requires

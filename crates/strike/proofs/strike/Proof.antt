@@ -8,14 +8,14 @@ use Rattle.strike.proofs.strike.Statement.{statement}
 use Rattle.strike.proofs.strike.Tie as tie
 
 -- places, each named for where it leads and from where
-abbrev else2-zeros-65535 : tie.After-zeros-65535 → tie.Else2
-else2-zeros-65535 c = c .before .before .before
+abbrev else2-text-zeros : tie.After-text-zeros → tie.Else2
+else2-text-zeros c = c .before .before .before
 
-abbrev else4-zeros-65535 : tie.After-zeros-65535 → tie.Else4
-else4-zeros-65535 c = c .before
+abbrev else4-text-zeros : tie.After-text-zeros → tie.Else4
+else4-text-zeros c = c .before
 
 abbrev else4-strike-marked-arg2 : tie.After-strike-marked-arg2 → tie.Else4
-else4-strike-marked-arg2 c = else4-zeros-65535 (c .before .before .before)
+else4-strike-marked-arg2 c = else4-text-zeros (c .before .before .before)
 
 abbrev else4-codes-out : tie.After-codes-out → tie.Else4
 else4-codes-out c = else4-strike-marked-arg2 (c .before .before .before)
@@ -37,8 +37,8 @@ returns-4 c =
     refused-leaves _ _ _ _ _ _ _
     (reply-high _ _ _ _ _ (c .before .before .before .if1 .left) (c .before .before .if2 .left) (c .before .if3 .left) (c .if4 .taken))
 
-zeros-65535-requires : tie.Need-zeros-65535-requires
-zeros-65535-requires c κs = search needs
+text-zeros-requires : tie.Need-text-zeros-requires
+text-zeros-requires c κs = search needs
 
 array-borrow-prefix-marks : tie.Need-array-borrow-prefix-marks
 array-borrow-prefix-marks c = search needs
@@ -48,8 +48,8 @@ slice-aggregate-strike-marked c = sym (length-take-le _ _ (omega arith))
 
 strike-marked-requires : tie.Need-strike-marked-requires
 strike-marked-requires c κs = (
-  else2-zeros-65535 (c .before .before .before) .before .if1 .left,
-  else2-zeros-65535 (c .before .before .before) .if2 .left,
+  else2-text-zeros (c .before .before .before) .before .if1 .left,
+  else2-text-zeros (c .before .before .before) .if2 .left,
   length-take-le _ _ (omega arith),
 )
 
@@ -76,7 +76,7 @@ strike-spec =
     returns-2
     returns-3
     returns-4
-    zeros-65535-requires
+    text-zeros-requires
     array-borrow-prefix-marks
     slice-aggregate-strike-marked
     strike-marked-requires

@@ -5,6 +5,7 @@ use mathlib.Core.Path.{_≡_, sym}
 use mathlib.Core.List.{List}
 use lib.ListN.{length, take}
 use lib.Seq.{length-take-le}
+use Rattle.base.specs.Limits.{lineLimit}
 use Rattle.requests.specs.declared.Settings.{Settings}
 use Rattle.list_open.specs.Opening.{OpensSketches}
 use Rattle.list_open.proofs.Letters.{sketch-number, sketch-accepts, sketch-inside, codes-front, positions-front, text-refused, read-refused}
@@ -14,26 +15,26 @@ use Rattle.list_open.proofs.calls.open_lines.Statement.{statement}
 use Rattle.list_open.proofs.calls.open_lines.Tie as tie
 
 -- the places that the proofs below speak of, each from a later one
-abbrev at-zeros-40962 : tie.After-sketch → tie.After-zeros-40962
-at-zeros-40962 c = c .before .before .before
+abbrev at-line-zeros2 : tie.After-sketch → tie.After-line-zeros2
+at-line-zeros2 c = c .before .before .before
 
-abbrev at-zeros-4096 : tie.After-sketch → tie.After-zeros-4096
-at-zeros-4096 c = at-zeros-40962 c .before
+abbrev at-line-zeros : tie.After-sketch → tie.After-line-zeros
+at-line-zeros c = at-line-zeros2 c .before
 
 abbrev at-shared-slice-known2 : tie.After-sketch → tie.After-shared-slice-known2
-at-shared-slice-known2 c = at-zeros-4096 c .before .before .before
+at-shared-slice-known2 c = at-line-zeros c .before .before .before
 
 abbrev entry : tie.After-sketch → tie.Start
 entry c = at-shared-slice-known2 c .before .before
 
-abbrev at-zeros-40964 : tie.After-sketch2 → tie.After-zeros-40964
-at-zeros-40964 c = c .before .before .before
+abbrev at-line-zeros4 : tie.After-sketch2 → tie.After-line-zeros4
+at-line-zeros4 c = c .before .before .before
 
-abbrev at-zeros-40963 : tie.After-sketch2 → tie.After-zeros-40963
-at-zeros-40963 c = at-zeros-40964 c .before
+abbrev at-line-zeros3 : tie.After-sketch2 → tie.After-line-zeros3
+at-line-zeros3 c = at-line-zeros4 c .before
 
 abbrev else1 : tie.After-sketch2 → tie.Else1
-else1 c = at-zeros-40963 c .before
+else1 c = at-line-zeros3 c .before
 
 abbrev at-of-sketch : tie.After-sketch2 → tie.After-of-sketch
 at-of-sketch c = else1 c .before .before
@@ -74,16 +75,16 @@ module _ (c : tie.After-of-sketch) where
   text-places = at-text .sketch .last .1 .1 .1 .1 .0
 
   abbrev text-room : List ℕ
-  text-room = at-zeros-4096 at-text .zeros-4096 .result
+  text-room = at-line-zeros at-text .line-zeros .result
 
   abbrev text-room′ : List ℕ
-  text-room′ = at-text .before .before .before .zeros-40962 .result
+  text-room′ = at-text .before .before .before .line-zeros2 .result
 
-  text-long : length text-room ≡ 4096
-  text-long = sym (at-zeros-4096 at-text .zeros-4096 .ensures .0)
+  text-long : length text-room ≡ lineLimit
+  text-long = sym (at-line-zeros at-text .line-zeros .ensures .0)
 
-  text-long′ : length text-room′ ≡ 4096
-  text-long′ = sym (at-text .before .before .before .zeros-40962 .ensures .0)
+  text-long′ : length text-room′ ≡ lineLimit
+  text-long′ = sym (at-text .before .before .before .line-zeros2 .ensures .0)
 
   abbrev n : ℕ
   n = c .of-sketch .result .0
@@ -92,7 +93,7 @@ module _ (c : tie.After-of-sketch) where
   m = c .of-sketch .result .1
 
   module _ (zero : n ≡ 0) where
-    text-few : m ≤ 4096
+    text-few : m ≤ lineLimit
     text-few =
         sketch-inside (at-start .args .settings .k) (at-start .args .settings .w) (at-start .args .text .now) text-room text-room′ text-codes text-places
         (at-text .sketch .result) (at-text .sketch .ensures) text-long text-long′ n m (c .of-sketch .ensures .0) (c .of-sketch .ensures .1) zero
@@ -115,16 +116,16 @@ module _ (c : tie.After-of-sketch2) where
   read-codes = at-read .sketch2 .last .1 .1 .1 .0
 
   abbrev read-room : List ℕ
-  read-room = at-zeros-40963 at-read .zeros-40963 .result
+  read-room = at-line-zeros3 at-read .line-zeros3 .result
 
   abbrev read-room′ : List ℕ
-  read-room′ = at-read .before .before .before .zeros-40964 .result
+  read-room′ = at-read .before .before .before .line-zeros4 .result
 
-  read-long : length read-room ≡ 4096
-  read-long = sym (at-zeros-40963 at-read .zeros-40963 .ensures .0)
+  read-long : length read-room ≡ lineLimit
+  read-long = sym (at-line-zeros3 at-read .line-zeros3 .ensures .0)
 
-  read-long′ : length read-room′ ≡ 4096
-  read-long′ = sym (at-read .before .before .before .zeros-40964 .ensures .0)
+  read-long′ : length read-room′ ≡ lineLimit
+  read-long′ = sym (at-read .before .before .before .line-zeros4 .ensures .0)
 
   text-zero : n text-call ≡ 0
   text-zero = else1 at-read .if1 .left
@@ -139,7 +140,7 @@ module _ (c : tie.After-of-sketch2) where
     read-hold : m′ ≤ length read-codes
     read-hold =
         let args = at-start text-call .args in
-        let few : m′ ≤ 4096 =
+        let few : m′ ≤ lineLimit =
         sketch-inside (args .settings .k) (args .settings .w) (args .read .now) read-room read-room′ read-codes (at-read .sketch2 .last .1 .1 .1 .1 .0)
         (at-read .sketch2 .result) (at-read .sketch2 .ensures) read-long read-long′ n′ m′ (c .of-sketch2 .ensures .0) (c .of-sketch2 .ensures .1) zero
         in
@@ -147,12 +148,12 @@ module _ (c : tie.After-of-sketch2) where
         omega (arith, read-long)
 
 -- src/calls.rt:80:21
-zeros-4096-requires : tie.Need-zeros-4096-requires
-zeros-4096-requires c κs = search needs
+line-zeros-requires : tie.Need-line-zeros-requires
+line-zeros-requires c κs = search needs
 
 -- src/calls.rt:81:22
-zeros-4096-requires-2 : tie.Need-zeros-4096-requires-2
-zeros-4096-requires-2 c κs = search needs
+line-zeros-requires-2 : tie.Need-line-zeros-requires-2
+line-zeros-requires-2 c κs = search needs
 
 -- src/calls.rt:82:58
 slice-aggregate-sketch : tie.Need-slice-aggregate-sketch
@@ -181,12 +182,12 @@ returns c =
     (call .of-sketch .ensures .1)) (c .if1 .taken)
 
 -- src/calls.rt:86:23
-zeros-4096-requires-3 : tie.Need-zeros-4096-requires-3
-zeros-4096-requires-3 c κs = search needs
+line-zeros-requires-3 : tie.Need-line-zeros-requires-3
+line-zeros-requires-3 c κs = search needs
 
 -- src/calls.rt:87:22
-zeros-4096-requires-4 : tie.Need-zeros-4096-requires-4
-zeros-4096-requires-4 c κs = search needs
+line-zeros-requires-4 : tie.Need-line-zeros-requires-4
+line-zeros-requires-4 c κs = search needs
 
 -- src/calls.rt:88:58
 slice-aggregate-sketch-3 : tie.Need-slice-aggregate-sketch-3
@@ -299,15 +300,15 @@ pub open-lines-spec : {M : Type 1} → statement M
 open-lines-spec =
     tie.close
     (tie.spec
-    zeros-4096-requires
-    zeros-4096-requires-2
+    line-zeros-requires
+    line-zeros-requires-2
     slice-aggregate-sketch
     slice-aggregate-sketch-2
     sketch-requires
     of-sketch-requires
     returns
-    zeros-4096-requires-3
-    zeros-4096-requires-4
+    line-zeros-requires-3
+    line-zeros-requires-4
     slice-aggregate-sketch-3
     slice-aggregate-sketch-4
     sketch-requires-2

@@ -10,6 +10,7 @@ use lib.Seq.{length-take-le}
 use mir.Syntax.{w32}
 use mir.Val.{toZ, ofZ}
 use mir.Facts.{toZ-ofZ}
+use Rattle.base.specs.Limits.{lineLimit}
 use Rattle.mappings.specs.Score.{Task, taskWith}
 use Rattle.session_start.specs.Start.{startReply, startWords}
 use Rattle.session_start.specs.Answers.{startedReply}
@@ -30,7 +31,7 @@ module _ (c : tie.After-of-strike) where
   at-strike = written-back .before
 
   -- the struck codes' buffer of zeros
-  abbrev zeroed : tie.After-zeros-4096
+  abbrev zeroed : tie.After-line-zeros
   zeroed = at-strike .before .before .before
 
   abbrev lent : tie.After-shared-slice-known3
@@ -41,7 +42,7 @@ module _ (c : tie.After-of-strike) where
 
   -- the struck codes in their buffer, which was of zeros, and the positions behind them
   abbrev room : List ℕ
-  room = zeroed .zeros-4096 .result
+  room = zeroed .line-zeros .result
 
   abbrev written : List ℕ
   written = at-strike .strike .last .1 .1 .1 .0
@@ -49,8 +50,8 @@ module _ (c : tie.After-of-strike) where
   abbrev places′ : List ℕ
   places′ = at-strike .strike .last .1 .1 .1 .1 .0
 
-  long : length room ≡ 4096
-  long = sym (zeroed .zeros-4096 .ensures .0)
+  long : length room ≡ lineLimit
+  long = sym (zeroed .line-zeros .ensures .0)
 
   abbrev n : ℕ
   n = c .of-strike .result .0
@@ -68,14 +69,14 @@ module _ (c : tie.After-of-strike) where
       (at-strike .strike .result) (at-strike .strike .ensures .0) written places′
       (at-strike .strike .ensures .1 .0) (at-strike .strike .ensures .1 .1) n m (c .of-strike .ensures .0) (c .of-strike .ensures .1)
 
-  few : n ≡ 0 → m ≤ 4096
+  few : n ≡ 0 → m ≤ lineLimit
   few =
       let args = entry .args in
       inside (args .codes .now) (args .places .now) (args .pattern .now) (args .positions .now) room (args .settings) (args .work .now) long
       (at-strike .strike .result) (at-strike .strike .ensures .0) written places′
       (at-strike .strike .ensures .1 .0) (at-strike .strike .ensures .1 .1) n m (c .of-strike .ensures .0) (c .of-strike .ensures .1)
 
-  same-room : length written ≡ 4096
+  same-room : length written ≡ lineLimit
   same-room = let l : length written ≡ length room = at-strike .strike .kept .1 .1 .1 .0 in l ∙ long
 
 -- start's answer as numbers, and what it says
@@ -124,8 +125,8 @@ module _ (c : tie.After-of-start) where
       )
 
 -- src/calls.rt:43:20
-zeros-4096-requires : tie.Need-zeros-4096-requires
-zeros-4096-requires c κs = search needs
+line-zeros-requires : tie.Need-line-zeros-requires
+line-zeros-requires c κs = search needs
 
 -- src/calls.rt:44:63
 slice-aggregate-strike : tie.Need-slice-aggregate-strike
@@ -149,12 +150,12 @@ returns c = refused-here (c .before .before) (c .if1 .taken)
 
 -- src/calls.rt:49:9
 array-share-prefix-text : tie.Need-array-share-prefix-text
-array-share-prefix-text c = let call = c .before .before in let l : m call ≤ 4096 = few call (c .if1 .left) in omega (arith, same-room call)
+array-share-prefix-text c = let call = c .before .before in let l : m call ≤ lineLimit = few call (c .if1 .left) in omega (arith, same-room call)
 
 -- src/calls.rt:49:9
 slice-aggregate-start : tie.Need-slice-aggregate-start
 slice-aggregate-start c =
-    let call = c .before .before .before in let l : m call ≤ 4096 = few call (c .before .if1 .left) in sym
+    let call = c .before .before .before in let l : m call ≤ lineLimit = few call (c .before .if1 .left) in sym
     (length-take-le (m call) (written call) (omega (arith, same-room call)))
 
 -- src/calls.rt:48:30
@@ -193,7 +194,7 @@ pub open-sketches-spec : {M : Type 1} → statement M
 open-sketches-spec =
     tie.close
     (tie.spec
-    zeros-4096-requires
+    line-zeros-requires
     slice-aggregate-strike
     strike-requires
     of-strike-requires

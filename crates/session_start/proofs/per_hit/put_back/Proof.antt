@@ -12,14 +12,14 @@ use Rattle.session_start.proofs.per_hit.put_back.Statement.{statement}
 use Rattle.session_start.proofs.per_hit.put_back.Tie as tie
 use Rattle.session_start.proofs.per_hit.put_back.Reads as reads
 use Rattle.session_start.proofs.per_hit.put_back.Lts as lts
-use Rattle.session_start.proofs.blocks.zeros_4096.Reads as zeros-4096-reads
+use Rattle.session_start.proofs.blocks.pattern_zeros.Reads as pattern-zeros-reads
 use Rattle.session_start.proofs.per_hit.link.Reads as link-reads
 
 -- where the arrays of zeros are there, and the entry of the function
-abbrev ring-zeros : tie.After-link-arg → tie.After-zeros-40962
+abbrev ring-zeros : tie.After-link-arg → tie.After-pattern-zeros2
 ring-zeros c = c .before .before .before
 
-abbrev turn-zeros : tie.After-link-arg → tie.After-zeros-4096
+abbrev turn-zeros : tie.After-link-arg → tie.After-pattern-zeros
 turn-zeros c = ring-zeros c .before
 
 abbrev known : tie.After-link-arg → tie.After-shared-slice-known2
@@ -28,11 +28,11 @@ known c = turn-zeros c .before .before
 abbrev entry : tie.After-link-arg → tie.Start
 entry c = known c .before .before
 
-zeros-4096-requires : tie.Need-zeros-4096-requires
-zeros-4096-requires c κs = search needs
+pattern-zeros-requires : tie.Need-pattern-zeros-requires
+pattern-zeros-requires c κs = search needs
 
-zeros-4096-requires-2 : tie.Need-zeros-4096-requires-2
-zeros-4096-requires-2 c κs = search needs
+pattern-zeros-requires-2 : tie.Need-pattern-zeros-requires-2
+pattern-zeros-requires-2 c κs = search needs
 
 array-borrow-prefix-turns : tie.Need-array-borrow-prefix-turns
 array-borrow-prefix-turns c = search needs
@@ -55,11 +55,11 @@ link-requires c κs =
         (
           (
             length-take-le _ _ (omega arith),
-            λ k. ap (λ (l : List ℕ). getD (take n l) k 0) (turn-zeros c .zeros-4096 .ensures .1) ∙ zero-words n patternLimit k,
+            λ k. ap (λ (l : List ℕ). getD (take n l) k 0) (turn-zeros c .pattern-zeros .ensures .1) ∙ zero-words n patternLimit k,
           ),
           (
             length-take-le _ _ (omega arith),
-            λ k. ap (λ (l : List ℕ). getD (take n l) k 0) (ring-zeros c .zeros-40962 .ensures .1) ∙ zero-words n patternLimit k,
+            λ k. ap (λ (l : List ℕ). getD (take n l) k 0) (ring-zeros c .pattern-zeros2 .ensures .1) ∙ zero-words n patternLimit k,
           ),
         ),
       ),
@@ -78,8 +78,8 @@ pub put-back-spec : {M : Type 1} → statement M
 put-back-spec =
     tie.close
     (tie.spec
-    zeros-4096-requires
-    zeros-4096-requires-2
+    pattern-zeros-requires
+    pattern-zeros-requires-2
     array-borrow-prefix-turns
     slice-aggregate-link
     array-borrow-prefix-ring

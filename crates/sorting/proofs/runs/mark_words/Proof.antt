@@ -13,11 +13,11 @@ entry-shared-slice-known c = c .before
 abbrev entry-in-order : tie.After-in-order → tie.Start
 entry-in-order c = entry-shared-slice-known (c .before .before .before)
 
-abbrev entry-zeros-655352 : tie.After-zeros-655352 → tie.Start
-entry-zeros-655352 c = entry-in-order (c .before .before)
+abbrev entry-text-zeros2 : tie.After-text-zeros2 → tie.Start
+entry-text-zeros2 c = entry-in-order (c .before .before)
 
-zeros-65535-requires : tie.Need-zeros-65535-requires
-zeros-65535-requires c κs = search needs
+text-zeros-requires : tie.Need-text-zeros-requires
+text-zeros-requires c κs = search needs
 
 in-order-requires : tie.Need-in-order-requires
 in-order-requires c κs = search needs
@@ -40,8 +40,8 @@ same-length c = search needs
 returns : tie.Need-returns
 returns c = search needs
 
-zeros-65535-requires-2 : tie.Need-zeros-65535-requires-2
-zeros-65535-requires-2 c κs = search needs
+text-zeros-requires-2 : tie.Need-text-zeros-requires-2
+text-zeros-requires-2 c κs = search needs
 
 array-borrow-prefix-keys-2 : tie.Need-array-borrow-prefix-keys-2
 array-borrow-prefix-keys-2 c = search needs
@@ -57,8 +57,8 @@ slice-aggregate-mark-by-sorting-2 c = sym (length-take-le _ _ (omega arith))
 
 mark-by-sorting-requires : tie.Need-mark-by-sorting-requires
 mark-by-sorting-requires c κs = (
-  (length-take-le _ _ (omega arith), entry-zeros-655352 (c .before .before .before) .pre .1),
-  (length-take-le _ _ (omega arith), entry-zeros-655352 (c .before .before .before) .pre .0),
+  (length-take-le _ _ (omega arith), entry-text-zeros2 (c .before .before .before) .pre .1),
+  (length-take-le _ _ (omega arith), entry-text-zeros2 (c .before .before .before) .pre .0),
 )
 
 same-length-2 : tie.Need-same-length-2
@@ -71,14 +71,14 @@ pub mark-words-spec : {M : Type 1} → statement M
 mark-words-spec =
     tie.close
     (tie.spec
-    zeros-65535-requires
+    text-zeros-requires
     in-order-requires
     array-borrow-prefix-keys
     slice-aggregate-mark-in-order
     mark-in-order-requires
     same-length
     returns
-    zeros-65535-requires-2
+    text-zeros-requires-2
     array-borrow-prefix-keys-2
     slice-aggregate-mark-by-sorting
     array-borrow-prefix-by-word
