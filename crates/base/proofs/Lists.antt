@@ -148,3 +148,9 @@ map-append f (x ∷ xs) r = ap (λ (l : List _). f x ∷ l) (map-append f xs r)
 pub sum-append : (l r : List ℕ) → sum (l ++ r) ≡ sum l + sum r
 sum-append [] r = omega arith
 sum-append (x ∷ xs) r = let e : sum (xs ++ r) ≡ sum xs + sum r = sum-append xs r in omega arith
+
+-- an element of a mapped list
+pub getD-map : (f : ℕ → ℕ) (l : List ℕ) (i : ℕ) → i < length l → getD (map f l) i 0 ≡ f (getD l i 0)
+getD-map f [] i h = absurd (omega arith)
+getD-map f (x ∷ xs) zero h = refl
+getD-map f (x ∷ xs) (suc i) h = getD-map f xs i (omega arith)

@@ -1,5 +1,6 @@
-// The limits of document 01 as constants, the bytes of lines, and the test of a range.
+// The limits of document 01 as constants, the bytes of lines, the test of a range, and the smaller of two numbers.
 ghost use mathlib.Core.Path.{_≡_};
+ghost use Prim.Native.Nat.{min};
 ghost use Rattle.base.specs.Limits.{outside};
 
 // k is 1 to K_LIMIT, the window 1 to W_LIMIT, and a weight 1 to WEIGHT_LIMIT.
@@ -37,4 +38,10 @@ pub fn outside(low: u32, high: u32, n: u32) -> bool
     ensures { λ r. ⌜ r ≡ outside low high n ⌝ }
 {
     n < low || high < n
+}
+
+pub fn smaller(a: usize, b: usize) -> usize
+    ensures { λ r. ⌜ r ≡ min a b ⌝ }
+{
+    if a < b { a } else { b }
 }

@@ -10,12 +10,11 @@ use lib.Dec.{eqb, lit<}
 use lib.Bits.{bitAnd, and-mask}
 use lib.ListN.{length, getD, take, drop, length-map, length-drop}
 use lib.Seq.{length-take-le, getD-take, getD-drop, take-suc, drop-cons}
-use Rattle.base.proofs.Lists.{map-append, clash}
+use Rattle.base.proofs.Lists.{map-append, clash, getD-map}
 use Rattle.base.specs.Limits.{kLimit}
 use Rattle.kmers.specs.Letters.{value, isForeign, eitherCase}
 use Rattle.kmers.specs.Kmers.{codeOf, digits}
 use Rattle.kmers.specs.Places.{codeAt}
-use Rattle.kmers.proofs.Spans.{getD-map}
 
 pub value-below : (b : ℕ) → isForeign b ≡ false → value b < 4
 unfolding value isForeign

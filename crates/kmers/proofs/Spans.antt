@@ -30,11 +30,6 @@ take-map f zero l = refl
 take-map f (suc n) [] = refl
 take-map f (suc n) (x ∷ xs) = ap (λ (r : List _). f x ∷ r) (take-map f n xs)
 
-pub getD-map : (f : ℕ → ℕ) (l : List ℕ) (i : ℕ) → i < length l → getD (map f l) i 0 ≡ f (getD l i 0)
-getD-map f [] i h = absurd (omega arith)
-getD-map f (x ∷ xs) zero h = refl
-getD-map f (x ∷ xs) (suc i) h = getD-map f xs i (omega arith)
-
 -- the k-mers of the l letters from `at` on
 pub kmers-span : (k l at : ℕ) (letters : List ℕ) → 1 ≤ k → at + l ≤ length letters
     → kmers k at (map value (take l (drop at letters))) ≡ span k letters at (suc (at + l) - k)

@@ -11,7 +11,7 @@ use Rattle.minimizers.specs.Sketch.{sketch}
 use Rattle.sketch.specs.Replies.{sketchReply, sketchCodes, sketchPositions}
 use Rattle.sketch.specs.Answers.{replyOf, Sketches}
 use Rattle.sketch.specs.declared.Sketched.{Sketched}
-use Rattle.minimizers.proofs.Laws.{entries-same, length-codes, length-positions}
+use Rattle.kmers.proofs.Entries.{entries-same, length-codes, length-positions}
 use Rattle.strike.specs.Strike.{strikeReply}
 use Rattle.sketch.proofs.Accepted.{Held, sketch-held}
 use Rattle.session_start.specs.Start.{startReply, startWords}

@@ -7,7 +7,7 @@ use lib.ListN.{length, take}
 use Rattle.base.specs.Limits.{lineLimit}
 use Rattle.base.specs.Replies.{Reply, accepted, over, after}
 use Rattle.kmers.specs.Kmers.{codes, positions, entries}
-use Rattle.minimizers.proofs.Laws.{length-codes}
+use Rattle.kmers.proofs.Entries.{length-codes}
 use Rattle.requests.specs.declared.Settings.{Settings}
 use Rattle.strike.specs.Strike.{struck, strikeReply, strikeCodes, strikePositions}
 use Rattle.strike.specs.Answers.{replyOf as struckReply}

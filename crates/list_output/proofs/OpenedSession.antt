@@ -13,7 +13,8 @@ use Rattle.kmers.specs.Kmers.{codes, positions}
 use Rattle.minimizers.specs.Sketch.{sketch}
 use Rattle.sketch.specs.Replies.{sketchReply}
 use Rattle.sketch.proofs.Accepted.{sketch-limits}
-use Rattle.minimizers.proofs.Laws.{positions-below, length-codes, length-positions}
+use Rattle.minimizers.proofs.Laws.{positions-below}
+use Rattle.kmers.proofs.Entries.{length-codes, length-positions}
 use Rattle.strike.specs.Strike.{strikeReply}
 use Rattle.strike.proofs.Laws.{struck-below}
 use Rattle.mappings.specs.Score.{Task}

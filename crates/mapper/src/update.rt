@@ -2,6 +2,7 @@
 use crate::place::Place;
 use base::WEIGHT_LIMIT;
 use base::WORD_LIMIT;
+use base::smaller;
 use session_cells::cells::Line;
 use session_cells::cells::Passed;
 use session_cells::cells::pass;
@@ -17,7 +18,7 @@ use session_words::V;
 use session_words::wide;
 use session_words::wider;
 ghost use mathlib.Core.Path.{_≡_};
-ghost use Prim.Native.Nat.{_-_, _≤_, _<_, min};
+ghost use Prim.Native.Nat.{_-_, _≤_, _<_};
 ghost use lib.ListN.{length};
 ghost use Rattle.base.specs.Limits.{weightLimit, hitLimit, workWords};
 ghost use Rattle.mapper.specs.Walking.{termsIn, lineOf, columnUpdate, withPart};
@@ -46,13 +47,6 @@ pub fn terms_of(work: &[u32]) -> Terms
 // Added to the base of a column's score words: their bias, and a multiple of 2^32, which the words do not show, that is more than can be
 // lost: the weight is at most WEIGHT_LIMIT, and two words with one are less than twice WORD_LIMIT, whatever the words hold.
 const LIFT: u64 = 2 * WEIGHT_LIMIT as u64 * WORD_LIMIT + BIAS as u64;
-
-// The smaller of two.
-fn smaller(a: usize, b: usize) -> usize
-    ensures { λ r. ⌜ r ≡ min a b ⌝ }
-{
-    if a < b { a } else { b }
-}
 
 // What the cells of column j share.
 fn line_of(work: &[u32], terms: Terms, j: usize) -> Line

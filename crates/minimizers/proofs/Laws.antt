@@ -3,17 +3,18 @@
 use Prim.Native.Nat.{ℕ, zero, suc, _+_, _-_, _^_, _≤_, _<_, zero-le}
 use native.Mathlib.Nat.{le-refl, le-trans, le-suc, zero-lt-suc, pow-le-pow-right, lt-of-lt-of-le}
 use native.Mathlib.Omega.{arith}
-use mathlib.Core.Path.{_≡_, refl, sym, ap, _∙_, subst}
+use mathlib.Core.Path.{_≡_, refl, sym, subst}
 use mathlib.Core.Logic.{_⊎_, inl, inr}
 use mathlib.Core.Bool.{Bool, true, false}
 use mathlib.Core.List.{List, [], _∷_, _++_, map, List·Memᴰ, List·Memᴰ·head, List·Memᴰ·tail, List·Memᴰ·append-cases}
 use mathlib.Core.List.{List·Memᴰ·cases-cons, List·Memᴰ·not-nil}
 use lib.ListN.{length, getD, take, drop, length-map}
+use Rattle.kmers.proofs.Entries.{length-positions}
 use Rattle.base.specs.Lists.{keep, addIf, range, any}
 use Rattle.base.proofs.Lists.{keep-mem, map-append}
 use Rattle.base.specs.Limits.{kLimit}
 use Rattle.kmers.specs.Letters.{value, isForeign}
-use Rattle.kmers.specs.Kmers.{Entry, codeOf, codes, positions, entries, rank}
+use Rattle.kmers.specs.Kmers.{Entry, codeOf, codes, positions, rank}
 use Rattle.kmers.specs.Ranks.{rankModulus}
 use Rattle.minimizers.specs.Windows.{picks, windows}
 use Rattle.minimizers.specs.Sketch.{sketch, pickedBy}
@@ -22,23 +23,6 @@ use Rattle.minimizers.specs.Places.{spanSketch, sketchFrom}
 use Rattle.kmers.proofs.Ranks.{rank-one-to-one}
 use Rattle.kmers.proofs.Codes.{codeAt-below}
 use Rattle.minimizers.proofs.Runs.{by-runs, runEnd-within, run-letters}
-
--- ---- codes and positions of any entries
-
--- as many codes as positions
-pub length-codes : (es : List Entry) → length (codes es) ≡ length es
-length-codes es = length-map es (λ (e : Entry). e .code)
-
-pub length-positions : (es : List Entry) → length (positions es) ≡ length es
-length-positions es = length-map es (λ (e : Entry). e .position)
-
-pub codes-positions : (es : List Entry) → length (codes es) ≡ length (positions es)
-codes-positions es = length-map es (λ (e : Entry). e .code) ∙ sym (length-map es (λ (e : Entry). e .position))
-
--- the entries that stand in the two buffers are those that were written
-pub entries-same : (es : List Entry) → entries (codes es) (positions es) ≡ es
-entries-same [] = refl
-entries-same (e ∷ es) = ap (λ (l : List Entry). e ∷ l) (entries-same es)
 
 -- ---- positions
 

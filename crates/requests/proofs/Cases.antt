@@ -1,6 +1,6 @@
 -- Examples that tell the task of a request from likely mistakes: each is computed from letters on.
 use mathlib.Core.Path.{_≡_, refl}
-use mathlib.Core.List.{List, [], _∷_}
+use mathlib.Core.List.{[], _∷_}
 use lib.IntN.{negsuc}
 use Rattle.base.specs.Bytes.{asBytes}
 use Rattle.kmers.specs.Kmers.{codes, positions}

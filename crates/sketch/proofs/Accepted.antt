@@ -14,7 +14,8 @@ use Rattle.base.proofs.Replies.{not-refused}
 use Rattle.base.specs.Limits.{kLimit, wLimit, letterLimit, outside}
 use Rattle.kmers.specs.Kmers.{Entry, codes, positions, entries}
 use Rattle.minimizers.specs.Sketch.{sketch}
-use Rattle.minimizers.proofs.Laws.{length-codes, length-positions, entries-same, positions-strictly, positions-inside}
+use Rattle.kmers.proofs.Entries.{length-codes, length-positions, entries-same}
+use Rattle.minimizers.proofs.Laws.{positions-strictly, positions-inside}
 use Rattle.sketch.specs.Replies.{checkedLetters, roomFor, sketchReply, sketchCodes, sketchPositions}
 
 -- the entries answered are those needed, and both buffers hold them

@@ -3,8 +3,9 @@ use base::K_LIMIT;
 use base::LETTER_LIMIT;
 use base::W_LIMIT;
 use base::outside;
+use base::smaller;
 use winnowing::winnow;
-ghost use Prim.Native.Nat.{_≤_, min};
+ghost use Prim.Native.Nat.{_≤_};
 ghost use mathlib.Core.Path.{_≡_};
 ghost use lib.ListN.{length};
 ghost use Rattle.base.specs.Limits.{kLimit, wLimit, letterLimit};
@@ -19,12 +20,6 @@ pub enum Sketched {
     BadW,
     TooManyLetters,
     TooShort(usize),
-}
-
-fn lesser(a: usize, b: usize) -> usize
-    ensures { λ r. ⌜ r ≡ min a b ⌝ }
-{
-    if a < b { a } else { b }
 }
 
 // How many entries the sketch has: winnowing with no room to write.
@@ -51,7 +46,7 @@ pub fn sketch(letters: &[u8], k: u32, w: u32, codes: &mut [u32], positions: &mut
     if LETTER_LIMIT < letters.len() {
         return Sketched::TooManyLetters;
     }
-    let room = lesser(codes.len(), positions.len());
+    let room = smaller(codes.len(), positions.len());
     if letters.len() <= room {
         return Sketched::Entries(winnow(letters, k, w, codes, positions, room));
     }

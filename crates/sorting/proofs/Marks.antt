@@ -11,6 +11,7 @@ use mathlib.Core.List.{List·Memᴰ·not-nil}
 use lib.Dec.{leb}
 use lib.ListN.{length, getD, set, take, drop, length-set, length-map, take-append-drop, drop-of-length-le, List·getD-map}
 use lib.Seq.{slice, slice-cons, slice-empty, getD-set-same, getD-set-other, getD-take, getD-drop, length-slice, length-take-le, drop-append-le, ext-getD}
+use Rattle.base.proofs.Lists.{getD-map}
 use Rattle.base.specs.Limits.{wordLimit}
 use Rattle.base.specs.Lists.{bit}
 use Rattle.base.specs.Counts.{occ}
@@ -38,11 +39,6 @@ at-mem : (l : List ℕ) (i : ℕ) → i < length l → List·Memᴰ (getD l i 0)
 at-mem [] i h = absurd (omega arith)
 at-mem (x ∷ xs) zero h = List·Memᴰ·head refl
 at-mem (x ∷ xs) (suc i) h = List·Memᴰ·tail (at-mem xs i (omega arith))
-
-getD-map-in : (f : ℕ → ℕ) (l : List ℕ) (i : ℕ) → i < length l → getD (map f l) i 0 ≡ f (getD l i 0)
-getD-map-in f [] i h = absurd (omega arith)
-getD-map-in f (x ∷ xs) zero h = refl
-getD-map-in f (x ∷ xs) (suc i) h = getD-map-in f xs i (omega arith)
 
 same-mem : (l r : List ℕ) → SameKeys l r → {x : ℕ} → List·Memᴰ x l → List·Memᴰ x r
 same-mem l r h {x} m =
@@ -111,7 +107,7 @@ unfolding runMarks
 rare-marks words limit keys marks fit long same =
     ext-getD 0 (markedBy f keys marks) (marksOf words limit) lengths
     (λ i h. let l : i < length words = rw (← long) (rw (← length-marked f keys marks) h) in marked-i i l
-    ∙ sym (getD-map-in (markOf words limit) words i l))
+    ∙ sym (getD-map (markOf words limit) words i l))
   where
     f : ℕ → ℕ
     f key = markOf (map wordOf keys) limit (wordOf key)

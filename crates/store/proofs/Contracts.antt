@@ -9,12 +9,12 @@ use Rattle.base.specs.Replies.{accepted, over}
 use Rattle.base.specs.Limits.{kLimit, wLimit, letterLimit}
 use Rattle.kmers.specs.Kmers.{Entry, codes, positions, entries}
 use Rattle.minimizers.specs.Sketch.{sketch}
-use Rattle.minimizers.proofs.Laws.{entries-same, codes-positions}
+use Rattle.kmers.proofs.Entries.{entries-same, codes-positions, codes-entries, positions-entries, length-codes, length-positions}
 use Rattle.store.specs.Save.{stored, saveReply, saveWords}
 use Rattle.store.specs.Load.{storeK, storeW, loadReply, loadCodes, loadPositions}
 use Rattle.store.specs.RoundTrip.{LoadsAs, SavesAs}
 use Rattle.base.proofs.Ranges.{inside, inside-range}
-use Rattle.store.proofs.Entries.{length-entries, codes-entries, positions-entries, length-codes, length-positions, length-stored, sketch-storable}
+use Rattle.store.proofs.Entries.{length-entries, length-stored, sketch-storable}
 use Rattle.store.proofs.RoundTrip.{judge-stored, storeK-stored, storeW-stored, judge-good, StoreOf}
 use Rattle.store.proofs.Accepting.{Savable, save-accepts, save-accepted, save-fills, Loads, load-accepts, load-accepted, load-fills}
 

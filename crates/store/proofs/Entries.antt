@@ -5,7 +5,7 @@ use native.Mathlib.Omega.{arith}
 use mathlib.Core.Path.{_≡_, refl, ap, ap₂, _∙_}
 use mathlib.Core.List.{List, [], _∷_}
 use mathlib.Core.Bool.{true, _&&_}
-use lib.ListN.{length, getD, drop, length-map}
+use lib.ListN.{length, getD, drop}
 use lib.Seq.{drop-cons}
 use borrow.Author.Tests.{lt-ltb, le-leb}
 use Rattle.base.proofs.Lists.{and-both, and-left, and-right}
@@ -21,23 +21,6 @@ pub length-entries : (cs ps : List ℕ) → length cs ≡ length ps → length (
 length-entries [] ps h = refl
 length-entries (c ∷ cs) [] h = absurd (omega arith)
 length-entries (c ∷ cs) (p ∷ ps) h = ap suc (length-entries cs ps (omega arith))
-
-pub codes-entries : (cs ps : List ℕ) → length cs ≡ length ps → codes (entries cs ps) ≡ cs
-codes-entries [] ps h = refl
-codes-entries (c ∷ cs) [] h = absurd (omega arith)
-codes-entries (c ∷ cs) (p ∷ ps) h = ap (λ (l : List ℕ). c ∷ l) (codes-entries cs ps (omega arith))
-
-pub positions-entries : (cs ps : List ℕ) → length cs ≡ length ps → positions (entries cs ps) ≡ ps
-positions-entries [] [] h = refl
-positions-entries [] (p ∷ ps) h = absurd (omega arith)
-positions-entries (c ∷ cs) [] h = absurd (omega arith)
-positions-entries (c ∷ cs) (p ∷ ps) h = ap (λ (l : List ℕ). p ∷ l) (positions-entries cs ps (omega arith))
-
-pub length-codes : (es : List Entry) → length (codes es) ≡ length es
-length-codes es = length-map es (λ (e : Entry). e .code)
-
-pub length-positions : (es : List Entry) → length (positions es) ≡ length es
-length-positions es = length-map es (λ (e : Entry). e .position)
 
 -- the entries from an index on, one further
 pub entries-drop :

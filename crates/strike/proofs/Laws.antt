@@ -13,7 +13,7 @@ use Rattle.base.proofs.Lists.{clash, keep-mem, mem-keep, length-keep}
 use Rattle.base.proofs.Counts.{bit-other}
 use Rattle.base.specs.Limits.{textLimit}
 use Rattle.kmers.specs.Kmers.{Entry, codes, positions}
-use Rattle.minimizers.proofs.Laws.{length-codes}
+use Rattle.kmers.proofs.Entries.{length-codes}
 use Rattle.strike.specs.Strike.{strike, struck}
 
 -- ---- order

@@ -12,6 +12,7 @@ use lib.Dec.{eqb, leb}
 use lib.ListN.{length, getD, set, take, drop, length-set, take-append-drop, drop-of-length-le}
 use lib.Seq.{drop-cons, take-suc-set, take-set-le, drop-set-lt, length-take-le}
 use borrow.Author.Tests.{eq-eqb, ne-eqb, leb-true, leb-false}
+use Rattle.kmers.proofs.Entries.{codes-entries}
 use Rattle.base.specs.Lists.{bit, addIf, keep, sum}
 use Rattle.base.specs.Counts.{occ}
 use Rattle.base.specs.Replies.{over}
@@ -152,17 +153,6 @@ copied-all words marks n out₀ out i at c h room =
     sym (take-append-drop n out) ∙ ap₂ (λ (a b : List ℕ). a ++ b) (sym all) (c .rest ∙ ap (λ (j : ℕ). drop j out₀) (sym long))
 
 -- ---- the struck entries
-
-pub codes-entries : (cs ps : List ℕ) → length cs ≡ length ps → codes (entries cs ps) ≡ cs
-codes-entries [] ps h = refl
-codes-entries (c ∷ cs) [] h = absurd (omega arith)
-codes-entries (c ∷ cs) (p ∷ ps) h = ap (λ (l : List ℕ). c ∷ l) (codes-entries cs ps (omega arith))
-
-pub positions-entries : (cs ps : List ℕ) → length cs ≡ length ps → positions (entries cs ps) ≡ ps
-positions-entries [] [] h = refl
-positions-entries [] (p ∷ ps) h = absurd (omega arith)
-positions-entries (c ∷ cs) [] h = absurd (omega arith)
-positions-entries (c ∷ cs) (p ∷ ps) h = ap (λ (l : List ℕ). p ∷ l) (positions-entries cs ps (omega arith))
 
 codes-addIf : (b : Bool) (e : Entry) (es : List Entry) → codes (addIf b e es) ≡ addIf (eqb (bit b) 1) (e .code) (codes es)
 codes-addIf true e es = refl

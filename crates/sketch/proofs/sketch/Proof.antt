@@ -46,11 +46,11 @@ entry-winnow-arg c = entry-else3 (c .before .before .before)
 abbrev entry-codes : tie.After-codes → tie.Start
 entry-codes c = entry-winnow-arg (c .before .before .before)
 
-abbrev lesser-winnow-arg : tie.After-winnow-arg → tie.After-lesser
-lesser-winnow-arg c = c .before .before
+abbrev smaller-winnow-arg : tie.After-winnow-arg → tie.After-smaller
+smaller-winnow-arg c = c .before .before
 
-abbrev lesser-codes : tie.After-codes → tie.After-lesser
-lesser-codes c = lesser-winnow-arg (c .before .before .before)
+abbrev smaller-codes : tie.After-codes → tie.After-smaller
+smaller-codes c = smaller-winnow-arg (c .before .before .before)
 
 abbrev winnow-codes : tie.After-codes → tie.After-winnow
 winnow-codes c = c .before
@@ -144,8 +144,8 @@ returns-3 c =
     (sym (outside-else1 (c .before .before .before) .outside .ensures) ∙ c .before .before .before .if1 .left)
     (sym (c .before .before .outside2 .ensures) ∙ c .before .if2 .left) (c .if3 .taken))
 
-lesser-requires : tie.Need-lesser-requires
-lesser-requires c κs = search needs
+smaller-requires : tie.Need-smaller-requires
+smaller-requires c κs = search needs
 
 winnow-requires : tie.Need-winnow-requires
 winnow-requires c κs = search needs
@@ -160,18 +160,18 @@ returns-4 : tie.Need-returns-4
 returns-4 c =
     let args = entry-codes (c .before .before .before) .args in
     let letters = args .letters .now in
-    let room = lesser-codes (c .before .before .before) .lesser .result in
-    let least : room ≡ min (length (args .codes .now)) (length (args .positions .now)) = lesser-codes (c .before .before .before) .lesser .ensures in
+    let room = smaller-codes (c .before .before .before) .smaller .result in
+    let least : room ≡ min (length (args .codes .now)) (length (args .positions .now)) = smaller-codes (c .before .before .before) .smaller .ensures in
     let call = winnow-codes (c .before .before .before) .winnow in
     let n = length (sketch (args .k) (args .w) letters) in
-    let limits = ranges (lesser-codes (c .before .before .before) .before) in
+    let limits = ranges (smaller-codes (c .before .before .before) .before) in
     let fits : n ≤ room =
     le-trans (sketch-length (args .k) (args .w) letters (limits .0)) (winnow-codes (c .before .before .before) .before .before .before .if4 .taken) in
     sketches-accepted (args .k) (args .w) letters (args .codes .now) (args .positions .now) room (call .result) (call .last .1 .1 .1 .0)
     (call .last .1 .1 .1 .1 .0)
     fits (omega arith) (omega arith)
     (call .ensures ∙ winnowed-within (args .k) (args .w) letters room (args .codes .now) (args .positions .now) limits (omega arith) (omega arith))
-    (left (lesser-codes (c .before .before .before) .before) ∙ room-enough n (length (args .codes .now)) (length (args .positions .now)) (omega arith))
+    (left (smaller-codes (c .before .before .before) .before) ∙ room-enough n (length (args .codes .now)) (length (args .positions .now)) (omega arith))
 
 entries-requires : tie.Need-entries-requires
 entries-requires c κs = ranges (c .before .before)
@@ -186,7 +186,7 @@ returns-5 c =
     sketches-refused (args .k) (args .w) letters (args .codes .now) (args .positions .now) (TooShort needed) 4 (needed ∷ []) refl
     (left (else3-else4 (c .before .before))
     ∙ room-short n (length (args .codes .now)) (length (args .positions .now))
-    (omega (arith, c .if5 .taken, c .before .before .before .lesser .ensures)) ∙ ap (λ (x : ℕ). refused 4 (x ∷ [])) (sym same))
+    (omega (arith, c .if5 .taken, c .before .before .before .smaller .ensures)) ∙ ap (λ (x : ℕ). refused 4 (x ∷ [])) (sym same))
 
 winnow-requires-2 : tie.Need-winnow-requires-2
 winnow-requires-2 c κs = search needs
@@ -201,9 +201,9 @@ returns-6 : tie.Need-returns-6
 returns-6 c =
     let args = entry-codes2 (c .before .before .before) .args in
     let letters = args .letters .now in
-    let room = entries-codes2 (c .before .before .before) .before .before .lesser .result in
+    let room = entries-codes2 (c .before .before .before) .before .before .smaller .result in
     let least : room ≡ min (length (args .codes .now)) (length (args .positions .now)) =
-    entries-codes2 (c .before .before .before) .before .before .lesser .ensures in
+    entries-codes2 (c .before .before .before) .before .before .smaller .ensures in
     let call = winnow2-codes2 (c .before .before .before) .winnow2 in
     let n = length (sketch (args .k) (args .w) letters) in
     let limits = ranges (entries-codes2 (c .before .before .before) .before .before .before) in
@@ -226,7 +226,7 @@ sketch-spec =
     outside-requires-2
     returns-2
     returns-3
-    lesser-requires
+    smaller-requires
     winnow-requires
     same-length
     same-length-2

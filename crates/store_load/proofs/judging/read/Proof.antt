@@ -10,7 +10,7 @@ use borrow.Author.Needs.{needs}
 use denote.Ref.{now}
 use Rattle.kmers.specs.Kmers.{codes as codesOf, positions as positionsOf}
 use Rattle.store.specs.Load.{judge, entriesOf}
-use Rattle.store.proofs.Entries.{length-codes, length-positions}
+use Rattle.kmers.proofs.Entries.{length-codes, length-positions}
 use Rattle.store.proofs.RoundTrip.{loaded-at, length-loaded}
 use Rattle.store.proofs.Filling.{Filling, fill-start, fill-next, fill-done}
 use Rattle.store_load.proofs.judging.read.Statement.{statement}

@@ -16,7 +16,8 @@ use Rattle.kmers.specs.Kmers.{entries}
 use Rattle.store.specs.Words.{isCode}
 use Rattle.store.specs.Save.{entryWords, stored, storable}
 use Rattle.store.proofs.WordLaws.{code-fits}
-use Rattle.store.proofs.Entries.{entries-drop, length-entries, codes-entries, positions-entries, storable-at, storable-length, length-stored}
+use Rattle.store.proofs.Entries.{entries-drop, length-entries, storable-at, storable-length, length-stored}
+use Rattle.kmers.proofs.Entries.{codes-entries, positions-entries}
 use Rattle.store.proofs.Filling.{Filling, fill-next, fill-done}
 use Rattle.store_save.proofs.entries.write.Statement.{statement}
 use Rattle.store_save.proofs.entries.write.Tie as tie
