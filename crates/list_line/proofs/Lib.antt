@@ -1,5 +1,7 @@
 -- Laws of buffers and of numbers in decimal, which the crates above cite, and examples that compute.
 pub mod Compute
+pub mod Rounding
+pub mod PerMille
 pub mod Cases
 pub mod Buffers
 pub mod Decimal

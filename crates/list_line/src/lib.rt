@@ -3,10 +3,32 @@ pub mod writing;
 
 use base::PATTERN_LIMIT;
 use base::TEXT_LIMIT;
+ghost use Prim.Native.Nat.{_<_, _^_};
 ghost use mathlib.Core.Path.{_≡_};
+ghost use Rattle.list_line.specs.Rounding.{nearest};
 ghost use Rattle.list_line.specs.PerMille.{perMilleNumber};
 
-// 1,000·m / (len + |p| − m), rounded down; or −16 where document 01 refuses.
+// n / d rounded to the nearest whole number, an exact half to the even one.
+fn nearest(n: u64, d: u64) -> u64
+    requires { ⌜ (0 < d) × (d < 2 ^ 63) × (n < 2 ^ 63) ⌝ }
+    ensures { λ r. ⌜ r ≡ nearest n d ⌝ }
+{
+    let quotient = n / d;
+    let twice = 2 * (n % d);
+    if twice < d {
+        return quotient;
+    }
+    if d < twice {
+        return quotient + 1;
+    }
+    if quotient % 2 == 0 {
+        return quotient;
+    }
+    quotient + 1
+}
+
+// 1,000·m / (len + |p| − m), rounded to the nearest; or −16 where document 01 refuses. The fraction is made in 64 bits, which hold it
+// whatever the three numbers are.
 pub fn per_mille(m: u32, len: u32, size: u32) -> i32
     ensures { λ r. ⌜ r ≡ perMilleNumber m len size ⌝ }
 {
@@ -25,5 +47,5 @@ pub fn per_mille(m: u32, len: u32, size: u32) -> i32
     if len + size == 0 {
         return -16;
     }
-    (1000 * m / (len + size - m)) as i32
+    nearest(1000 * m as u64, len as u64 + size as u64 - m as u64) as i32
 }

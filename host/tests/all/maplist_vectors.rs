@@ -19,5 +19,5 @@ fn lists() {
             compared += 1;
         }
     }
-    assert_eq!(compared, 200);
+    assert_eq!(compared, 150);
 }

@@ -1,8 +1,10 @@
-//! The exported per mille beside the reference.
+//! The exported per mille beside the reference, beside a search over all answers, and on the vectors of data/vectors.
 
 use host::per_mille;
 use host::random::Random;
 use host::reference::permille;
+
+use crate::vector_files::per_milles;
 
 fn hold(m: u32, len: u32, size: u32) {
     assert_eq!(per_mille(m, len, size), permille::per_mille(m, len, size), "m {m}, len {len}, size {size}");
@@ -19,13 +21,38 @@ fn small_numbers() {
     }
 }
 
+/// Of all answers from 0 to 1,000 the one whose distance is least, and of two such the even one: no quotient at all.
+#[test]
+fn nearest_of_all_answers() {
+    for m in 0..=40 {
+        for len in m.max(1)..=40 {
+            for size in m..=40 {
+                let (n, d) = (u64::from(1000 * m), u64::from(len + size - m));
+                let nearest = (0..=1000u64).min_by_key(|q| (n.abs_diff(q * d), q % 2)).expect("an answer");
+                assert_eq!(per_mille(m, len, size), nearest as i32, "m {m}, len {len}, size {size}");
+            }
+        }
+    }
+}
+
+#[test]
+fn vectors() {
+    for (m, len, size, expected) in per_milles() {
+        assert_eq!(per_mille(m, len, size), expected, "m {m}, len {len}, size {size}");
+        assert_eq!(permille::per_mille(m, len, size), expected, "m {m}, len {len}, size {size}");
+    }
+}
+
 #[test]
 fn stated_values() {
     assert_eq!(per_mille(3, 3, 3), 1000);
     assert_eq!(per_mille(0, 0, 1), 0);
     assert_eq!(per_mille(0, 1, 0), 0);
+    assert_eq!(per_mille(1, 16, 1), 62);
+    assert_eq!(per_mille(3, 16, 3), 188);
     assert_eq!(per_mille(1, 2, 2), 333);
-    assert_eq!(per_mille(4096, 65_535, 4096), 62);
+    assert_eq!(per_mille(2, 2, 3), 667);
+    assert_eq!(per_mille(4096, 65_535, 4096), 63);
     assert_eq!(per_mille(0, 0, 0), -16);
     assert_eq!(per_mille(2, 1, 2), -16);
     assert_eq!(per_mille(2, 2, 1), -16);

@@ -27,7 +27,7 @@ fn same<T>(held: Result<T, Difference>, line: &[String]) -> T {
 #[test]
 fn sketches() {
     let mut random = Random::new(3000);
-    for line in lines("sketch.tsv") {
+    for line in lines("sketch.tsv", 200) {
         let (k, w, letters, expected) = sketch_of(&line);
         let (mut codes, mut positions) = (vec![7; letters.len()], vec![9; letters.len()]);
         let n = calls::sketch(&letters, k, w, &mut codes, &mut positions).expect("an accepted sketch");
@@ -46,7 +46,7 @@ fn sketches() {
 #[test]
 fn stores() {
     let mut random = Random::new(3100);
-    for line in lines("store.tsv") {
+    for line in lines("store.tsv", 200) {
         let (words, room, expected) = store(&line);
         let (mut codes, mut positions) = (vec![7; room], vec![9; room]);
         let answer = match calls::load(&words, &mut codes, &mut positions) {
@@ -81,7 +81,7 @@ fn answered(work: &mut [u32], step: Step) -> String {
 fn sessions() {
     on_small_stack(|| {
         let mut random = Random::new(3200);
-        for line in lines("sessions.tsv") {
+        for line in lines("sessions.tsv", 200) {
             let Vector { task, h, steps, expected } = session(&line);
             let mut work = vec![3; 20_000];
             assert_eq!(calls::start(&task.text, &task.pattern, task.u, task.v, task.threshold, &mut work), Ok(h), "{line:?}");

@@ -12,11 +12,11 @@ pub fn folder() -> PathBuf {
     Path::new(env!("CARGO_MANIFEST_DIR")).join("../data/vectors")
 }
 
-/// The lines of a file of vectors, without the first, which names the columns.
-pub fn lines(name: &str) -> Vec<Vec<String>> {
+/// The lines of a file of so many vectors, without the first, which names the columns.
+pub fn lines(name: &str, number: usize) -> Vec<Vec<String>> {
     let text = fs::read_to_string(folder().join(name)).expect("a file of vectors");
     let lines: Vec<Vec<String>> = text.lines().skip(1).map(|line| line.split('\t').map(String::from).collect()).collect();
-    assert_eq!(lines.len(), 200, "{name}");
+    assert_eq!(lines.len(), number, "{name}");
     lines
 }
 
@@ -38,6 +38,16 @@ fn bytes(hexadecimal: &str) -> Vec<u8> {
 pub fn entries(list: &[Entry]) -> String {
     let entries: Vec<String> = list.iter().map(|entry| format!("{}:{}", entry.code, entry.position)).collect();
     entries.join(" ")
+}
+
+/// The lines of permille.tsv: m, len, |p|, and the answer. The last column holds once texts may be longer.
+pub fn per_milles() -> Vec<(u32, u32, u32, i32)> {
+    let vector = |line: Vec<String>| {
+        let [m, len, size, expected, _] = line.as_slice() else { panic!("five columns: {line:?}") };
+        let number = |text: &String| text.parse().expect("a number");
+        (number(m), number(len), number(size), expected.parse().expect("an answer"))
+    };
+    lines("permille.tsv", 150).into_iter().map(vector).collect()
 }
 
 /// A line of sketch.tsv: k, w, the letters, and the entries as text.

@@ -1,9 +1,8 @@
--- `per_mille` meets its contract: each refusal takes the tests of `isRefused` in their order, and the quotient is at most
--- 1,000·m, which fits.
-use Prim.Native.Nat.{ℕ, _+_, _-_, _*_, _/_, _^_, _≤_, _<_}
-use native.Mathlib.Nat.{div-le-self}
+-- `per_mille` meets its contract: each refusal takes the tests of `isRefused` in their order, and an accepted per mille is at most
+-- 1,000, which fits.
+use Prim.Native.Nat.{ℕ, _+_, _^_, _≤_, _<_}
 use native.Mathlib.Omega.{arith}
-use mathlib.Core.Path.{_≡_, refl, _∙_}
+use mathlib.Core.Path.{_≡_, refl, sym, subst, _∙_}
 use mathlib.Core.Bool.{Bool, true, false, _&&_}
 use lib.Dec.{eqb}
 use lib.IntN.{negsuc}
@@ -14,6 +13,7 @@ use borrow.Author.Needs.{needs}
 use borrow.Author.Tests.{lt-ltb, le-ltb, eq-eqb, ne-eqb, eqb-true}
 use Rattle.base.specs.Limits.{textLimit, patternLimit}
 use Rattle.list_line.specs.PerMille.{perMille, isRefused, perMilleNumber}
+use Rattle.list_line.proofs.PerMille.{per-mille-at-most}
 use Rattle.list_line.proofs.per_mille.Statement.{statement}
 use Rattle.list_line.proofs.per_mille.Tie as tie
 
@@ -43,10 +43,6 @@ returns-4 c =
 add-if5 : tie.Need-add-if5
 add-if5 c = search needs
 
--- whatever the divisor
-small : (m size divisor : ℕ) → m ≤ size → size ≤ patternLimit → 1000 * m / divisor < 2 ^ 31
-small m size divisor in-size size-fits = let q : 1000 * m / divisor ≤ 1000 * m = div-le-self (1000 * m) divisor in omega arith
-
 module _ (m len size : ℕ) (in-len : m ≤ len) (in-size : m ≤ size) (len-fits : len ≤ textLimit) (size-fits : size ≤ patternLimit) where
   both-zero : len + size ≡ 0 → negsuc 15 ≡ perMilleNumber m len size
   unfolding perMilleNumber isRefused
@@ -61,36 +57,54 @@ module _ (m len size : ℕ) (in-len : m ≤ len) (in-size : m ≤ size) (len-fit
       go true e = let z : len ≡ 0 = eqb-true len 0 e in ne-eqb size 0 (λ y. ne (omega arith))
       go false e = refl
 
-  quotient : (len + size ≡ 0 → ⊥) → toZ w32 (1000 * m / (len + size - m)) ≡ perMilleNumber m len size
-  unfolding perMilleNumber isRefused perMille
-  quotient ne =
-      toZ-pos w32 (small m size (len + size - m) in-size size-fits)
-      ∙ simp (le-ltb _ _ in-len, le-ltb _ _ in-size, le-ltb _ _ len-fits, le-ltb _ _ size-fits, not-both-zero ne)
+  accepted : (len + size ≡ 0 → ⊥) → (perMille m len size < 2 ^ 31) × (toZ w32 (perMille m len size) ≡ perMilleNumber m len size)
+  unfolding perMilleNumber isRefused
+  accepted ne =
+      let most : perMille m len size ≤ 1000 = per-mille-at-most m len size in-len in-size (omega arith) in
+      let fits : perMille m len size < 2 ^ 31 = omega arith in
+      (fits, toZ-pos w32 fits ∙ simp (le-ltb _ _ in-len, le-ltb _ _ in-size, le-ltb _ _ len-fits, le-ltb _ _ size-fits, not-both-zero ne))
 
 returns-5 : tie.Need-returns-5
 returns-5 c =
     let third = c .before .before in
     both-zero _ _ _ (third .before .before .if1 .left) (third .before .if2 .left) (third .if3 .left) (c .before .if4 .left) (c .if5 .taken)
 
-mul-result : tie.Need-mul-result
-mul-result c = search needs
+mul-nearest : tie.Need-mul-nearest
+mul-nearest c = search needs
 
-add-result : tie.Need-add-result
-add-result c = search needs
+add-nearest : tie.Need-add-nearest
+add-nearest c = search needs
 
-sub-result : tie.Need-sub-result
-sub-result c = search needs
+sub-nearest : tie.Need-sub-nearest
+sub-nearest c = search needs
 
-div-result : tie.Need-div-result
-div-result c = search needs
+nearest-requires : tie.Need-nearest-requires
+nearest-requires c κs = search needs
+
+module _ (c : tie.After-nearest) where
+  abbrev third : tie.Else3
+  third = c .before .before .before
+
+  abbrev first : tie.Else1
+  first = third .before .before
+
+  abbrev entry : tie.Start
+  entry = first .before
+
+  computed : c .nearest .result ≡ perMille (entry .args .m) (entry .args .len) (entry .args .size)
+  unfolding perMille
+  computed = c .nearest .ensures
+
+  computed-is : (c .nearest .result < 2 ^ 31) × (toZ w32 (c .nearest .result) ≡ perMilleNumber (entry .args .m) (entry .args .len) (entry .args .size))
+  computed-is =
+      subst (λ (x : ℕ). (x < 2 ^ 31) × (toZ w32 x ≡ perMilleNumber (entry .args .m) (entry .args .len) (entry .args .size))) (sym computed)
+      (accepted _ _ _ (first .if1 .left) (third .before .if2 .left) (third .if3 .left) (c .before .before .if4 .left) (c .before .if5 .left))
 
 cast-result : tie.Need-cast-result
-cast-result c = record { sfits = small _ _ _ (c .before .before .before .if2 .left) (c .before .if4 .left) }
+cast-result c = record { sfits = computed-is c .0 }
 
 returns-6 : tie.Need-returns-6
-returns-6 c =
-    let third = c .before .before in
-    quotient _ _ _ (third .before .before .if1 .left) (third .before .if2 .left) (third .if3 .left) (c .before .if4 .left) (c .if5 .left)
+returns-6 c = computed-is c .1
 
 pub per-mille-spec : {M : Type 1} → statement M
 per-mille-spec =
@@ -102,9 +116,9 @@ per-mille-spec =
     returns-4
     add-if5
     returns-5
-    mul-result
-    add-result
-    sub-result
-    div-result
+    mul-nearest
+    add-nearest
+    sub-nearest
+    nearest-requires
     cast-result
     returns-6)
