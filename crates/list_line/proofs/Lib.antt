@@ -1,4 +1,4 @@
--- Laws of buffers and of numbers in decimal, which the crates above cite, and examples that compute.
+-- Laws of rounding, of per mille, of buffers and of numbers in decimal, and examples that compute.
 pub mod Compute
 pub mod Rounding
 pub mod PerMille

@@ -35,6 +35,23 @@ fn nearest_of_all_answers() {
     }
 }
 
+/// Every exact half that a pattern of m entries, all shared, can have: 1,000·m / len is q and a half where 2,000·m is an odd multiple of len.
+#[test]
+fn exact_halves() {
+    let mut halves = 0;
+    for m in 1..=4096u32 {
+        for odd in (1..2000).step_by(2).filter(|odd| 2000 * m % odd == 0) {
+            let len = 2000 * m / odd;
+            if len <= 65_535 {
+                let even = if odd % 4 == 1 { odd / 2 } else { odd / 2 + 1 };
+                assert_eq!(per_mille(m, len, m), even as i32, "m {m}, len {len}");
+                halves += 1;
+            }
+        }
+    }
+    assert!(halves > 10_000, "{halves}");
+}
+
 #[test]
 fn vectors() {
     for (m, len, size, expected) in per_milles() {
