@@ -26,7 +26,7 @@ pub extern "C" fn huddlewool_count(letters: &[u8], k: u32, w: u32) -> i32
     sketch::count(letters, k, w)
 }
 
-// 1,000·m / (len + size − m), rounded down, or −16.
+// 1,000·m / (len + size − m), rounded to the nearest whole number, an exact half to the even one; or −16.
 #[no_mangle]
 pub extern "C" fn huddlewool_per_mille(m: u32, len: u32, size: u32) -> i32
     ensures { λ r. ⌜ r ≡ perMilleNumber m len size ⌝ }
