@@ -1,4 +1,5 @@
--- Laws of an accepted per mille: it is the whole number nearest to its fraction, and at most 1,000.
+-- Laws of per mille, where m is at most both lengths and these are not both 0, as in each accepted call: it is the whole number nearest
+-- to its fraction, and at most 1,000. No limit of the lengths is needed.
 use Prim.Native.Nat.{ℕ, _+_, _-_, _*_, _≤_, _<_}
 use native.Mathlib.Omega.{arith}
 use Rattle.list_line.specs.Rounding.{Nearest}

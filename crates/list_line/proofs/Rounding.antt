@@ -1,4 +1,4 @@
--- Laws of the nearest whole number: `nearest` has the property, and no two numbers have it.
+-- Laws of the nearest whole number: `nearest` has the property, no two numbers have it, and it does not leave a whole bound.
 use Prim.Native.Nat.{ℕ, _+_, _-_, _*_, _/_, _%_, _≤_, _<_}
 use native.Mathlib.Nat.{div-add-mod, mod-lt, mul-comm, add-mul, mul-le-mul-right, le-of-mul-le-mul-right}
 use native.Mathlib.Omega.{arith}
@@ -8,73 +8,83 @@ use lib.Dec.{ltb, eqb}
 use borrow.Author.Tests.{ltb-true, ltb-false, eqb-true, eqb-false}
 use Rattle.list_line.specs.Rounding.{evenOf, rounded, nearest, apart, Nearest}
 
--- distances from a remainder r: to the multiple below, and to the one above
-apart-below : (n x r : ℕ) → n ≡ x + r → apart n x ≡ r
+-- the multiples of the divisor below and above: how far they are from the dividend
+next : (x divisor : ℕ) → (x + 1) * divisor ≡ x * divisor + divisor
+next x divisor = let e : (x + 1) * divisor ≡ x * divisor + 1 * divisor = add-mul x 1 divisor in omega arith
+
+apart-below : (dividend multiple remainder : ℕ) → dividend ≡ multiple + remainder → apart dividend multiple ≡ remainder
 unfolding apart
-apart-below n x r e = omega arith
+apart-below dividend multiple remainder e = omega arith
 
-apart-above : (n x d r : ℕ) → n ≡ x + r → r ≤ d → apart n (x + d) ≡ d - r
+apart-above : (dividend multiple divisor remainder : ℕ) → dividend ≡ multiple + remainder → remainder ≤ divisor
+    → apart dividend (multiple + divisor) ≡ divisor - remainder
 unfolding apart
-apart-above n x d r e small = omega arith
+apart-above dividend multiple divisor remainder e small = omega arith
 
-next : (q d : ℕ) → (q + 1) * d ≡ q * d + d
-next q d = let e : (q + 1) * d ≡ q * d + 1 * d = add-mul q 1 d in omega arith
+module _
+    (dividend divisor quotient remainder : ℕ)
+    (e : dividend ≡ quotient * divisor + remainder)
+    (small : remainder < divisor)
+  where
+    below : 2 * remainder ≤ divisor → (2 * remainder ≡ divisor → quotient % 2 ≡ 0) → Nearest dividend divisor quotient
+    below h even =
+        let a : apart dividend (quotient * divisor) ≡ remainder = apart-below dividend (quotient * divisor) remainder e in
+        record { near = omega arith; even = λ f. even (omega arith) }
 
-module _ (n d q r : ℕ) (e : n ≡ q * d + r) (small : r < d) where
-  below : 2 * r ≤ d → (2 * r ≡ d → q % 2 ≡ 0) → Nearest n d q
-  below h even =
-      let a : apart n (q * d) ≡ r = apart-below n (q * d) r e in
-      record { near = omega arith; even = λ f. even (omega arith) }
+    above : divisor ≤ 2 * remainder → (2 * remainder ≡ divisor → (quotient + 1) % 2 ≡ 0) → Nearest dividend divisor (quotient + 1)
+    above h even =
+        let a : apart dividend ((quotient + 1) * divisor) ≡ divisor - remainder
+        = ap (apart dividend) (next quotient divisor) ∙ apart-above dividend (quotient * divisor) divisor remainder e (omega arith) in
+        record { near = omega arith; even = λ f. even (omega arith) }
 
-  above : d ≤ 2 * r → (2 * r ≡ d → (q + 1) % 2 ≡ 0) → Nearest n d (q + 1)
-  above h even =
-      let a : apart n ((q + 1) * d) ≡ d - r = ap (apart n) (next q d) ∙ apart-above n (q * d) d r e (omega arith) in
-      record { near = omega arith; even = λ f. even (omega arith) }
-
-  rounded-nearest : Nearest n d (rounded q r d)
-  unfolding rounded evenOf
-  rounded-nearest = go (ltb (2 * r) d) refl (ltb d (2 * r)) refl (eqb (q % 2) 0) refl
-    where
-      go : (less : Bool) → ltb (2 * r) d ≡ less → (more : Bool) → ltb d (2 * r) ≡ more → (even : Bool) → eqb (q % 2) 0 ≡ even
-          → Nearest n d (cond less q (cond more (q + 1) (cond even q (q + 1))))
-      go true l more m even p = let x : 2 * r < d = ltb-true _ _ l in below (omega arith) (λ h. absurd (omega arith))
-      go false l true m even p = let x : d < 2 * r = ltb-true _ _ m in above (omega arith) (λ h. absurd (omega arith))
-      go false l false m true p = let x : d ≤ 2 * r = ltb-false _ _ l in let y : 2 * r ≤ d = ltb-false _ _ m in below y (λ h. eqb-true _ _ p)
-      go false l false m false p =
-          let x : d ≤ 2 * r = ltb-false _ _ l in
-          let odd : q % 2 ≡ 0 → ⊥ = eqb-false _ _ p in
-          above x (λ h. omega arith)
+    rounded-nearest : Nearest dividend divisor (rounded quotient remainder divisor)
+    unfolding rounded evenOf
+    rounded-nearest = go (ltb (2 * remainder) divisor) refl (ltb divisor (2 * remainder)) refl (eqb (quotient % 2) 0) refl
+      where
+        go : (less : Bool) → ltb (2 * remainder) divisor ≡ less → (more : Bool) → ltb divisor (2 * remainder) ≡ more
+            → (even : Bool) → eqb (quotient % 2) 0 ≡ even
+            → Nearest dividend divisor (cond less quotient (cond more (quotient + 1) (cond even quotient (quotient + 1))))
+        go true l more m even p = let x : 2 * remainder < divisor = ltb-true _ _ l in below (omega arith) (λ h. absurd (omega arith))
+        go false l true m even p = let x : divisor < 2 * remainder = ltb-true _ _ m in above (omega arith) (λ h. absurd (omega arith))
+        go false l false m true p = let x : 2 * remainder ≤ divisor = ltb-false _ _ m in below x (λ h. eqb-true _ _ p)
+        go false l false m false p =
+            let x : divisor ≤ 2 * remainder = ltb-false _ _ l in
+            let odd : quotient % 2 ≡ 0 → ⊥ = eqb-false _ _ p in
+            above x (λ h. omega arith)
 
 -- what is computed is nearest
-pub nearest-is : (n d : ℕ) → 0 < d → Nearest n d (nearest n d)
+pub nearest-is : (dividend divisor : ℕ) → 0 < divisor → Nearest dividend divisor (nearest dividend divisor)
 unfolding nearest
-nearest-is n d positive = rounded-nearest n d (n / d) (n % d) (sym (div-add-mod n d) ∙ ap (λ (x : ℕ). x + n % d) (mul-comm d (n / d))) (mod-lt n positive)
+nearest-is dividend divisor positive =
+    rounded-nearest dividend divisor (dividend / divisor) (dividend % divisor)
+    (sym (div-add-mod dividend divisor) ∙ ap (λ (x : ℕ). x + dividend % divisor) (mul-comm divisor (dividend / divisor)))
+    (mod-lt dividend positive)
 
--- of two nearest ones neither is the greater: they would be neighbours, n half way between them, and both even
-not-less : (n d q q′ : ℕ) → 0 < d → Nearest n d q → Nearest n d q′ → q < q′ → ⊥
+-- of two nearest ones neither is the lower: they would be neighbours, the fraction half way between them, and both even
+not-lower : (dividend divisor x y : ℕ) → 0 < divisor → Nearest dividend divisor x → Nearest dividend divisor y → x < y → ⊥
 unfolding apart
-not-less n d q q′ positive a b less =
-    let step : (q + 1) * d ≤ q′ * d = mul-le-mul-right d (omega arith) in
-    let above : (q + 1) * d ≡ q * d + d = next q d in
-    let near : 2 * apart n (q * d) ≤ d = a .near in
-    let near′ : 2 * apart n (q′ * d) ≤ d = b .near in
-    let even : q % 2 ≡ 0 = a .even (omega arith) in
-    let even′ : q′ % 2 ≡ 0 = b .even (omega arith) in
-    let neighbour : q′ ≤ q + 1 = le-of-mul-le-mul-right {m = q′} {n = q + 1} {k = d} (omega arith) positive in
+not-lower dividend divisor x y positive a b lower =
+    let step : (x + 1) * divisor ≤ y * divisor = mul-le-mul-right divisor (omega arith) in
+    let above : (x + 1) * divisor ≡ x * divisor + divisor = next x divisor in
+    let near-x : 2 * apart dividend (x * divisor) ≤ divisor = a .near in
+    let near-y : 2 * apart dividend (y * divisor) ≤ divisor = b .near in
+    let even-x : x % 2 ≡ 0 = a .even (omega arith) in
+    let even-y : y % 2 ≡ 0 = b .even (omega arith) in
+    let neighbour : y ≤ x + 1 = le-of-mul-le-mul-right {m = y} {n = x + 1} {k = divisor} (omega arith) positive in
     omega arith
 
 -- there is one nearest number
-pub one-nearest : (n d q q′ : ℕ) → 0 < d → Nearest n d q → Nearest n d q′ → q ≡ q′
-one-nearest n d q q′ positive a b =
-    let up : q < q′ → ⊥ = not-less n d q q′ positive a b in
-    let down : q′ < q → ⊥ = not-less n d q′ q positive b a in
+pub one-nearest : (dividend divisor x y : ℕ) → 0 < divisor → Nearest dividend divisor x → Nearest dividend divisor y → x ≡ y
+one-nearest dividend divisor x y positive a b =
+    let up : x < y → ⊥ = not-lower dividend divisor x y positive a b in
+    let down : y < x → ⊥ = not-lower dividend divisor y x positive b a in
     omega arith
 
--- the nearest to a fraction of at most k is at most k
-pub nearest-at-most : (n d q k : ℕ) → 0 < d → Nearest n d q → n ≤ k * d → q ≤ k
+-- the nearest to a fraction that is at most a whole number is at most that number
+pub nearest-at-most : (dividend divisor x most : ℕ) → 0 < divisor → Nearest dividend divisor x → dividend ≤ most * divisor → x ≤ most
 unfolding apart
-nearest-at-most n d q k positive a within =
-    let above : (k + 1) * d ≡ k * d + d = next k d in
-    let near : 2 * apart n (q * d) ≤ d = a .near in
-    let not-more : k < q → ⊥ = λ more. let step : (k + 1) * d ≤ q * d = mul-le-mul-right d (omega arith) in omega arith in
+nearest-at-most dividend divisor x most positive a within =
+    let above : (most + 1) * divisor ≡ most * divisor + divisor = next most divisor in
+    let near : 2 * apart dividend (x * divisor) ≤ divisor = a .near in
+    let not-more : most < x → ⊥ = λ more. let step : (most + 1) * divisor ≤ x * divisor = mul-le-mul-right divisor (omega arith) in omega arith in
     omega arith

@@ -4,23 +4,25 @@ use mathlib.Core.Path.{_≡_}
 use mathlib.Core.Bool.{cond}
 use lib.Dec.{ltb, eqb}
 
--- the even one of q and q + 1
+-- the even one of a whole number and the next
 unfoldable pub evenOf : ℕ → ℕ
-evenOf q = cond (eqb (q % 2) 0) q (q + 1)
+evenOf whole = cond (eqb (whole % 2) 0) whole (whole + 1)
 
--- q or q + 1, by twice the remainder r against d; only where they are equal by which of the two is even
+-- the quotient or the next number, by twice the remainder against the divisor; only where these are equal, by which of the two is even
 unfoldable pub rounded : ℕ → ℕ → ℕ → ℕ
-rounded q r d = cond (ltb (2 * r) d) q (cond (ltb d (2 * r)) (q + 1) (evenOf q))
+rounded quotient remainder divisor =
+    cond (ltb (2 * remainder) divisor) quotient (cond (ltb divisor (2 * remainder)) (quotient + 1) (evenOf quotient))
 
--- n / d rounded to the nearest: from its quotient and remainder
+-- a fraction rounded to the nearest whole number, an exact half to the even one
 unfoldable pub nearest : ℕ → ℕ → ℕ
-nearest n d = rounded (n / d) (n % d) d
+nearest dividend divisor = rounded (dividend / divisor) (dividend % divisor) divisor
 
 -- the distance of two numbers: one of the two differences is 0
 unfoldable pub apart : ℕ → ℕ → ℕ
 apart x y = (x - y) + (y - x)
 
--- q is the whole number nearest to n / d: twice the distance from n to q·d is at most d, and where it equals d, q is even
-pub record Nearest (n d q : ℕ) : Type 0 where
-  pub near : 2 * apart n (q * d) ≤ d
-  pub even : 2 * apart n (q * d) ≡ d → q % 2 ≡ 0
+-- what makes a whole number the nearest to a fraction: twice the distance from the dividend to that many times the divisor is at most the
+-- divisor, and where it equals the divisor, the number is even
+pub record Nearest (dividend divisor whole : ℕ) : Type 0 where
+  pub near : 2 * apart dividend (whole * divisor) ≤ divisor
+  pub even : 2 * apart dividend (whole * divisor) ≡ divisor → whole % 2 ≡ 0

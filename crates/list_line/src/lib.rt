@@ -8,17 +8,17 @@ ghost use mathlib.Core.Path.{_≡_};
 ghost use Rattle.list_line.specs.Rounding.{nearest};
 ghost use Rattle.list_line.specs.PerMille.{perMilleNumber};
 
-// n / d rounded to the nearest whole number, an exact half to the even one.
-fn nearest(n: u64, d: u64) -> u64
-    requires { ⌜ (0 < d) × (d < 2 ^ 63) × (n < 2 ^ 63) ⌝ }
-    ensures { λ r. ⌜ r ≡ nearest n d ⌝ }
+// A fraction rounded to the nearest whole number, an exact half to the even one.
+fn nearest(dividend: u64, divisor: u64) -> u64
+    requires { ⌜ (0 < divisor) × (divisor < 2 ^ 63) × (dividend < 2 ^ 63) ⌝ }
+    ensures { λ r. ⌜ r ≡ nearest dividend divisor ⌝ }
 {
-    let quotient = n / d;
-    let twice = 2 * (n % d);
-    if twice < d {
+    let quotient = dividend / divisor;
+    let twice = 2 * (dividend % divisor);
+    if twice < divisor {
         return quotient;
     }
-    if d < twice {
+    if divisor < twice {
         return quotient + 1;
     }
     if quotient % 2 == 0 {

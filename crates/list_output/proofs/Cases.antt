@@ -17,6 +17,17 @@ pub second : outputOf (asBytes "3 2 1 2 1 -3\nCCTACGAGGTAC\nTTACTAC\n")
 unfolding list-output-computes
 second = refl
 
+-- one of 16 k-mers and three of 16: 62.5 and 187.5, each printed as the even number beside it
+pub record Halves : Type 0 where
+  pub one-of-16 : outputOf (asBytes "1 1 16 1 1 -14\nA\nACCCCCCCCCCCCCCC\n")
+      ≡ asBytes "first last score shared permille\n0 0 -14 1 62\nfound 1 cells 1\n"
+  pub three-of-16 : outputOf (asBytes "1 1 16 1 1 -10\nAAA\nAAACCCCCCCCCCCCC\n")
+      ≡ asBytes "first last score shared permille\n0 2 -10 3 188\nfound 1 cells 6\n"
+
+pub halves : Halves
+unfolding list-output-computes
+halves = record { one-of-16 = refl; three-of-16 = refl }
+
 -- what is printed instead of a list
 pub record Refusals : Type 0 where
   -- no line

@@ -8,7 +8,7 @@ use host::reference::score::Task;
 use host::reference::sketch::Entry;
 use host::reference::steps::{Answer, Step};
 
-pub fn folder() -> PathBuf {
+fn folder() -> PathBuf {
     Path::new(env!("CARGO_MANIFEST_DIR")).join("../data/vectors")
 }
 
@@ -18,6 +18,16 @@ pub fn lines(name: &str, number: usize) -> Vec<Vec<String>> {
     let lines: Vec<Vec<String>> = text.lines().skip(1).map(|line| line.split('\t').map(String::from).collect()).collect();
     assert_eq!(lines.len(), number, "{name}");
     lines
+}
+
+/// The inputs in maplist/ by their names, each with what is to be printed.
+pub fn lists() -> Vec<(String, Vec<u8>, Vec<u8>)> {
+    let paths = fs::read_dir(folder().join("maplist")).expect("a folder of inputs").map(|entry| entry.expect("an entry").path());
+    let inputs = paths.filter(|path| path.extension().is_some_and(|extension| extension == "in"));
+    let read = |path: &Path| fs::read(path).expect("a file of a vector");
+    let lists: Vec<_> = inputs.map(|path| (path.display().to_string(), read(&path), read(&path.with_extension("out")))).collect();
+    assert_eq!(lists.len(), 150, "maplist");
+    lists
 }
 
 /// The items of a list, of which `-` is the empty one.

@@ -1,8 +1,6 @@
 //! The reference beside the vectors in data/vectors, which another brute force made.
 //! Assumes that the folder stands at its place in the repository.
 
-use std::fs;
-
 use host::reference::output::output;
 use host::reference::refusal::Refusal;
 use host::reference::sketch::sketch;
@@ -10,7 +8,7 @@ use host::reference::start::{WORK_WORDS, start_call};
 use host::reference::steps::answers;
 use host::reference::store::load;
 
-use crate::vector_files::{Vector, entries, folder, lines, session, sketch_of, store, written};
+use crate::vector_files::{Vector, entries, lines, lists, session, sketch_of, store, written};
 
 #[test]
 fn sketches() {
@@ -43,16 +41,8 @@ fn stores() {
 }
 
 #[test]
-fn lists() {
-    let mut compared = 0;
-    for entry in fs::read_dir(folder().join("maplist")).expect("a folder of inputs") {
-        let path = entry.expect("an entry").path();
-        if path.extension().is_some_and(|extension| extension == "in") {
-            let input = fs::read(&path).expect("an input");
-            let expected = fs::read(path.with_extension("out")).expect("its output");
-            assert_eq!(output(&input), expected, "{}", path.display());
-            compared += 1;
-        }
+fn printed() {
+    for (name, input, expected) in lists() {
+        assert_eq!(output(&input), expected, "{name}");
     }
-    assert_eq!(compared, 150);
 }

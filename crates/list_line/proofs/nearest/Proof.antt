@@ -9,20 +9,22 @@ use Rattle.list_line.specs.Rounding.{evenOf, rounded, nearest}
 use Rattle.list_line.proofs.nearest.Statement.{statement}
 use Rattle.list_line.proofs.nearest.Tie as tie
 
-module _ (n d : ℕ) where
-  less : 2 * (n % d) < d → n / d ≡ nearest n d
+module _ (dividend divisor : ℕ) where
+  less : 2 * (dividend % divisor) < divisor → dividend / divisor ≡ nearest dividend divisor
   unfolding nearest rounded
   less l = simp (lt-ltb _ _ l)
 
-  more : d ≤ 2 * (n % d) → d < 2 * (n % d) → n / d + 1 ≡ nearest n d
+  more : divisor ≤ 2 * (dividend % divisor) → divisor < 2 * (dividend % divisor) → dividend / divisor + 1 ≡ nearest dividend divisor
   unfolding nearest rounded
   more l m = simp (le-ltb _ _ l, lt-ltb _ _ m)
 
-  half-even : d ≤ 2 * (n % d) → 2 * (n % d) ≤ d → n / d % 2 ≡ 0 → n / d ≡ nearest n d
+  half-even : divisor ≤ 2 * (dividend % divisor) → 2 * (dividend % divisor) ≤ divisor → dividend / divisor % 2 ≡ 0
+      → dividend / divisor ≡ nearest dividend divisor
   unfolding nearest rounded evenOf
   half-even l m e = simp (le-ltb _ _ l, le-ltb _ _ m, eq-eqb _ _ e)
 
-  half-odd : d ≤ 2 * (n % d) → 2 * (n % d) ≤ d → (n / d % 2 ≡ 0 → ⊥) → n / d + 1 ≡ nearest n d
+  half-odd : divisor ≤ 2 * (dividend % divisor) → 2 * (dividend % divisor) ≤ divisor → (dividend / divisor % 2 ≡ 0 → ⊥)
+      → dividend / divisor + 1 ≡ nearest dividend divisor
   unfolding nearest rounded evenOf
   half-odd l m o = simp (le-ltb _ _ l, le-ltb _ _ m, ne-eqb _ _ o)
 
@@ -33,13 +35,13 @@ rem-twice : tie.Need-rem-twice
 rem-twice c = search needs
 
 mul-twice : tie.Need-mul-twice
-mul-twice c = search (needs, mod-lt (c .args .n) (c .pre .0))
+mul-twice c = search (needs, mod-lt (c .args .dividend) (c .pre .0))
 
 returns : tie.Need-returns
 returns c = less _ _ (c .if1 .taken)
 
 add-result : tie.Need-add-result
-add-result c = let entry = c .before .before .args in search (needs, div-le-self (entry .n) (entry .d))
+add-result c = let entry = c .before .before .args in search (needs, div-le-self (entry .dividend) (entry .divisor))
 
 returns-2 : tie.Need-returns-2
 returns-2 c = more _ _ (c .before .if1 .left) (c .if2 .taken)
@@ -48,7 +50,7 @@ returns-3 : tie.Need-returns-3
 returns-3 c = half-even _ _ (c .before .before .if1 .left) (c .before .if2 .left) (c .if3 .taken)
 
 add-result-2 : tie.Need-add-result-2
-add-result-2 c = let entry = c .before .before .before .args in search (needs, div-le-self (entry .n) (entry .d))
+add-result-2 c = let entry = c .before .before .before .args in search (needs, div-le-self (entry .dividend) (entry .divisor))
 
 returns-4 : tie.Need-returns-4
 returns-4 c = half-odd _ _ (c .before .before .if1 .left) (c .before .if2 .left) (c .if3 .left)
