@@ -1,41 +1,75 @@
 -- One window more: what is put, and what a run has still to pick, before and after it.
-use Prim.Native.Nat.{ℕ, suc, _+_, _*_, _-_, _%_, _^_, _≤_, _<_}
-use native.Mathlib.Nat.{le-refl}
+use Prim.Native.Nat.{ℕ, zero, suc, _+_, _-_, _≤_, _<_}
+use native.Mathlib.Nat.{le-refl, add-zero}
 use native.Mathlib.Numerals.{add-one}
 use native.Mathlib.Omega.{arith}
-use mathlib.Core.Path.{_≡_, sym, ap, _∙_, subst, subst₂}
+use mathlib.Core.Path.{_≡_, refl, sym, ap, _∙_, subst, subst₂}
+use mathlib.Core.Bool.{Bool, true, false}
 use mathlib.Core.List.{List, [], _∷_, _++_}
-use lib.ListN.{length, getD, set}
-use Rattle.base.specs.Limits.{kLimit}
-use Rattle.kmers.specs.Letters.{value}
-use Rattle.kmers.specs.Kmers.{Entry, rank}
+use lib.Dec.{ltb}
+use lib.ListN.{length, getD}
+use borrow.Author.Tests.{ltb-true, ltb-false}
+use Rattle.kmers.specs.Kmers.{Entry}
 use Rattle.kmers.specs.Places.{codeAt, rankAt, runEnd}
-use Rattle.minimizers.specs.Places.{spanSketch, sketchFrom, IsLowest, pickedFrom}
-use Rattle.winnowing.specs.Winnowed.{written}
-use Rattle.winnowing.specs.Scan.{ringSize, ringAt, Scanned, HasRoom, IsPut, SameEnd}
 use Rattle.kmers.specs.Ranks.{unrank}
 use Rattle.kmers.proofs.Ranks.{unrank-rank}
+use Rattle.minimizers.specs.Places.{spanSketch, sketchFrom, IsLowest, pickedFrom}
 use Rattle.minimizers.proofs.Runs.{sketchFrom-run}
-use Rattle.winnowing.proofs.Steps.{pushed}
-use Rattle.minimizers.proofs.Picks.{lowest-same, lowest-new, lowest-kept, lowest-moved, picked-new, picked-old, picked-none}
+use Rattle.minimizers.proofs.Picks.{lowest-new, lowest-kept, lowest-moved, picked-new, picked-old, picked-none}
 use Rattle.minimizers.proofs.Picks.{spanSketch-none, spanSketch-short, spanSketch-long}
+use Rattle.winnowing.specs.Winnowed.{written}
+use Rattle.winnowing.specs.Blocks.{backSize, slotOf}
+use Rattle.winnowing.specs.Scan.{Scanned, IsPut, SameEnd, toPick}
 
 -- what is put stood first among what was to come
 put-first : (room n code position n′ : ℕ) (cs ps cs′ ps′ : List ℕ) → IsPut room n code position n′ cs ps cs′ ps′
     → (es : List Entry) → written room n′ cs′ ps′ es ≡ written room n cs ps (record { code = code; position = position } ∷ es)
 put-first room n code position n′ cs ps cs′ ps′ is es = rw (is .counted, is .codes-after, is .positions-after)
 
--- ---- what the ring tells
+-- ---- what the slots tell
 
-module _ (last : ℕ) (letters ring : List ℕ) (first at code : ℕ) (scanned : Scanned last letters ring first at code) where
-  -- the lowest of the ring is that of the window
-  pub ring-lowest : (p : ℕ) → IsLowest (ringAt ring) first at p → IsLowest (rankAt (suc last) letters) first at p
-  ring-lowest p is = lowest-same (ringAt ring) (rankAt (suc last) letters) first at p (scanned .ranked) is
+module _ (last base : ℕ) (letters ranks : List ℕ) (first at code : ℕ) (scanned : Scanned last base letters ranks first at code)
+    (begins : base ≤ at + last) where
+  -- the lowest of the last n slots is that of the last n positions
+  pub slot-lowest : (n found : ℕ) → n ≤ backSize → first + n ≤ at
+      → IsLowest (λ (i : ℕ). getD ranks i 0) (slotOf last base at - n) (slotOf last base at) found
+      → IsLowest (rankAt (suc last) letters) (at - n) at (at - (slotOf last base at - found))
+      × (found ≡ slotOf last base (at - (slotOf last base at - found)))
+  slot-lowest n found few known is = (record { first = omega arith; last = omega arith; left = left; right = right }, there)
+    where
+      reaches : base ≤ first + last + backSize
+      reaches = scanned .reaches
 
-  -- and its code is taken back from its rank
-  pub ring-code : (q u : ℕ) → first ≤ q → q < at → u ≡ unrank (ringAt ring q) → u ≡ codeAt (suc last) letters q
+      from : slotOf last base at - n ≤ found
+      from = is .first
+
+      to : found < slotOf last base at
+      to = is .last
+
+      low : ℕ
+      low = at - (slotOf last base at - found)
+
+      there : found ≡ slotOf last base (at - (slotOf last base at - found))
+      there = omega arith
+
+      rank-of : (q : ℕ) → first ≤ q → q < at → getD ranks (slotOf last base q) 0 ≡ rankAt (suc last) letters q
+      rank-of = scanned .ranked
+
+      lowest-rank : getD ranks found 0 ≡ rankAt (suc last) letters (at - (slotOf last base at - found))
+      lowest-rank = ap (λ (i : ℕ). getD ranks i 0) there ∙ rank-of (at - (slotOf last base at - found)) (omega arith) (omega arith)
+
+      left : (q : ℕ) → at - n ≤ q → q < at - (slotOf last base at - found)
+          → rankAt (suc last) letters (at - (slotOf last base at - found)) ≤ rankAt (suc last) letters q
+      left q h l = subst₂ (λ (x y : ℕ). x ≤ y) lowest-rank (rank-of q (omega arith) (omega arith)) (is .left (slotOf last base q) (omega arith) (omega arith))
+
+      right : (q : ℕ) → at - (slotOf last base at - found) < q → q < at
+          → rankAt (suc last) letters (at - (slotOf last base at - found)) < rankAt (suc last) letters q
+      right q h l = subst₂ (λ (x y : ℕ). x < y) lowest-rank (rank-of q (omega arith) l) (is .right (slotOf last base q) (omega arith) (omega arith))
+
+  -- and the code of a k-mer is taken back from its rank
+  pub slot-code : (q u : ℕ) → first ≤ q → q < at → u ≡ unrank (getD ranks (slotOf last base q) 0) → u ≡ codeAt (suc last) letters q
   unfolding rankAt
-  ring-code q u a b e = e ∙ ap unrank (scanned .ranked q a b) ∙ unrank-rank (codeAt (suc last) letters q) (scanned .small q a b)
+  slot-code q u a b e = e ∙ ap unrank (scanned .ranked q a b) ∙ unrank-rank (codeAt (suc last) letters q) (scanned .small q a b)
 
 -- ---- one window more
 
@@ -58,102 +92,85 @@ module _ (last w room to : ℕ) (letters : List ℕ) (some : 1 ≤ w) (i b p : �
   window-old : (m : ℕ) → p < m → pickedFrom (suc last) w letters to i m ≡ pickedFrom (suc last) w letters to (suc i) m
   window-old m h = picked-old (suc last) letters w to some i m p (subst (λ (x : ℕ). x ≤ to) (sym wide) within) here h
 
--- ---- what holds in the loops over windows and letters
+-- ---- windows with the same lowest
 
--- the window that ends before position p is in the ring, and none of its k-mers is put
-pub record Standing (last w room : ℕ) (letters : List ℕ) (p₀ : ℕ) (ring cs ps : List ℕ) (p code n : ℕ) : Type 0 where
-  pub start : p₀ ≤ p
-  pub within : p + last ≤ runEnd letters p₀
-  pub scanned : Scanned last letters ring (p - w) p code
-  pub counted : n < p
-  pub has-room : HasRoom room cs ps
+module _ (last w room : ℕ) (letters : List ℕ) (from : ℕ) (some : 1 ≤ w) (low-at low : ℕ) (is-rank : low ≡ rankAt (suc last) letters low-at) where
+  abbrev ranks : ℕ → ℕ
+  ranks = rankAt (suc last) letters
 
--- the window that ends before position p is in the ring, and its lowest is put
-pub record Picking (last w room : ℕ) (letters : List ℕ) (p₀ : ℕ) (ring cs ps : List ℕ) (p code n low-at low : ℕ) : Type 0 where
-  pub start : p₀ ≤ p
-  pub within : p + last ≤ runEnd letters p₀
-  pub scanned : Scanned last letters ring (p - w) p code
-  pub is-lowest : IsLowest (rankAt (suc last) letters) (p - w) p low-at
-  pub is-rank : low ≡ rankAt (suc last) letters low-at
-  pub counted : n ≤ p
-  pub has-room : HasRoom room cs ps
+  -- one window more
+  kept-one : (p : ℕ) → w ≤ p → IsLowest (rankAt (suc last) letters) (p - w) p low-at → p < low-at + w → p + last < runEnd letters from
+      → low < rankAt (suc last) letters p
+      → IsLowest (rankAt (suc last) letters) (suc p - w) (suc p) low-at
+      × (toPick last w letters from (suc (p - w)) (suc low-at) ≡ toPick last w letters from (suc (suc p - w)) (suc low-at))
+  kept-one p wide is stays within above =
+      let next : suc p - w ≡ suc (p - w) = omega arith in
+      let lowest : IsLowest (rankAt (suc last) letters) (suc (p - w)) (suc p) low-at =
+      lowest-moved (rankAt (suc last) letters) (p - w) (suc p) low-at
+      (lowest-kept (rankAt (suc last) letters) (p - w) p low-at is (subst (λ (x : ℕ). x < rankAt (suc last) letters p) is-rank above))
+      (omega (arith, is .last)) in (
+        rw next lowest,
+        rw next
+            (window-old last w room (runEnd letters from - last) letters some (suc (p - w)) (suc p) low-at (omega arith) (omega arith) lowest
+            (suc low-at) (le-refl (suc low-at))),
+      )
 
--- of the run that holds position p₀, what the windows from i on pick from position m on
-abbrev pub toPick : ℕ → ℕ → List ℕ → ℕ → ℕ → ℕ → List Entry
-toPick last w letters p₀ i m = pickedFrom (suc last) w letters (runEnd letters p₀ - last) i m
+  -- any number of them
+  kept-many : (n p : ℕ) → w ≤ p → IsLowest (rankAt (suc last) letters) (p - w) p low-at → p + n ≤ low-at + w → p + n + last ≤ runEnd letters from
+      → ((q : ℕ) → p ≤ q → q < p + n → low < rankAt (suc last) letters q)
+      → IsLowest (rankAt (suc last) letters) (p + n - w) (p + n) low-at
+      × (toPick last w letters from (suc (p - w)) (suc low-at) ≡ toPick last w letters from (suc (p + n - w)) (suc low-at))
+  kept-many zero p wide is stays within above = rw (add-zero p) (is, refl)
+  kept-many (suc n) p wide is stays within above =
+      let one = kept-one p wide is (omega arith) (omega arith) (above p (le-refl p) (omega arith)) in
+      let many = kept-many n (suc p) (omega arith) (one .0) (omega arith) (omega arith) (λ q a b. above q (omega arith) (omega arith)) in
+      let same : suc p + n ≡ p + suc n = omega arith in
+      let picks : toPick last w letters from (suc (p - w)) (suc low-at) ≡ toPick last w letters from (suc (suc p + n - w)) (suc low-at) = one .1 ∙ many .1 in
+      (rw same at (many .0), rw same at picks)
 
--- ---- one letter more
+  -- up to a position
+  pub kept : (p at : ℕ) → w ≤ p → IsLowest (rankAt (suc last) letters) (p - w) p low-at → p ≤ at → at ≤ low-at + w → at + last ≤ runEnd letters from
+      → ((q : ℕ) → p ≤ q → q < at → low < rankAt (suc last) letters q)
+      → IsLowest (rankAt (suc last) letters) (at - w) at low-at
+      × (toPick last w letters from (suc (p - w)) (suc low-at) ≡ toPick last w letters from (suc (at - w)) (suc low-at))
+  kept p at wide is start stays within above =
+      let same : p + (at - p) ≡ at = omega arith in
+      rw same at (kept-many (at - p) p wide is (omega arith) (omega arith) (λ q a b. above q a (omega arith)))
 
-module _ (last w room : ℕ) (letters : List ℕ) (p₀ : ℕ) (ready : p₀ ≤ length letters) (short : last < kLimit) (some : 1 ≤ w)
-    (narrow : w ≤ ringSize)
-    (ring cs ps : List ℕ) (p code n low-at low : ℕ) (wide : w ≤ p) (at : Picking last w room letters p₀ ring cs ps p code n low-at low) where
-  -- the run ends: nothing is left to pick
-  pub picking-end : p + last ≡ runEnd letters p₀ → toPick last w letters p₀ (suc (p - w)) (suc low-at) ≡ []
-  picking-end h = picked-none (suc last) letters w (runEnd letters p₀ - last) some (suc (p - w)) (suc low-at) (omega arith)
+-- ---- windows with a new lowest
 
-  module _ (v code′ r : ℕ) (more : p + last < runEnd letters p₀) (ev : v ≡ value (getD letters (p + last) 0))
-      (ec : code′ ≡ (4 * code + v) % 4 ^ suc last)
-      (er : r ≡ rank code′) where
-    next : p + 1 - w ≡ suc (p - w)
-    next = omega arith
+module _ (last w room : ℕ) (letters : List ℕ) (from : ℕ) (some : 1 ≤ w) (low-at p at n n′ code : ℕ) (cs ps cs′ ps′ : List ℕ) (wide : w ≤ at)
+    (to-pick : toPick last w letters from (suc (p - w)) (suc low-at) ≡ toPick last w letters from (suc (at - w)) (suc low-at)) where
+  -- the k-mer at the position is the lowest, and is put
+  pub put-new : IsLowest (rankAt (suc last) letters) (at - w) at low-at → at + last < runEnd letters from
+      → rankAt (suc last) letters at ≤ rankAt (suc last) letters low-at → code ≡ codeAt (suc last) letters at
+      → IsPut room n code at n′ cs ps cs′ ps′
+      → IsLowest (rankAt (suc last) letters) (at + 1 - w) (at + 1) at
+      × SameEnd room n′ cs′ ps′ (toPick last w letters from (suc (at + 1 - w)) (suc at)) n cs ps (toPick last w letters from (suc (p - w)) (suc low-at))
+  put-new is within below there put =
+      let next : at + 1 - w ≡ suc (at - w) = omega arith in
+      let lowest : IsLowest (rankAt (suc last) letters) (suc (at - w)) (suc at) at =
+      lowest-moved (rankAt (suc last) letters) (at - w) (suc at) at (lowest-new (rankAt (suc last) letters) (at - w) at low-at is below) (omega arith) in (
+        rw (next, add-one at) lowest,
+        λ es. rw (next, to-pick)
+            (window-new last w room (runEnd letters from - last) letters some (suc (at - w)) (suc at) at (omega arith) (omega arith) lowest
+            (suc low-at) n code n′ cs ps cs′ ps′ (is .last) there put es),
+      )
 
-    step : (code′ ≡ codeAt (suc last) letters p) × (r ≡ rankAt (suc last) letters p)
-        × Scanned last letters (set ring (p % ringSize) r) (p + 1 - w) (p + 1) code′
-    step = pushed letters p₀ ready last p (at .start) more short ring (p - w) (p + 1 - w) code v code′ r (at .scanned) (omega arith) (omega arith) ev ec er
+-- ---- one block more
 
-    -- the lowest has left: the next window stands, and nothing of it is put
-    pub picking-left : low-at + w ≤ p
-        → Standing last w room letters p₀ (set ring (p % ringSize) r) cs ps (p + 1) code′ n
-        × (toPick last w letters p₀ (suc (p - w)) (suc low-at) ≡ toPick last w letters p₀ (p + 1 - w) (p + 1 - w))
-    picking-left h =
-        let gone : suc low-at ≡ suc (p - w) = omega (arith, at .is-lowest .first) in (
-          record { start = omega (arith, at .start); within = omega arith; scanned = step .2; counted = omega (arith, at .counted); has-room = at .has-room },
-          rw (gone, next),
-        )
+-- what is put after what was put
+pub put-behind : (room n n′ n₀ : ℕ) (cs ps cs′ ps′ cs₀ ps₀ : List ℕ) (left more all : List Entry) → SameEnd room n′ cs′ ps′ left n cs ps more
+    → SameEnd room n cs ps more n₀ cs₀ ps₀ all → SameEnd room n′ cs′ ps′ left n₀ cs₀ ps₀ all
+put-behind room n n′ n₀ cs ps cs′ ps′ cs₀ ps₀ left more all next so-far es = next es ∙ so-far es
 
-    -- the next window has the new k-mer for its lowest, which is put
-    pub picking-new : (n′ : ℕ) (cs′ ps′ : List ℕ) → r ≤ low → IsPut room n code′ p n′ cs ps cs′ ps′ → HasRoom room cs′ ps′
-        → Picking last w room letters p₀ (set ring (p % ringSize) r) cs′ ps′ (p + 1) code′ n′ p r
-        × SameEnd room n′ cs′ ps′ (toPick last w letters p₀ (suc (p + 1 - w)) (suc p)) n cs ps (toPick last w letters p₀ (suc (p - w)) (suc low-at))
-    picking-new n′ cs′ ps′ h put room′ =
-        let lowest : IsLowest (rankAt (suc last) letters) (suc (p - w)) (suc p) p =
-        lowest-moved (rankAt (suc last) letters) (p - w) (suc p) p
-        (lowest-new (rankAt (suc last) letters) (p - w) p low-at (at .is-lowest) (subst₂ (λ (x y : ℕ). x ≤ y) (step .1) (at .is-rank) h))
-        (omega arith) in (
-          record {
-            start = omega (arith, at .start);
-            within = omega arith;
-            scanned = step .2;
-            is-lowest = rw (next, add-one p) lowest;
-            is-rank = step .1;
-            counted = omega (arith, put .counted, at .counted);
-            has-room = room′;
-          },
-          rw next (window-new last w room (runEnd letters p₀ - last) letters some (suc (p - w)) (suc p) p (omega arith) (omega arith) lowest (suc low-at) n
-              code′ n′ cs ps cs′ ps′ (at .is-lowest .last) (step .0) put),
-        )
-
-    -- the next window has the same lowest
-    pub picking-kept : p < low-at + w → low < r
-        → Picking last w room letters p₀ (set ring (p % ringSize) r) cs ps (p + 1) code′ n low-at low
-        × (toPick last w letters p₀ (suc (p - w)) (suc low-at) ≡ toPick last w letters p₀ (suc (p + 1 - w)) (suc low-at))
-    picking-kept s h =
-        let lowest : IsLowest (rankAt (suc last) letters) (suc (p - w)) (suc p) low-at =
-        lowest-moved (rankAt (suc last) letters) (p - w) (suc p) low-at
-        (lowest-kept (rankAt (suc last) letters) (p - w) p low-at (at .is-lowest) (subst₂ (λ (x y : ℕ). x < y) (at .is-rank) (step .1) h))
-        (omega arith) in (
-          record {
-            start = omega (arith, at .start);
-            within = omega arith;
-            scanned = step .2;
-            is-lowest = rw (next, add-one p) lowest;
-            is-rank = at .is-rank;
-            counted = omega (arith, at .counted);
-            has-room = at .has-room;
-          },
-          rw next (window-old last w room (runEnd letters p₀ - last) letters some (suc (p - w)) (suc p) low-at (omega arith) (omega arith) lowest
-              (suc low-at) (le-refl (suc low-at))),
-        )
+-- what is put from a later place of a run on comes behind what was put up to there
+pub put-on : (last w room : ℕ) (letters : List ℕ) (from at i m i′ m′ : ℕ) → runEnd letters at ≡ runEnd letters from
+    → (n n′ n₀ : ℕ) (cs ps cs′ ps′ cs₀ ps₀ : List ℕ) (all : List Entry)
+    → SameEnd room n′ cs′ ps′ (toPick last w letters at i′ m′) n cs ps (toPick last w letters at i m)
+    → SameEnd room n cs ps (toPick last w letters from i m) n₀ cs₀ ps₀ all
+    → SameEnd room n′ cs′ ps′ (toPick last w letters from i′ m′) n₀ cs₀ ps₀ all
+put-on last w room letters from at i m i′ m′ same n n′ n₀ cs ps cs′ ps′ cs₀ ps₀ all more so-far es = (rw same at (more es)) ∙ so-far es
 
 -- ---- one run
 
@@ -176,6 +193,16 @@ module _ (last w room : ℕ) (letters : List ℕ) (some : 1 ≤ w) (from to n : 
       → SameEnd room n′ cs′ ps′ [] n cs ps (pickedFrom (suc last) w letters to from from)
       → SameEnd room n′ cs′ ps′ [] n cs ps (spanSketch (suc last) w letters from to)
   run-long n′ cs′ ps′ h put = rw (spanSketch-long (suc last) letters w to some from h) put
+
+-- with windows of one k-mer each k-mer is picked
+pub run-ones : (last : ℕ) (letters : List ℕ) (from to : ℕ) → pickedFrom (suc last) 1 letters to from from ≡ spanSketch (suc last) 1 letters from to
+run-ones last letters from to = go (ltb from to) refl
+  where
+    go : (b : Bool) → ltb from to ≡ b → pickedFrom (suc last) 1 letters to from from ≡ spanSketch (suc last) 1 letters from to
+    go true e = sym (spanSketch-long (suc last) letters 1 to (le-refl 1) from (omega (arith, ltb-true from to e)))
+    go false e =
+        picked-none (suc last) letters 1 to (le-refl 1) from from (omega (arith, ltb-false from to e))
+        ∙ sym (spanSketch-none (suc last) letters 1 to (le-refl 1) from (ltb-false from to e))
 
 -- what stands behind the run is then still to come
 pub run-passed : (k w room at e n n′ : ℕ) (letters cs ps cs′ ps′ : List ℕ) → 1 ≤ k → at ≤ length letters → e ≡ runEnd letters at

@@ -1,4 +1,4 @@
--- One letter more: what a scan knows of the run's end, of the code in hand and of the ring.
+-- One letter more: what a scan knows of the run's end, of the code in hand and of the ranks in their slots.
 use Prim.Native.Nat.{ℕ, suc, _+_, _*_, _-_, _%_, _^_, _≤_, _<_}
 use native.Mathlib.Nat.{le-antisymm, lt-of-lt-of-le, pow-le-pow-right, mod-lt}
 use native.Mathlib.Numerals.{add-one}
@@ -10,15 +10,14 @@ use lib.Dec.{ltb, lit<}
 use lib.ListN.{length, getD, set, drop, length-set}
 use lib.Seq.{getD-drop, getD-set-same, getD-set-other}
 use borrow.Author.Count.{below-more}
-use mir.Syntax.{w64}
-use mir.Val.{Fits}
 use borrow.Author.Tests.{eq-eqb, ne-eqb, ltb-true, ltb-false}
 use Rattle.base.proofs.Lists.{clash}
 use Rattle.base.specs.Limits.{kLimit}
 use Rattle.kmers.specs.Letters.{value, isForeign, foreign}
 use Rattle.kmers.specs.Kmers.{rank}
 use Rattle.kmers.specs.Places.{codeAt, rankAt, runLength, runEnd}
-use Rattle.winnowing.specs.Scan.{ringSize, ringAt, Scanned}
+use Rattle.winnowing.specs.Blocks.{blockSize, backSize, slotOf, IsCarried}
+use Rattle.winnowing.specs.Scan.{InHand, Scanned}
 use Rattle.kmers.proofs.Codes.{value-below, cut-digit, codeAt-below, codeAt-suc, codeAt-cut}
 use Rattle.minimizers.proofs.Runs.{runEnd-within, run-letters}
 
@@ -106,50 +105,83 @@ module _ (letters : List ℕ) (from : ℕ) (in-letters : from ≤ length letters
         value-below (getD letters (at + last) 0) (run-letters letters from (at + last) (omega arith) more) in
         rw (cut-digit last code (value (getD letters (at + last) 0)) digit, h) (sym (codeAt-suc letters last at (omega arith)))
 
-    -- its rank in the ring, and the code in hand, one position further
-    scanned-next : (ring : List ℕ) (first first′ code : ℕ) → Scanned last letters ring first at code → first ≤ first′ → at < first′ + ringSize
-        → Scanned last letters (set ring (at % ringSize) (rank (codeAt (suc last) letters at))) first′ (at + 1) (codeAt (suc last) letters at)
-    unfolding rankAt
-    scanned-next ring first first′ code is a b = record {
-      sized = length-set ring (at % ringSize) (rank (codeAt (suc last) letters at)) ∙ is .sized;
-      small = λ q c d. below-more (λ (x : ℕ). first′ ≤ x → codeAt (suc last) letters x < 4 ^ kLimit) at (λ x l m. is .small x (omega arith) l)
-          (λ m. code-small at (suc last) start (omega arith) short) q d c;
-      ranked = λ q c d. below-more (λ (x : ℕ). first′ ≤ x → ringAt new x ≡ rankAt (suc last) letters x) at old here q d c;
-      code-there =
-          rw (add-one at)
-          (codeAt-cut letters last at (omega (arith, runEnd-within letters from in-letters))
-          (λ q c d. run-letters letters from q (omega arith) (omega arith)));
-      code-below = code-small at (suc last) start (omega arith) short;
-    }
-      where
-        r : ℕ
-        r = rank (codeAt (suc last) letters at)
+    -- the code in hand is then that of the k-mer at the position, and the next one ends in it
+    pub pushed : (code v code′ : ℕ) → InHand last letters at code → v ≡ value (getD letters (at + last) 0) → code′ ≡ (4 * code + v) % 4 ^ suc last
+        → (code′ ≡ codeAt (suc last) letters at) × (codeAt (suc last) letters at < 4 ^ kLimit) × InHand last letters (at + 1) code′
+    pushed code v code′ is ev ec =
+        let there : code′ ≡ codeAt (suc last) letters at =
+        ec ∙ ap (λ (x : ℕ). (4 * code + x) % 4 ^ suc last) ev ∙ code-next code (is .code-there) in
+        let small : codeAt (suc last) letters at < 4 ^ kLimit = code-small at (suc last) start (omega arith) short in (
+          there,
+          small,
+          record {
+            code-there =
+                rw (there, add-one at)
+                (codeAt-cut letters last at (omega (arith, runEnd-within letters from in-letters))
+                (λ q c d. run-letters letters from q (omega arith) (omega arith)));
+            code-below = subst (λ (x : ℕ). x < 4 ^ kLimit) (sym there) small;
+          },
+        )
 
-        new : List ℕ
-        new = set ring (at % ringSize) r
+-- ---- the ranks in their slots
 
-        old : (q : ℕ) → q < at → first′ ≤ q → ringAt new q ≡ rankAt (suc last) letters q
-        old q d c =
-            let other : q % ringSize ≡ at % ringSize → ⊥ = λ e. omega arith in
-            getD-set-other ring (at % ringSize) (q % ringSize) r 0 other ∙ is .ranked q (omega arith) d
+-- the rank of the code that is read is that of the k-mer
+pub rank-there : (last at code r : ℕ) (letters : List ℕ) → r ≡ rank code → code ≡ codeAt (suc last) letters at → r ≡ rankAt (suc last) letters at
+unfolding rankAt
+rank-there last at code r letters er ec = er ∙ ap rank ec
 
-        here : first′ ≤ at → ringAt new at ≡ rankAt (suc last) letters at
-        here c = getD-set-same ring (at % ringSize) r 0 (rw (is .sized) (mod-lt at (lit< tt)))
+-- a rank is below 4^15
+pub rank-small : (k q : ℕ) (letters : List ℕ) → rankAt k letters q < 4 ^ kLimit
+unfolding rankAt rank
+rank-small k q letters = mod-lt (codeAt k letters q * 2654435761) (lit< tt)
 
-    -- the same of the next code and its rank, as the calls answer them
-    pub pushed : (ring : List ℕ) (first first′ code v code′ r : ℕ) → Scanned last letters ring first at code → first ≤ first′
-        → at < first′ + ringSize
-        → v ≡ value (getD letters (at + last) 0) → code′ ≡ (4 * code + v) % 4 ^ suc last → r ≡ rank code′
-        → (code′ ≡ codeAt (suc last) letters at) × (r ≡ rankAt (suc last) letters at)
-        × Scanned last letters (set ring (at % ringSize) r) first′ (at + 1) code′
-    unfolding rankAt
-    pushed ring first first′ code v code′ r is a b ev ec er =
-        let there : code′ ≡ codeAt (suc last) letters at = ec ∙ ap (λ (x : ℕ). (4 * code + x) % 4 ^ suc last) ev ∙ code-next code (is .code-there) in
-        let ranked : r ≡ rank (codeAt (suc last) letters at) = er ∙ ap rank there in
-        (there, ranked, rw (ranked, there) (scanned-next ring first first′ code is a b))
+-- what is known of the ranks from a position on is known from a later one on
+pub scanned-later : (last base : ℕ) (letters ranks : List ℕ) (first first′ at code : ℕ) → Scanned last base letters ranks first at code → first ≤ first′
+    → Scanned last base letters ranks first′ at code
+scanned-later last base letters ranks first first′ at code is h = record {
+  sized = is .sized;
+  reaches = omega (arith, is .reaches);
+  ranked = λ q a b. is .ranked q (omega arith) b;
+  small = λ q a b. is .small q (omega arith) b;
+  in-hand = is .in-hand;
+}
 
--- ---- offsets in the ring
+module _ (last base : ℕ) (letters ranks : List ℕ) (first at code r code′ : ℕ) (is : Scanned last base letters ranks first at code)
+    (begins : base ≤ at + last)
+    (ends : at + last < base + blockSize) (ranked : r ≡ rankAt (suc last) letters at) (small : codeAt (suc last) letters at < 4 ^ kLimit)
+    (in-hand : InHand last letters (at + 1) code′) where
+  abbrev new : List ℕ
+  new = set ranks (slotOf last base at) r
 
--- a place of the ring, in bytes
-pub ring-scaled : (q : ℕ) → Fits w64 (q % ringSize * 4)
-ring-scaled q = omega arith
+  -- one rank more
+  pub scanned-next : Scanned last base letters (set ranks (slotOf last base at) r) first (at + 1) code′
+  scanned-next = record {
+    sized = length-set ranks (slotOf last base at) r ∙ is .sized;
+    reaches = is .reaches;
+    ranked = λ q c d. below-more (λ (x : ℕ). first ≤ x → getD new (slotOf last base x) 0 ≡ rankAt (suc last) letters x) at old here q (omega arith) c;
+    small = λ q c d. below-more (λ (x : ℕ). first ≤ x → codeAt (suc last) letters x < 4 ^ kLimit) at (λ x l m. is .small x m l) (λ m. small) q (omega arith) c;
+    in-hand = in-hand;
+  }
+    where
+      old : (q : ℕ) → q < at → first ≤ q → getD new (slotOf last base q) 0 ≡ rankAt (suc last) letters q
+      old q d c =
+          let other : slotOf last base q ≡ slotOf last base at → ⊥ = λ e. omega (arith, is .reaches) in
+          getD-set-other ranks (slotOf last base at) (slotOf last base q) r 0 other ∙ is .ranked q c d
+
+      here : first ≤ at → getD new (slotOf last base at) 0 ≡ rankAt (suc last) letters at
+      here c = getD-set-same ranks (slotOf last base at) r 0 (omega (arith, is .sized)) ∙ ranked
+
+-- ---- the next block
+
+-- the ranks that are taken to the front stand in the slots of the next block
+pub scanned-carried : (last base : ℕ) (letters ranks ranks′ : List ℕ) (first at code : ℕ) → Scanned last base letters ranks first at code
+    → IsCarried ranks ranks′ → at + last ≡ base + blockSize → at ≤ first + backSize → Scanned last (at + last) letters ranks′ first at code
+scanned-carried last base letters ranks ranks′ first at code is carried end few = record {
+  sized = carried .sized;
+  reaches = omega arith;
+  ranked = λ q a b.
+      let there : blockSize + slotOf last (at + last) q ≡ slotOf last base q = omega (arith, is .reaches) in
+      carried .carried (slotOf last (at + last) q) (omega arith) ∙ ap (λ (i : ℕ). getD ranks i 0) there ∙ is .ranked q a b;
+  small = is .small;
+  in-hand = is .in-hand;
+}

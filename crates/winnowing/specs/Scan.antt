@@ -3,35 +3,26 @@ use Prim.Native.Nat.{ℕ, suc, _+_, _-_, _%_, _^_, _≤_, _<_}
 use mathlib.Core.Path.{_≡_}
 use mathlib.Core.List.{List, [], _++_}
 use lib.ListN.{length, getD}
-use Rattle.base.specs.Limits.{kLimit, wLimit, letterLimit}
-use Rattle.kmers.specs.Letters.{value}
+use Rattle.base.specs.Limits.{kLimit, letterLimit}
 use Rattle.kmers.specs.Kmers.{Entry}
-use Rattle.winnowing.specs.Winnowed.{placed, written}
 use Rattle.kmers.specs.Places.{codeAt, rankAt, runEnd}
+use Rattle.minimizers.specs.Places.{pickedFrom, IsLowest}
+use Rattle.winnowing.specs.Winnowed.{placed, written}
+use Rattle.winnowing.specs.Blocks.{blockSize, backSize, ranksSize, slotOf, IsBlock}
 
--- ---- letters and the ring
-
--- the value of each byte, at the byte
-pub record IsTable (values : List ℕ) : Type 0 where
-  pub sized : length values ≡ 256
-  pub known : (b : ℕ) → b < 256 → getD values b 0 ≡ value b
-
--- how many ranks the ring holds: those of the widest window
-abbrev pub ringSize : ℕ
-ringSize = wLimit
-
--- the rank that the ring has for position q
-abbrev pub ringAt : List ℕ → ℕ → ℕ
-ringAt ring q = getD ring (q % ringSize) 0
-
--- ---- the scan of a run
+-- ---- letters and k-mers
 
 -- what a scan of k-mers of last + 1 letters from position `from` on starts with
-pub record Ready (letters values : List ℕ) (from last : ℕ) : Type 0 where
-  pub table : IsTable values
+pub record Ready (letters values : List ℕ) (base from last : ℕ) : Type 0 where
+  pub block : IsBlock letters values base
   pub in-letters : from ≤ length letters
   pub few : length letters ≤ letterLimit
   pub short : last < kLimit
+
+-- the letters up to this position, which are at most all, are of the block
+pub record InBlock (base from to : ℕ) : Type 0 where
+  pub begins : base ≤ from
+  pub ends : to ≤ base + blockSize
 
 -- the letters from `from` up to position `at` are read, of `last` letters at most: `code` is theirs, and where they are fewer the
 -- run ends at `at`
@@ -42,22 +33,47 @@ pub record Begun (letters : List ℕ) (from last at code : ℕ) : Type 0 where
   pub ended : at < from + last → at ≡ runEnd letters from
   pub code-there : code ≡ codeAt (at - from) letters from
 
--- the k-mers up to position `at`, of last + 1 letters each, are read: the ring has the ranks from `first` on, and the code in hand
--- ends in the `last` letters from `at` on
-pub record Scanned (last : ℕ) (letters ring : List ℕ) (first at code : ℕ) : Type 0 where
-  pub sized : length ring ≡ ringSize
-  pub ranked : (q : ℕ) → first ≤ q → q < at → ringAt ring q ≡ rankAt (suc last) letters q
-  pub small : (q : ℕ) → first ≤ q → q < at → codeAt (suc last) letters q < 4 ^ kLimit
+-- the code in hand ends in the `last` letters from position `at` on
+pub record InHand (last : ℕ) (letters : List ℕ) (at code : ℕ) : Type 0 where
   pub code-there : code % 4 ^ last ≡ codeAt last letters at
   pub code-below : code < 4 ^ kLimit
 
+-- the k-mers up to position `at`, of last + 1 letters each, are read: the ranks from position `first` on stand in their slots
+pub record Scanned (last base : ℕ) (letters ranks : List ℕ) (first at code : ℕ) : Type 0 where
+  pub sized : length ranks ≡ ranksSize
+  pub reaches : base ≤ first + last + backSize
+  pub ranked : (q : ℕ) → first ≤ q → q < at → getD ranks (slotOf last base q) 0 ≡ rankAt (suc last) letters q
+  pub small : (q : ℕ) → first ≤ q → q < at → codeAt (suc last) letters q < 4 ^ kLimit
+  pub in-hand : InHand last letters at code
+
 -- the k-mers of a run's first window are read, or all of the run where they are fewer
-pub record Filled (last w : ℕ) (letters ring : List ℕ) (from at code : ℕ) : Type 0 where
+pub record Filled (last base w : ℕ) (letters ranks : List ℕ) (from at code : ℕ) : Type 0 where
   pub start : from ≤ at
   pub most : at ≤ from + w
   pub within : at + last ≤ runEnd letters from
   pub ended : at < from + w → at + last ≡ runEnd letters from
-  pub scanned : Scanned last letters ring from at code
+  pub scanned : Scanned last base letters ranks from at code
+
+-- the k-mers from position p up to position `at` are of one run, and have ranks above low
+pub record Above (last : ℕ) (letters : List ℕ) (low p at : ℕ) : Type 0 where
+  pub start : p ≤ at
+  pub within : at + last ≤ runEnd letters p
+  pub above : (q : ℕ) → p ≤ q → q < at → low < rankAt (suc last) letters q
+
+-- whatever ranks stood in their slots when the code in hand was that at position p, all up to position `at` now do
+abbrev pub ReadOn : ℕ → ℕ → List ℕ → List ℕ → ℕ → ℕ → List ℕ → ℕ → ℕ → Type 0
+ReadOn last base letters ranks p code ranks′ at code′ =
+    (first : ℕ) → Scanned last base letters ranks first p code → Scanned last base letters ranks′ first at code′
+
+-- k-mers are read from position p on, up to the one at position `at`, the first whose rank is not above low, or where there is none
+-- up to position `stop` or the end of the run
+pub record ReadAbove (last base : ℕ) (letters ranks ranks′ : List ℕ) (low p code stop at code′ rank : ℕ) : Type 0 where
+  pub passed : Above last letters low p at
+  pub most : at ≤ stop
+  pub found : rank ≤ low
+      → (at < stop) × (at + last < runEnd letters p) × (rank ≡ rankAt (suc last) letters at) × (code′ ≡ codeAt (suc last) letters at)
+      × ReadOn last base letters ranks p code ranks′ (at + 1) code′
+  pub none : low < rank → (at < stop → at + last ≡ runEnd letters p) × ReadOn last base letters ranks p code ranks′ at code′
 
 -- ---- buffers
 
@@ -77,8 +93,34 @@ pub record IsPut (room n code position n′ : ℕ) (cs ps cs′ ps′ : List ℕ
 abbrev pub SameEnd : ℕ → ℕ → List ℕ → List ℕ → List Entry → ℕ → List ℕ → List ℕ → List Entry → Type 0
 SameEnd room n cs ps left n₀ cs₀ ps₀ all = (es : List Entry) → written room n cs ps (left ++ es) ≡ written room n₀ cs₀ ps₀ (all ++ es)
 
--- the run that holds position `from` is passed to its end, and all of these are put
-pub record Passes (room : ℕ) (letters : List ℕ) (from before at entries : ℕ) (cs ps cs′ ps′ : List ℕ) (all : List Entry) : Type 0 where
+-- ---- windows of a run
+
+-- of the run that holds position `from`, what the windows from i on pick from position m on
+abbrev pub toPick : ℕ → ℕ → List ℕ → ℕ → ℕ → ℕ → List Entry
+toPick last w letters from i m = pickedFrom (suc last) w letters (runEnd letters from - last) i m
+
+-- the scan has come to position p of the run that holds position `from`, with n entries put
+pub record Standing (last room : ℕ) (letters : List ℕ) (from : ℕ) (cs ps : List ℕ) (p n : ℕ) : Type 0 where
+  pub start : from ≤ p
+  pub within : p + last ≤ runEnd letters from
+  pub counted : n ≤ p
+  pub has-room : HasRoom room cs ps
+
+-- the window that ends before position p has its lowest at low-at, which is put, and the ranks behind it stand in their slots
+pub record Picking (last base w : ℕ) (letters ranks : List ℕ) (p code low-at low : ℕ) : Type 0 where
+  pub scanned : Scanned last base letters ranks (suc low-at) p code
+  pub is-lowest : IsLowest (rankAt (suc last) letters) (p - w) p low-at
+  pub is-rank : low ≡ rankAt (suc last) letters low-at
+
+-- the k-mers up to the end of the block are passed, or up to the end of the run where that is in it
+pub record PassesBlock (last base : ℕ) (letters : List ℕ) (from at : ℕ) : Type 0 where
+  pub most : at + last ≤ base + blockSize
+  pub ended : at + last < base + blockSize → at + last ≡ runEnd letters from
+
+-- the run that holds position `from` is passed to its end, all of these are put, and the block at hand begins no later
+pub record Passes (room : ℕ) (letters values : List ℕ) (from before at base entries : ℕ) (cs ps cs′ ps′ : List ℕ) (all : List Entry) : Type 0 where
+  pub block : IsBlock letters values base
+  pub begins : base ≤ at
   pub ended : at ≡ runEnd letters from
   pub counted : entries ≤ at
   pub put : SameEnd room entries cs′ ps′ [] before cs ps all

@@ -1,6 +1,7 @@
 // The winnowing of letters: their sketch in two buffers, as far as there is room.
+mod blocks;
 mod codes;
-mod letters;
+mod reading;
 mod scan;
 mod windows;
 

@@ -1,62 +1,248 @@
-// The runs of the letters, one after the other.
-ghost use Prim.Native.Nat.{suc, _-_, _≤_};
+// The runs of the letters, one after the other, each block by block.
+ghost use Prim.Native.Nat.{suc, _+_, _-_, _≤_, _<_};
 ghost use mathlib.Core.Path.{_≡_};
 ghost use lib.ListN.{length};
 ghost use Rattle.base.specs.Limits.{kLimit, wLimit, letterLimit};
-ghost use Rattle.minimizers.specs.Sketch.{sketch};
 ghost use Rattle.kmers.specs.Places.{runEnd};
+ghost use Rattle.minimizers.specs.Sketch.{sketch};
 ghost use Rattle.minimizers.specs.Places.{spanSketch};
 ghost use Rattle.winnowing.specs.Winnowed.{wrote, written};
-ghost use Rattle.winnowing.specs.Scan.{ringSize, Ready, Passes, HasRoom};
+ghost use Rattle.winnowing.specs.Blocks.{ranksSize, IsBlock};
+ghost use Rattle.winnowing.specs.Scan.{Ready, InBlock, InHand, Scanned, HasRoom, toPick, Standing, Picking, Passes};
+use crate::blocks::BLOCK;
+use crate::blocks::RANKS;
+use crate::blocks::carry;
+use crate::blocks::covering;
+use crate::blocks::read_block;
+use crate::blocks::slot;
 use crate::codes::unrank;
-use crate::letters::table;
+use crate::reading::Reached;
+use crate::reading::first_letters;
+use crate::reading::first_window;
+use crate::windows::Counted;
 use crate::windows::Measures;
 use crate::windows::Passed;
-use crate::windows::RING;
-use crate::windows::first_letters;
-use crate::windows::first_window;
 use crate::windows::lowest;
+use crate::windows::pass_kmers;
 use crate::windows::pass_windows;
 use crate::windows::put;
+use letters::FOREIGN;
+use letters::value;
 
-// Passes the run that begins at a position, and puts its sketch behind the n entries put so far.
-pub(crate) fn run(
+// A position, where the block at hand begins, and the entries found so far.
+pub(crate) struct Place {
+    pub(crate) at: usize,
+    pub(crate) base: usize,
+    pub(crate) entries: usize,
+}
+
+// Passes the windows of a run to its end, the first of which has its lowest put.
+pub(crate) fn all_windows(
     letters: &[u8],
-    values: &[u8],
-    ring: &mut [u32],
-    from: usize,
+    values: &mut [u8],
+    first: usize,
+    ranks: &mut [u32],
     measures: Measures,
+    reached: Passed,
     codes: &mut [u32],
     positions: &mut [u32],
-    n: usize,
-) -> Passed
-    requires { ⌜ Ready (now letters) (now values) from (measures .last) ⌝ }
-    requires { ⌜ (1 ≤ measures .w) × (measures .w ≤ wLimit) × (n ≤ from) × (length (now ring) ≡ ringSize) ⌝ }
-    requires { ⌜ HasRoom (measures .room) (now codes) (now positions) ⌝ }
+) -> Place
+    requires { ⌜ Ready (now letters) (now values) first (reached .at) (measures .last) ⌝ }
+    requires { ⌜ InBlock first (reached .at + measures .last) (reached .at + measures .last) ⌝ }
+    requires { ⌜ (1 ≤ measures .w) × (measures .w ≤ wLimit) × (measures .w ≤ reached .at) ⌝ }
+    requires { ⌜ Standing (measures .last) (measures .room) (now letters) (reached .at) (now codes) (now positions) (reached .at) (reached .entries) ⌝ }
+    requires { ⌜ Picking (measures .last) first (measures .w) (now letters) (now ranks) (reached .at) (reached .code) (reached .lowest) (reached .low) ⌝ }
     ensures { λ r.
-        ⌜ Passes (measures .room) (now (letters .entry)) from n (r .at) (r .entries)
+        ⌜ Passes (measures .room) (now (letters .entry)) (now (values .exit)) (reached .at) (reached .entries) (r .at) (r .base) (r .entries)
         (now (codes .entry)) (now (positions .entry)) (now (codes .exit)) (now (positions .exit))
-        (spanSketch (suc (measures .last)) (measures .w) (now (letters .entry)) from (runEnd (now (letters .entry)) from - measures .last)) ⌝ }
+        (toPick (measures .last) (measures .w) (now (letters .entry)) (reached .at) (suc (reached .at - measures .w)) (suc (reached .lowest))) ⌝ }
 {
     let last = measures.last;
-    let begun = first_letters(letters, values, from, last);
-    let at = begun.at;
-    if at < from + last {
-        return Passed { at, entries: n };
+    let mut base = first;
+    let mut s = pass_windows(
+        letters,
+        values,
+        base,
+        ranks,
+        measures,
+        reached,
+        codes,
+        positions,
+    );
+    while base + BLOCK <= s.at + last {
+        base = s.at + last;
+        read_block(letters, values, base);
+        carry(ranks);
+        s = pass_windows(letters, values, base, ranks, measures, s, codes, positions);
     }
-    let full = first_window(letters, values, ring, from, last, measures.w, begun.code);
+    Place {
+        at: s.at + last,
+        base,
+        entries: s.entries,
+    }
+}
+
+// Passes the k-mers of a run to its end, where a window has one.
+pub(crate) fn all_kmers(
+    letters: &[u8],
+    values: &mut [u8],
+    first: usize,
+    measures: Measures,
+    reached: Counted,
+    codes: &mut [u32],
+    positions: &mut [u32],
+) -> Place
+    requires { ⌜ Ready (now letters) (now values) first (reached .at) (measures .last) ⌝ }
+    requires { ⌜ InBlock first (reached .at + measures .last) (reached .at + measures .last) ⌝ }
+    requires { ⌜ Standing (measures .last) (measures .room) (now letters) (reached .at) (now codes) (now positions) (reached .at) (reached .entries) ⌝ }
+    requires { ⌜ InHand (measures .last) (now letters) (reached .at) (reached .code) ⌝ }
+    ensures { λ r.
+        ⌜ Passes (measures .room) (now (letters .entry)) (now (values .exit)) (reached .at) (reached .entries) (r .at) (r .base) (r .entries)
+        (now (codes .entry)) (now (positions .entry)) (now (codes .exit)) (now (positions .exit))
+        (toPick (measures .last) 1 (now (letters .entry)) (reached .at) (reached .at) (reached .at)) ⌝ }
+{
+    let last = measures.last;
+    let mut base = first;
+    let mut s = pass_kmers(letters, values, base, measures, reached, codes, positions);
+    while base + BLOCK <= s.at + last {
+        base = s.at + last;
+        read_block(letters, values, base);
+        s = pass_kmers(letters, values, base, measures, s, codes, positions);
+    }
+    Place {
+        at: s.at + last,
+        base,
+        entries: s.entries,
+    }
+}
+
+// Passes a run of which the letters in front of the first k-mer's last one are read, and puts its sketch.
+pub(crate) fn run_windows(
+    letters: &[u8],
+    values: &mut [u8],
+    base: usize,
+    ranks: &mut [u32],
+    measures: Measures,
+    begun: Counted,
+    codes: &mut [u32],
+    positions: &mut [u32],
+) -> Place
+    requires { ⌜ Ready (now letters) (now values) base (begun .at) (measures .last) ⌝ }
+    requires { ⌜ InBlock base (begun .at) (begun .at + measures .last + measures .w) ⌝ }
+    requires { ⌜ (1 ≤ measures .w) × (measures .w ≤ wLimit) × (length (now ranks) ≡ ranksSize) ⌝ }
+    requires { ⌜ Standing (measures .last) (measures .room) (now letters) (begun .at) (now codes) (now positions) (begun .at) (begun .entries) ⌝ }
+    requires { ⌜ InHand (measures .last) (now letters) (begun .at) (begun .code) ⌝ }
+    ensures { λ r.
+        ⌜ Passes (measures .room) (now (letters .entry)) (now (values .exit)) (begun .at) (begun .entries) (r .at) (r .base) (r .entries)
+        (now (codes .entry)) (now (positions .entry)) (now (codes .exit)) (now (positions .exit))
+        (spanSketch (suc (measures .last)) (measures .w) (now (letters .entry)) (begun .at)
+        (runEnd (now (letters .entry)) (begun .at) - measures .last)) ⌝ }
+{
+    let from = begun.at;
+    let last = measures.last;
+    let full = first_window(
+        letters,
+        values,
+        base,
+        ranks,
+        Reached {
+            at: from,
+            code: begun.code,
+        },
+        last,
+        measures.w,
+    );
     let p = full.at;
-    if from + measures.w <= p {
-        return pass_windows(letters, values, ring, measures, full, codes, positions, n);
-    }
     let at = p + last;
     if p <= from {
-        return Passed { at, entries: n };
+        return Place {
+            at,
+            base,
+            entries: begun.entries,
+        };
     }
-    let low_at = lowest(ring, from, p);
-    let code = unrank(ring[low_at % RING]);
-    let entries = put(codes, positions, measures.room, n, code, low_at);
-    Passed { at, entries }
+    let to = slot(p, last, base);
+    let found = lowest(ranks, to - (p - from), to);
+    let low_at = p - (to - found);
+    let low = ranks[found];
+    let entries = put(
+        codes,
+        positions,
+        measures.room,
+        begun.entries,
+        unrank(low),
+        low_at,
+    );
+    if p < from + measures.w {
+        return Place { at, base, entries };
+    }
+    let reached = Passed {
+        at: p,
+        code: full.code,
+        lowest: low_at,
+        low,
+        entries,
+    };
+    all_windows(
+        letters,
+        values,
+        base,
+        ranks,
+        measures,
+        reached,
+        codes,
+        positions,
+    )
+}
+
+// Passes the run that begins at a place, and puts its sketch behind the entries found so far.
+pub(crate) fn run(
+    letters: &[u8],
+    values: &mut [u8],
+    ranks: &mut [u32],
+    measures: Measures,
+    place: Place,
+    codes: &mut [u32],
+    positions: &mut [u32],
+) -> Place
+    requires { ⌜ Ready (now letters) (now values) (place .base) (place .at) (measures .last) × (place .base ≤ place .at) ⌝ }
+    requires { ⌜ (1 ≤ measures .w) × (measures .w ≤ wLimit) × (place .entries ≤ place .at) × (length (now ranks) ≡ ranksSize) ⌝ }
+    requires { ⌜ HasRoom (measures .room) (now codes) (now positions) ⌝ }
+    ensures { λ r.
+        ⌜ Passes (measures .room) (now (letters .entry)) (now (values .exit)) (place .at) (place .entries) (r .at) (r .base) (r .entries)
+        (now (codes .entry)) (now (positions .entry)) (now (codes .exit)) (now (positions .exit))
+        (spanSketch (suc (measures .last)) (measures .w) (now (letters .entry)) (place .at)
+        (runEnd (now (letters .entry)) (place .at) - measures .last)) ⌝ }
+{
+    let from = place.at;
+    let last = measures.last;
+    let base = covering(letters, values, place.base, from, from + last + measures.w);
+    let begun = first_letters(letters, values, base, from, last);
+    if begun.at < from + last {
+        return Place {
+            at: begun.at,
+            base,
+            entries: place.entries,
+        };
+    }
+    let start = Counted {
+        at: from,
+        code: begun.code,
+        entries: place.entries,
+    };
+    if measures.w == 1 {
+        return all_kmers(letters, values, base, measures, start, codes, positions);
+    }
+    run_windows(
+        letters,
+        values,
+        base,
+        ranks,
+        measures,
+        start,
+        codes,
+        positions,
+    )
 }
 
 // Passes all runs, and answers how many entries their sketches have. As many as there is room for are written.
@@ -74,28 +260,40 @@ pub(crate) fn scan(
         ⌜ wrote r (now (codes .exit)) (now (positions .exit))
         ≡ written room 0 (now (codes .entry)) (now (positions .entry)) (sketch k w (now (letters .entry))) ⌝ }
 {
-    let values = table();
-    let mut ring = [0u32; RING];
+    let mut values = [0u8; BLOCK];
+    let mut ranks = [0u32; RANKS];
     let measures = Measures {
         last: k as usize - 1,
         w: w as usize,
         room,
     };
+    read_block(letters, &mut values, 0);
     let mut at: usize = 0;
+    let mut base: usize = 0;
     let mut n: usize = 0;
     while at < letters.len() {
+        // A letter outside the eight ends a run of no letters.
+        if value(letters[at]) == FOREIGN {
+            at += 1;
+            continue;
+        }
+        let place = Place {
+            at,
+            base,
+            entries: n,
+        };
         let end = run(
             letters,
-            &values,
-            &mut ring,
-            at,
+            &mut values,
+            &mut ranks,
             measures,
+            place,
             codes,
             positions,
-            n,
         );
-        n = end.entries;
         at = end.at + 1;
+        base = end.base;
+        n = end.entries;
     }
     n
 }

@@ -1,32 +1,20 @@
-// Windows of k-mers: the scan of a run's letters, and the k-mers that its windows pick.
-use base::W_LIMIT;
+// Windows of k-mers: the k-mers that the windows of a block pick.
+use base::smaller;
 ghost use Prim.Native.Nat.{suc, _+_, _-_, _≤_, _<_};
 ghost use mathlib.Core.Path.{_≡_};
-ghost use lib.ListN.{length};
+ghost use lib.ListN.{length, getD};
 ghost use Rattle.base.specs.Limits.{wLimit, letterLimit};
-ghost use Rattle.kmers.specs.Places.{codeAt, runEnd};
-ghost use Rattle.winnowing.specs.Scan.{ringAt, ringSize, Ready, Begun, Scanned, Filled, Passes, HasRoom, IsPut};
-ghost use Rattle.minimizers.specs.Places.{pickedFrom, IsLowest};
+ghost use Rattle.minimizers.specs.Places.{IsLowest};
+ghost use Rattle.winnowing.specs.Blocks.{ranksSize};
+ghost use Rattle.winnowing.specs.Scan.{Ready, InBlock, InHand, HasRoom, IsPut, SameEnd, toPick, Standing, Picking, PassesBlock};
+use crate::blocks::BLOCK;
+use crate::blocks::slot;
+use crate::blocks::value_at;
 use crate::codes::next_code;
-use crate::codes::rank;
 use crate::codes::unrank;
-use crate::letters::FOREIGN;
-use crate::letters::value_at;
-
-// How many ranks the ring holds: those of the widest window.
-pub(crate) const RING: usize = W_LIMIT as usize;
-
-// A position, and the code in hand there.
-pub(crate) struct Reached {
-    pub(crate) at: usize,
-    pub(crate) code: u32,
-}
-
-// Where a run ended, and the entries found up to there.
-pub(crate) struct Passed {
-    pub(crate) at: usize,
-    pub(crate) entries: usize,
-}
+use crate::reading::Reached;
+use crate::reading::read_above;
+use letters::FOREIGN;
 
 // The measures of a scan: how many letters of a k-mer stand in front of its last one, how many k-mers a window has, and how many
 // entries the buffers have room for.
@@ -34,6 +22,22 @@ pub(crate) struct Measures {
     pub(crate) last: usize,
     pub(crate) w: usize,
     pub(crate) room: usize,
+}
+
+// A position, the code in hand there, and the entries found up to there.
+pub(crate) struct Counted {
+    pub(crate) at: usize,
+    pub(crate) code: u32,
+    pub(crate) entries: usize,
+}
+
+// The same with the lowest of the window that ends there, and its rank.
+pub(crate) struct Passed {
+    pub(crate) at: usize,
+    pub(crate) code: u32,
+    pub(crate) lowest: usize,
+    pub(crate) low: u32,
+    pub(crate) entries: usize,
 }
 
 // One more entry: counted, and written where there is room.
@@ -56,18 +60,18 @@ pub(crate) fn put(
     n + 1
 }
 
-// The position of the lowest rank, the rightmost of equal ones, among neighbouring positions.
-pub(crate) fn lowest(ring: &[u32], from: usize, to: usize) -> usize
-    requires { ⌜ (length (now ring) ≡ ringSize) × (from < to) ⌝ }
-    ensures { λ r. ⌜ IsLowest (ringAt (now (ring .entry))) from to r ⌝ }
+// The slot of the lowest rank, the rightmost of equal ones, among neighbouring slots.
+pub(crate) fn lowest(ranks: &[u32], from: usize, to: usize) -> usize
+    requires { ⌜ (length (now ranks) ≡ ranksSize) × (from < to) × (to ≤ ranksSize) ⌝ }
+    ensures { λ r. ⌜ IsLowest (λ i. getD (now (ranks .entry)) i 0) from to r ⌝ }
 {
     let mut low_at = from;
-    let mut low = ring[from % RING];
-    let mut q = from + 1;
-    while q < to {
-        let found = ring[q % RING];
-        let here = q;
-        q += 1;
+    let mut low = ranks[from];
+    let mut i = from + 1;
+    while i < to {
+        let found = ranks[i];
+        let here = i;
+        i += 1;
         // An equal rank further right is lower.
         if found <= low {
             low_at = here;
@@ -77,107 +81,123 @@ pub(crate) fn lowest(ring: &[u32], from: usize, to: usize) -> usize
     low_at
 }
 
-// Reads the letters in front of the last one of a run's first k-mer.
-pub(crate) fn first_letters(letters: &[u8], values: &[u8], from: usize, last: usize) -> Reached
-    requires { ⌜ Ready (now letters) (now values) from last ⌝ }
-    ensures { λ r. ⌜ Begun (now (letters .entry)) from last (r .at) (r .code) ⌝ }
-{
-    let to = from + last;
-    let mut at = from;
-    let mut code: u32 = 0;
-    while at < to {
-        let v = value_at(letters, values, at);
-        if v == FOREIGN {
-            return Reached { at, code };
-        }
-        code = code * 4 + v as u32;
-        at += 1;
-    }
-    Reached { at, code }
-}
-
-// Reads the k-mers of a run's first window into the ring.
-pub(crate) fn first_window(
-    letters: &[u8],
-    values: &[u8],
-    ring: &mut [u32],
-    from: usize,
-    last: usize,
-    w: usize,
-    begun: u32,
-) -> Reached
-    requires { ⌜ Ready (now letters) (now values) from last ⌝ }
-    requires { ⌜ (w ≤ wLimit) × (length (now ring) ≡ ringSize) ⌝ }
-    requires { ⌜ (from + last ≤ runEnd (now letters) from) × (begun ≡ codeAt last (now letters) from) ⌝ }
-    ensures { λ r. ⌜ Filled last w (now (letters .entry)) (now (ring .exit)) from (r .at) (r .code) ⌝ }
-{
-    let to = from + w;
-    let mut at = from;
-    let mut code = begun;
-    while at < to {
-        let v = value_at(letters, values, at + last);
-        if v == FOREIGN {
-            return Reached { at, code };
-        }
-        code = next_code(code, v, last);
-        ring[at % RING] = rank(code);
-        at += 1;
-    }
-    Reached { at, code }
-}
-
-// Passes the windows of a run, the first of which is in the ring, and puts each pick that is new: a pick changes where the lowest
-// has left the window, which is then searched, or where a new rank is not above it.
+// Passes the windows that end in a block, the first of which has its lowest put, and puts each pick that is new: a pick changes where
+// a new rank is not above the lowest, or where the lowest has left the window, which is then searched.
 pub(crate) fn pass_windows(
     letters: &[u8],
     values: &[u8],
-    ring: &mut [u32],
+    base: usize,
+    ranks: &mut [u32],
     measures: Measures,
-    reached: Reached,
+    reached: Passed,
     codes: &mut [u32],
     positions: &mut [u32],
-    before: usize,
 ) -> Passed
-    requires { ⌜ Ready (now letters) (now values) (reached .at) (measures .last) ⌝ }
-    requires { ⌜ (1 ≤ measures .w) × (measures .w ≤ wLimit) × (measures .w ≤ reached .at) × (before < reached .at) ⌝ }
-    requires { ⌜ reached .at + measures .last ≤ runEnd (now letters) (reached .at) ⌝ }
-    requires { ⌜ Scanned (measures .last) (now letters) (now ring) (reached .at - measures .w) (reached .at) (reached .code) ⌝ }
-    requires { ⌜ HasRoom (measures .room) (now codes) (now positions) ⌝ }
+    requires { ⌜ Ready (now letters) (now values) base (reached .at) (measures .last) ⌝ }
+    requires { ⌜ InBlock base (reached .at + measures .last) (reached .at + measures .last) ⌝ }
+    requires { ⌜ (1 ≤ measures .w) × (measures .w ≤ wLimit) × (measures .w ≤ reached .at) ⌝ }
+    requires { ⌜ Standing (measures .last) (measures .room) (now letters) (reached .at) (now codes) (now positions) (reached .at) (reached .entries) ⌝ }
+    requires { ⌜ Picking (measures .last) base (measures .w) (now letters) (now ranks) (reached .at) (reached .code) (reached .lowest) (reached .low) ⌝ }
     ensures { λ r.
-        ⌜ Passes (measures .room) (now (letters .entry)) (reached .at) before (r .at) (r .entries)
-        (now (codes .entry)) (now (positions .entry)) (now (codes .exit)) (now (positions .exit))
-        (pickedFrom (suc (measures .last)) (measures .w) (now (letters .entry))
-        (runEnd (now (letters .entry)) (reached .at) - measures .last) (reached .at - measures .w) (reached .at - measures .w)) ⌝ }
+        ⌜ PassesBlock (measures .last) base (now (letters .entry)) (reached .at) (r .at)
+        × Standing (measures .last) (measures .room) (now (letters .entry)) (reached .at) (now (codes .exit)) (now (positions .exit)) (r .at) (r .entries)
+        × Picking (measures .last) base (measures .w) (now (letters .entry)) (now (ranks .exit)) (r .at) (r .code) (r .lowest) (r .low)
+        × SameEnd (measures .room) (r .entries) (now (codes .exit)) (now (positions .exit))
+        (toPick (measures .last) (measures .w) (now (letters .entry)) (reached .at) (suc (r .at - measures .w)) (suc (r .lowest)))
+        (reached .entries) (now (codes .entry)) (now (positions .entry))
+        (toPick (measures .last) (measures .w) (now (letters .entry)) (reached .at) (suc (reached .at - measures .w)) (suc (reached .lowest))) ⌝ }
 {
+    let last = measures.last;
+    let end = base + BLOCK - last;
     let mut p = reached.at;
     let mut code = reached.code;
-    let mut n = before;
-    'windows: loop {
-        let mut low_at = lowest(ring, p - measures.w, p);
-        let mut low = ring[low_at % RING];
-        n = put(codes, positions, measures.room, n, unrank(low), low_at);
-        loop {
-            let v = value_at(letters, values, p + measures.last);
-            // The run ends, and with it its windows.
-            if v == FOREIGN {
-                break 'windows;
-            }
-            code = next_code(code, v, measures.last);
-            let r = rank(code);
-            ring[p % RING] = r;
-            let here = p;
+    let mut low_at = reached.lowest;
+    let mut low = reached.low;
+    let mut n = reached.entries;
+    loop {
+        let leaves = low_at + measures.w + 1;
+        let from = Reached { at: p, code };
+        let read = read_above(
+            letters,
+            values,
+            base,
+            ranks,
+            from,
+            last,
+            smaller(leaves, end),
+            low,
+        );
+        p = read.at;
+        code = read.code;
+        if read.rank <= low {
+            low_at = p;
+            low = read.rank;
+            n = put(codes, positions, measures.room, n, code, p);
             p += 1;
-            // The lowest has left the window. Asked first, since this is foreseen more often than how the ranks compare.
-            if low_at + measures.w <= here {
-                continue 'windows;
-            }
-            if r <= low {
-                low_at = here;
-                low = r;
-                n = put(codes, positions, measures.room, n, code, here);
-            }
+            continue;
         }
+        // The block ends, or the run.
+        if p < leaves {
+            return Passed {
+                at: p,
+                code,
+                lowest: low_at,
+                low,
+                entries: n,
+            };
+        }
+        let to = slot(p, last, base);
+        let found = lowest(ranks, to - measures.w, to);
+        low_at = p - (to - found);
+        low = ranks[found];
+        n = put(codes, positions, measures.room, n, unrank(low), low_at);
     }
-    let at = p + measures.last;
-    Passed { at, entries: n }
+}
+
+// Passes the k-mers that end in a block and puts each of them: with windows of one k-mer there are no ranks to compare.
+pub(crate) fn pass_kmers(
+    letters: &[u8],
+    values: &[u8],
+    base: usize,
+    measures: Measures,
+    reached: Counted,
+    codes: &mut [u32],
+    positions: &mut [u32],
+) -> Counted
+    requires { ⌜ Ready (now letters) (now values) base (reached .at) (measures .last) ⌝ }
+    requires { ⌜ InBlock base (reached .at + measures .last) (reached .at + measures .last) ⌝ }
+    requires { ⌜ Standing (measures .last) (measures .room) (now letters) (reached .at) (now codes) (now positions) (reached .at) (reached .entries) ⌝ }
+    requires { ⌜ InHand (measures .last) (now letters) (reached .at) (reached .code) ⌝ }
+    ensures { λ r.
+        ⌜ PassesBlock (measures .last) base (now (letters .entry)) (reached .at) (r .at)
+        × Standing (measures .last) (measures .room) (now (letters .entry)) (reached .at) (now (codes .exit)) (now (positions .exit)) (r .at) (r .entries)
+        × InHand (measures .last) (now (letters .entry)) (r .at) (r .code)
+        × SameEnd (measures .room) (r .entries) (now (codes .exit)) (now (positions .exit))
+        (toPick (measures .last) 1 (now (letters .entry)) (reached .at) (r .at) (r .at))
+        (reached .entries) (now (codes .entry)) (now (positions .entry))
+        (toPick (measures .last) 1 (now (letters .entry)) (reached .at) (reached .at) (reached .at)) ⌝ }
+{
+    let last = measures.last;
+    let end = base + BLOCK - last;
+    let mut p = reached.at;
+    let mut code = reached.code;
+    let mut n = reached.entries;
+    while p < end {
+        let v = value_at(letters, values, base, p + last);
+        if v == FOREIGN {
+            return Counted {
+                at: p,
+                code,
+                entries: n,
+            };
+        }
+        code = next_code(code, v, last);
+        n = put(codes, positions, measures.room, n, code, p);
+        p += 1;
+    }
+    Counted {
+        at: p,
+        code,
+        entries: n,
+    }
 }

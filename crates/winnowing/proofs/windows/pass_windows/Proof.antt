@@ -1,438 +1,492 @@
--- `windows::pass_windows` meets its contract. Both loops keep that what is put and what is still to pick make up what there was to pick
--- at first; the turn over letters also keeps the lowest of the window in the ring.
-use native.Mathlib.Nat.{le-refl}
+-- `windows::pass_windows` meets its contract. The loop's invariant: the window at hand has its lowest put, and what is put and what is still
+-- to pick make up what there was to pick at first.
+use borrow.Author.Needs.{needs}
 use Prim.Native.Nat.{ℕ, suc, _+_, _-_, _≤_, _<_}
+use native.Mathlib.Nat.{le-refl}
 use native.Mathlib.Omega.{arith}
-use mathlib.Core.Path.{_≡_, refl, sym, ap, _∙_, subst}
-use mathlib.Core.List.{List, _++_}
+use mathlib.Core.Path.{_≡_, refl, sym, _∙_, subst₂}
 use lib.ListN.{length, getD}
 use Rattle.base.specs.Limits.{letterLimit}
-use Rattle.kmers.specs.Letters.{value, foreign}
-use Rattle.kmers.specs.Kmers.{Entry}
 use Rattle.kmers.specs.Places.{codeAt, rankAt, runEnd}
-use Rattle.winnowing.specs.Winnowed.{written}
-use Rattle.winnowing.specs.Scan.{SameEnd}
 use Rattle.minimizers.specs.Places.{IsLowest}
-use Rattle.winnowing.proofs.Passing.{Standing, Picking, toPick, ring-lowest, ring-code, window-new, picking-end, picking-left, picking-new}
-use Rattle.winnowing.proofs.Passing.{picking-kept}
 use Rattle.minimizers.proofs.Runs.{runEnd-within}
-use Rattle.winnowing.proofs.Steps.{runEnd-same, end-here, end-later, digit-below, ring-scaled}
+use Rattle.winnowing.specs.Blocks.{blockSize, ranksSize, slotOf}
+use Rattle.winnowing.specs.Scan.{Scanned, SameEnd, toPick, Standing, Picking}
+use Rattle.winnowing.proofs.Steps.{runEnd-same, rank-small, scanned-later}
+use Rattle.winnowing.proofs.Passing.{slot-lowest, slot-code, window-new, kept, put-new}
 use Rattle.winnowing.proofs.windows.pass_windows.Statement.{statement}
 use Rattle.winnowing.proofs.windows.pass_windows.Tie as tie
 
 abbrev Inv-loop : tie.InvT-loop
-Inv-loop letters values ring₀ measures codes₀ positions₀ before p₀ code₀ n₀ low-at₀ low₀ ring codes positions p code n low-at low =
-    Picking (measures .last) (measures .w) (measures .room) letters p₀ ring codes positions p code n low-at low
-    × (length codes ≡ length codes₀)
-    × (length positions ≡ length positions₀)
-    × SameEnd (measures .room) n codes positions (toPick (measures .last) (measures .w) letters p₀ (suc (p - measures .w)) (suc low-at))
-    n₀ codes₀ positions₀ (toPick (measures .last) (measures .w) letters p₀ (suc (p₀ - measures .w)) (suc low-at₀))
+Inv-loop letters values base ranks₀ measures codes₀ positions₀ last end p₀ code₀ low-at₀ low₀ n₀ ranks codes positions p code low-at low n =
+    (p + last ≤ base + blockSize)
+    × Standing last (measures .room) letters p₀ codes positions p n
+    × Picking last base (measures .w) letters ranks p code low-at low
+    × ((length ranks ≡ length ranks₀) × (length codes ≡ length codes₀) × (length positions ≡ length positions₀))
+    × SameEnd (measures .room) n codes positions (toPick last (measures .w) letters p₀ (suc (p - measures .w)) (suc low-at))
+    n₀ codes₀ positions₀ (toPick last (measures .w) letters p₀ (suc (p₀ - measures .w)) (suc low-at₀))
 
 abbrev μ-loop : tie.MeasureT-loop
-μ-loop letters values ring₀ measures codes₀ positions₀ before p₀ code₀ n₀ low-at₀ low₀ ring codes positions p code n low-at low =
-    runEnd letters p₀ - p
-
-abbrev Inv-windows : tie.InvT-windows
-Inv-windows letters values ring₀ measures codes₀ positions₀ before p₀ code₀ n₀ ring codes positions p code n =
-    Standing (measures .last) (measures .w) (measures .room) letters p₀ ring codes positions p code n
-    × (length codes ≡ length codes₀)
-    × (length positions ≡ length positions₀)
-    × SameEnd (measures .room) n codes positions (toPick (measures .last) (measures .w) letters p₀ (p - measures .w) (p - measures .w))
-    n₀ codes₀ positions₀ (toPick (measures .last) (measures .w) letters p₀ (p₀ - measures .w) (p₀ - measures .w))
-
-abbrev μ-windows : tie.MeasureT-windows
-μ-windows letters values ring₀ measures codes₀ positions₀ before p₀ code₀ n₀ ring codes positions p code n = runEnd letters p₀ - p
-
-abbrev Start : Type 0
-Start = tie.Start Inv-loop μ-loop Inv-windows μ-windows
-
-abbrev At-windows : Type 0
-At-windows = tie.At-windows Inv-loop μ-loop Inv-windows μ-windows
-
-abbrev At-loop : Type 0
-At-loop = tie.At-loop Inv-loop μ-loop Inv-windows μ-windows
+μ-loop letters values base ranks₀ measures codes₀ positions₀ last end p₀ code₀ low-at₀ low₀ n₀ ranks codes positions p code low-at low n =
+    suc (runEnd letters p₀) - p
 
 -- places, each named for where it leads and from where
-abbrev entry-slice-known : tie.After-slice-known Inv-loop μ-loop Inv-windows μ-windows → Start
-entry-slice-known c = c .before .before .before
+abbrev Turn : Type 0
+Turn = tie.At-loop Inv-loop μ-loop
 
-abbrev turn-windows-lowest : tie.After-lowest Inv-loop μ-loop Inv-windows μ-windows → At-windows
-turn-windows-lowest c = c .before .before .before
+abbrev Read : Type 0
+Read = tie.After-read-above Inv-loop μ-loop
 
-abbrev turn-windows-slice-known4 : tie.After-slice-known4 Inv-loop μ-loop Inv-windows μ-windows → At-windows
-turn-windows-slice-known4 c = turn-windows-lowest (c .before)
+abbrev known-known3 : tie.After-slice-known3 Inv-loop μ-loop → tie.After-shared-slice-known2 Inv-loop μ-loop
+known-known3 c = c .before .before .before
 
-abbrev lowest-slice-known4 : tie.After-slice-known4 Inv-loop μ-loop Inv-windows μ-windows → tie.After-lowest Inv-loop μ-loop Inv-windows μ-windows
-lowest-slice-known4 c = c .before
+abbrev entry-known3 : tie.After-slice-known3 Inv-loop μ-loop → tie.Start Inv-loop μ-loop
+entry-known3 c = known-known3 c .before .before
 
-abbrev lowest-put-arg2 : tie.After-put-arg2 Inv-loop μ-loop Inv-windows μ-windows → tie.After-lowest Inv-loop μ-loop Inv-windows μ-windows
-lowest-put-arg2 c = c .before .before .before
+abbrev entry : Turn → tie.Start Inv-loop μ-loop
+entry c = entry-known3 (c .before)
 
-abbrev lowest-codes : tie.After-codes Inv-loop μ-loop Inv-windows μ-windows → tie.After-lowest Inv-loop μ-loop Inv-windows μ-windows
-lowest-codes c = lowest-put-arg2 (c .before .before .before)
+abbrev turn-smaller : tie.After-smaller Inv-loop μ-loop → Turn
+turn-smaller c = c .before .before .before
 
-abbrev lowest-slice-known6 : tie.After-slice-known6 Inv-loop μ-loop Inv-windows μ-windows → tie.After-lowest Inv-loop μ-loop Inv-windows μ-windows
-lowest-slice-known6 c = lowest-codes (c .before .before .before)
+abbrev turn : Read → Turn
+turn c = turn-smaller (c .before)
 
-abbrev turn-windows-slice-known6 : tie.After-slice-known6 Inv-loop μ-loop Inv-windows μ-windows → At-windows
-turn-windows-slice-known6 c = turn-windows-lowest (lowest-slice-known6 c)
+abbrev read-struct2 : tie.After-struct-known2 Inv-loop μ-loop → Read
+read-struct2 c = c .before .before .before
 
-abbrev put-codes : tie.After-codes Inv-loop μ-loop Inv-windows μ-windows → tie.After-put Inv-loop μ-loop Inv-windows μ-windows
-put-codes c = c .before
+abbrev read-then1 : tie.Then1 Inv-loop μ-loop → Read
+read-then1 c = read-struct2 (c .before)
 
-abbrev put-slice-known6 : tie.After-slice-known6 Inv-loop μ-loop Inv-windows μ-windows → tie.After-put Inv-loop μ-loop Inv-windows μ-windows
-put-slice-known6 c = put-codes (c .before .before .before)
+abbrev read-else1 : tie.Else1 Inv-loop μ-loop → Read
+read-else1 c = read-struct2 (c .before)
 
-abbrev turn-then1 : tie.Then1 Inv-loop μ-loop Inv-windows μ-windows → At-loop
-turn-then1 c = c .before .before .before
+abbrev codes-known6 : tie.After-slice-known6 Inv-loop μ-loop → tie.After-codes Inv-loop μ-loop
+codes-known6 c = c .before .before .before
 
-abbrev turn-else1 : tie.Else1 Inv-loop μ-loop Inv-windows μ-windows → At-loop
-turn-else1 c = c .before .before .before
+abbrev slot-lowest-there : tie.After-lowest Inv-loop μ-loop → tie.After-slot Inv-loop μ-loop
+slot-lowest-there c = c .before .before .before
 
-abbrev turn-next-code : tie.After-next-code Inv-loop μ-loop Inv-windows μ-windows → At-loop
-turn-next-code c = turn-else1 (c .before)
+abbrev known7-unrank : tie.After-unrank Inv-loop μ-loop → tie.After-slice-known7 Inv-loop μ-loop
+known7-unrank c = c .before .before .before
 
-abbrev else1-next-code : tie.After-next-code Inv-loop μ-loop Inv-windows μ-windows → tie.Else1 Inv-loop μ-loop Inv-windows μ-windows
-else1-next-code c = c .before
+abbrev codes2-known9 : tie.After-slice-known9 Inv-loop μ-loop → tie.After-codes2 Inv-loop μ-loop
+codes2-known9 c = c .before .before .before
 
-abbrev next-code-then2 : tie.Then2 Inv-loop μ-loop Inv-windows μ-windows → tie.After-next-code Inv-loop μ-loop Inv-windows μ-windows
-next-code-then2 c = c .before .before .before
+abbrev put-known6 : tie.After-slice-known6 Inv-loop μ-loop → tie.After-put Inv-loop μ-loop
+put-known6 c = codes-known6 c .before
 
-abbrev next-code-else2 : tie.Else2 Inv-loop μ-loop Inv-windows μ-windows → tie.After-next-code Inv-loop μ-loop Inv-windows μ-windows
-next-code-else2 c = c .before .before .before
+abbrev then1-put : tie.After-put Inv-loop μ-loop → tie.Then1 Inv-loop μ-loop
+then1-put c = c .before .before .before
 
-abbrev turn-else2 : tie.Else2 Inv-loop μ-loop Inv-windows μ-windows → At-loop
-turn-else2 c = turn-next-code (next-code-else2 c)
+abbrev else2-lowest : tie.After-lowest Inv-loop μ-loop → tie.Else2 Inv-loop μ-loop
+else2-lowest c = slot-lowest-there c .before
 
-abbrev else1-else2 : tie.Else2 Inv-loop μ-loop Inv-windows μ-windows → tie.Else1 Inv-loop μ-loop Inv-windows μ-windows
-else1-else2 c = else1-next-code (next-code-else2 c)
+abbrev lowest-unrank : tie.After-unrank Inv-loop μ-loop → tie.After-lowest Inv-loop μ-loop
+lowest-unrank c = known7-unrank c .before
 
-abbrev turn-put-arg3 : tie.After-put-arg3 Inv-loop μ-loop Inv-windows μ-windows → At-loop
-turn-put-arg3 c = turn-else2 (c .before .before)
+abbrev put2-known9 : tie.After-slice-known9 Inv-loop μ-loop → tie.After-put2 Inv-loop μ-loop
+put2-known9 c = codes2-known9 c .before
 
-abbrev turn-codes2 : tie.After-codes2 Inv-loop μ-loop Inv-windows μ-windows → At-loop
-turn-codes2 c = turn-put-arg3 (c .before .before .before)
+-- ---- the place of a turn
 
-abbrev rank-else2 : tie.Else2 Inv-loop μ-loop Inv-windows μ-windows → tie.After-rank Inv-loop μ-loop Inv-windows μ-windows
-rank-else2 c = c .before .before
-
-abbrev rank-put-arg3 : tie.After-put-arg3 Inv-loop μ-loop Inv-windows μ-windows → tie.After-rank Inv-loop μ-loop Inv-windows μ-windows
-rank-put-arg3 c = rank-else2 (c .before .before)
-
-abbrev rank-codes2 : tie.After-codes2 Inv-loop μ-loop Inv-windows μ-windows → tie.After-rank Inv-loop μ-loop Inv-windows μ-windows
-rank-codes2 c = rank-put-arg3 (c .before .before .before)
-
-abbrev put2-codes2 : tie.After-codes2 Inv-loop μ-loop Inv-windows μ-windows → tie.After-put2 Inv-loop μ-loop Inv-windows μ-windows
-put2-codes2 c = c .before
-
--- the entry of the function, and the turn over windows that a turn over letters is in
-abbrev entry : At-windows → Start
-entry c = entry-slice-known (c .before .before .before)
-
-abbrev turn : At-loop → At-windows
-turn c = turn-windows-slice-known6 (c .before)
-
--- the place of a turn over windows: within the letters, in the run that holds the first place
-within : (c : At-windows) → (c .windows .p + entry c .args .measures .last ≤ runEnd (entry c .args .letters .now) (entry c .args .reached .at))
+-- in the block and in the run
+inside : (c : Turn)
+    → (entry c .args .base ≤ c .loop .p + entry c .args .measures .last)
+    × (c .loop .p + entry c .args .measures .last ≤ runEnd (entry c .args .letters .now) (entry c .args .reached .at))
     × (runEnd (entry c .args .letters .now) (entry c .args .reached .at) ≤ length (entry c .args .letters .now))
-    × (entry c .args .measures .w ≤ c .windows .p)
-within c =
-    let start = entry c in (
-      c .windows .inv .0 .within,
-      runEnd-within (start .args .letters .now) (start .args .reached .at) (start .pre .0 .in-letters) .1,
-      omega (arith, c .windows .inv .0 .start, start .pre .1 .0),
-    )
-
-same-end : (c : At-windows) → runEnd (entry c .args .letters .now) (c .windows .p) ≡ runEnd (entry c .args .letters .now) (entry c .args .reached .at)
-same-end c =
-    let start = entry c in
-    runEnd-same (start .args .letters .now) (start .args .reached .at) (c .windows .p) (c .windows .inv .0 .start) (omega (arith, within c .0))
-
-windows-holds : tie.Need-windows-holds Inv-loop μ-loop Inv-windows μ-windows
-windows-holds c =
-    let start = entry-slice-known (c .before .before) in (
-      record {
-        start = le-refl (start .args .reached .at);
-        within = start .pre .1 .1 .0;
-        scanned = start .pre .1 .1 .1 .0;
-        counted =
-            start .pre .1 .0 .3;
-        has-room = start .pre .1 .1 .1 .1;
-      },
-      refl,
-      refl,
-      λ es. refl,
-    )
-
-sub-lowest : tie.Need-sub-lowest Inv-loop μ-loop Inv-windows μ-windows
-sub-lowest c = within (c .before .before) .2
-
-lowest-requires : tie.Need-lowest-requires Inv-loop μ-loop Inv-windows μ-windows
-lowest-requires c κs = (c .before .before .windows .inv .0 .scanned .sized, omega (arith, within (c .before .before) .2, entry (c .before .before) .pre .1 .0))
-
-mul-low : tie.Need-mul-low Inv-loop μ-loop Inv-windows μ-windows
-mul-low c = ring-scaled (c .lowest .result)
-
-slice-read-low : tie.Need-slice-read-low Inv-loop μ-loop Inv-windows μ-windows
-slice-read-low c = omega (arith, turn-windows-slice-known4 c .windows .inv .0 .scanned .sized)
-
-unrank-requires : tie.Need-unrank-requires Inv-loop μ-loop Inv-windows μ-windows
-unrank-requires c κs = tt
-
-put-requires : tie.Need-put-requires Inv-loop μ-loop Inv-windows μ-windows
-put-requires c κs =
-    let turn = turn-windows-slice-known4 (c .before .before .before) in
-    let inside = within turn in
-    let few : length (entry turn .args .letters .now) ≤ letterLimit = entry turn .pre .0 .few in (
-      turn .windows .inv .0 .has-room,
-      omega (arith, turn .windows .inv .0 .counted),
-      omega (arith, lowest-slice-known4 (c .before .before .before) .lowest .ensures .last),
-    )
-
--- the lowest of the ring is that of the window
-lowest-there : (c : tie.After-lowest Inv-loop μ-loop Inv-windows μ-windows)
-    → IsLowest (rankAt (suc (entry (turn-windows-lowest c) .args .measures .last)) (entry (turn-windows-lowest c) .args .letters .now))
-    (turn-windows-lowest c .windows .p - entry (turn-windows-lowest c) .args .measures .w) (turn-windows-lowest c .windows .p) (c .lowest .result)
-lowest-there c =
-    let turn = turn-windows-lowest c in
-    ring-lowest (entry turn .args .measures .last) (entry turn .args .letters .now) (turn .windows .ring) (turn .windows .p - entry turn .args .measures .w)
-    (turn .windows .p) (turn .windows .code)
-    (turn .windows .inv .0 .scanned) (c .lowest .result) (c .lowest .ensures)
-
--- and its code is taken back from its rank
-code-there : (c : tie.After-unrank Inv-loop μ-loop Inv-windows μ-windows)
-    → c .unrank .result
-    ≡ codeAt (suc (entry (turn-windows-slice-known4 (c .before .before .before)) .args .measures .last))
-    (entry (turn-windows-slice-known4 (c .before .before .before)) .args .letters .now)
-    (lowest-slice-known4 (c .before .before .before) .lowest .result)
-code-there c =
-    let turn = turn-windows-slice-known4 (c .before .before .before) in
-    let lowest = lowest-slice-known4 (c .before .before .before) .lowest in
-    ring-code (entry turn .args .measures .last) (entry turn .args .letters .now) (turn .windows .ring) (turn .windows .p - entry turn .args .measures .w)
-    (turn .windows .p) (turn .windows .code)
-    (turn .windows .inv .0 .scanned) (lowest .result) (c .unrank .result) (lowest .ensures .first) (lowest .ensures .last) (c .unrank .ensures)
-
-loop-holds : tie.Need-loop-holds Inv-loop μ-loop Inv-windows μ-windows
-loop-holds c =
-    let turn = turn-windows-slice-known6 c in
-    let scanned = turn .windows .inv .0 .scanned in
-    let is = lowest-slice-known6 c .lowest .ensures in
-    let put = put-slice-known6 c .put in (
-      record {
-        start = le-refl (turn .windows .p);
-        within = rw (same-end turn) (within turn .0);
-        scanned = scanned;
-        is-lowest = lowest-there (lowest-slice-known6 c);
-        is-rank = scanned .ranked (lowest-slice-known6 c .lowest .result) (is .first) (is .last);
-        counted = omega (arith, put .ensures .counted, turn .windows .inv .0 .counted);
-        has-room = record {
-          for-codes = rw (put .kept .0) (turn .windows .inv .0 .has-room .for-codes);
-          for-positions = rw (put .kept .1 .0) (turn .windows .inv .0 .has-room .for-positions);
-        };
-      },
-      refl,
-      refl,
-      λ es. refl,
-    )
-
--- the place of a turn over letters
-inside : (c : At-loop) → (c .loop .p + entry (turn c) .args .measures .last ≤ length (entry (turn c) .args .letters .now))
-    × (length (entry (turn c) .args .letters .now) ≤ letterLimit)
-    × (entry (turn c) .args .measures .w ≤ c .loop .p)
-    × (turn c .windows .p ≤ length (entry (turn c) .args .letters .now))
-    × (runEnd (entry (turn c) .args .letters .now) (turn c .windows .p) ≤ length (entry (turn c) .args .letters .now))
+    × (length (entry c .args .letters .now) ≤ letterLimit)
+    × (entry c .args .measures .w ≤ c .loop .p)
+    × (c .loop .p ≤ c .loop .low-at + entry c .args .measures .w)
+    × (c .loop .low-at < c .loop .p)
 inside c =
-    let there = within (turn c) in
-    let same = same-end (turn c) in
-    (omega (arith, c .loop .inv .0 .within), entry (turn c) .pre .0 .few, omega (arith, c .loop .inv .0 .start), omega arith, omega arith)
+    let start = entry c in (
+      omega (arith, start .pre .1 .0 .begins, c .loop .inv .1 .start),
+      c .loop .inv .1 .within,
+      runEnd-within (start .args .letters .now) (start .args .reached .at) (start .pre .0 .in-letters) .1,
+      start .pre .0 .few,
+      omega (arith, start .pre .1 .1 .0, c .loop .inv .1 .start),
+      omega (arith, c .loop .inv .2 .is-lowest .first),
+      c .loop .inv .2 .is-lowest .last,
+    )
 
--- all that is put so far, and what is still to pick, make up what there was to pick at first
-so-far : (c : At-loop)
-    → SameEnd (entry (turn c) .args .measures .room) (c .loop .n) (c .loop .codes) (c .loop .positions)
-    (toPick (entry (turn c) .args .measures .last) (entry (turn c) .args .measures .w) (entry (turn c) .args .letters .now)
-    (entry (turn c) .args .reached .at) (suc (c .loop .p - entry (turn c) .args .measures .w)) (suc (c .loop .low-at)))
-    (entry (turn c) .args .before) (entry (turn c) .args .codes .now) (entry (turn c) .args .positions .now)
-    (toPick (entry (turn c) .args .measures .last) (entry (turn c) .args .measures .w) (entry (turn c) .args .letters .now)
-    (entry (turn c) .args .reached .at) (entry (turn c) .args .reached .at - entry (turn c) .args .measures .w)
-    (entry (turn c) .args .reached .at - entry (turn c) .args .measures .w))
-so-far c es =
+same-run : (c : Turn) → runEnd (entry c .args .letters .now) (c .loop .p) ≡ runEnd (entry c .args .letters .now) (entry c .args .reached .at)
+same-run c =
+    let start = entry c in
+    runEnd-same (start .args .letters .now) (start .args .reached .at) (c .loop .p) (c .loop .inv .1 .start) (omega (arith, inside c))
+
+add-end : tie.Need-add-end Inv-loop μ-loop
+add-end c =
+    let start = entry-known3 c in
+    omega (
+      arith,
+      start .pre .1 .0 .begins,
+      runEnd-within (start .args .letters .now) (start .args .reached .at) (start .pre .0 .in-letters),
+      start .pre .1 .1 .1 .0 .within,
+      start .pre .0 .few,
+    )
+
+sub-end : tie.Need-sub-end Inv-loop μ-loop
+sub-end c = omega (arith, entry-known3 c .pre .0 .short)
+
+loop-holds : tie.Need-loop-holds Inv-loop μ-loop
+loop-holds c =
+    let start = entry-known3 c in
+    (start .pre .1 .0 .ends, start .pre .1 .1 .1 .0, start .pre .1 .1 .1 .1, (refl, refl, refl), λ es. refl)
+
+add-leaves : tie.Need-add-leaves Inv-loop μ-loop
+add-leaves c = omega (arith, inside (c .before), entry (c .before) .pre .1 .1 .0)
+
+add-leaves-2 : tie.Need-add-leaves-2 Inv-loop μ-loop
+add-leaves-2 c = omega (arith, inside (c .before), entry (c .before) .pre .1 .1 .0)
+
+smaller-requires : tie.Need-smaller-requires Inv-loop μ-loop
+smaller-requires c κs = tt
+
+-- ---- what is read
+
+-- up to where k-mers are read
+stop-there : (c : tie.After-smaller Inv-loop μ-loop)
+    → (turn-smaller c .loop .p ≤ c .smaller .result)
+    × (c .smaller .result ≤ turn-smaller c .loop .low-at + entry (turn-smaller c) .args .measures .w + 1)
+    × (c .smaller .result + entry (turn-smaller c) .args .measures .last ≤ entry (turn-smaller c) .args .base + blockSize)
+    × (c .smaller .result < turn-smaller c .loop .low-at + entry (turn-smaller c) .args .measures .w + 1
+    → c .smaller .result + entry (turn-smaller c) .args .measures .last ≡ entry (turn-smaller c) .args .base + blockSize)
+stop-there c =
+    let there = inside (turn-smaller c) in
+    let short = entry (turn-smaller c) .pre .0 .short in
+    let most = turn-smaller c .loop .inv .0 in
+    let least = c .smaller .ensures in
+    (omega arith, omega arith, omega arith, λ h. omega arith)
+
+read-above-requires : tie.Need-read-above-requires Inv-loop μ-loop
+read-above-requires c κs =
+    let turn = turn-smaller c in
+    let start = entry turn in
+    let args = start .args in
+    let there = inside turn in
+    let stop = stop-there c in
+    let picking = turn .loop .inv .2 in
+    let small = rank-small (suc (args .measures .last)) (turn .loop .low-at) (args .letters .now) in (
+      (
+        record { block = start .pre .0 .block; in-letters = omega arith; few = start .pre .0 .few; short = start .pre .0 .short },
+        record { begins = there .0; ends = stop .2 },
+      ),
+      (
+        (omega (arith, picking .is-rank), stop .0, rw (same-run turn) (there .1)),
+        scanned-later (args .measures .last) (args .base) (args .letters .now) (turn .loop .ranks) (suc (turn .loop .low-at)) (turn .loop .p) (turn .loop .p)
+            (turn .loop .code) (picking .scanned) (there .6),
+      ),
+    )
+
+-- what is read is of the run
+reached : (c : Read)
+    → (turn c .loop .p ≤ c .read-above .result .at)
+    × (c .read-above .result .at + entry (turn c) .args .measures .last ≤ runEnd (entry (turn c) .args .letters .now) (entry (turn c) .args .reached .at))
+    × (c .read-above .result .at ≤ c .before .smaller .result)
+reached c =
+    let read = c .read-above .ensures in
+    (read .passed .start, rw (same-run (turn c)) at (read .passed .within), read .most)
+
+-- windows that end before the lowest leaves keep it
+kept-to : (c : Read) (x : ℕ) → turn c .loop .p ≤ x → x ≤ c .read-above .result .at → x ≤ turn c .loop .low-at + entry (turn c) .args .measures .w
+    → IsLowest (rankAt (suc (entry (turn c) .args .measures .last)) (entry (turn c) .args .letters .now)) (x - entry (turn c) .args .measures .w) x
+    (turn c .loop .low-at)
+    × (toPick (entry (turn c) .args .measures .last) (entry (turn c) .args .measures .w) (entry (turn c) .args .letters .now)
+    (entry (turn c) .args .reached .at) (suc (turn c .loop .p - entry (turn c) .args .measures .w)) (suc (turn c .loop .low-at))
+    ≡ toPick (entry (turn c) .args .measures .last) (entry (turn c) .args .measures .w) (entry (turn c) .args .letters .now)
+    (entry (turn c) .args .reached .at) (suc (x - entry (turn c) .args .measures .w)) (suc (turn c .loop .low-at)))
+kept-to c x from to stays =
     let turn = turn c in
     let args = entry turn .args in
-    let letters = args .letters .now in
-    let p = turn .windows .p in
-    let low-at = lowest-slice-known6 (c .before) .lowest .result in
-    let put = put-slice-known6 (c .before) .put in
-    let there = within turn in
-    (rw (same-end turn) at (c .loop .inv .3 es))
-    ∙ window-new (args .measures .last) (args .measures .w) (args .measures .room) (runEnd letters (args .reached .at) - args .measures .last) letters
-    (entry turn .pre .1 .0 .0)
-    (p - args .measures .w) p low-at (omega arith) (omega arith) (lowest-there (lowest-slice-known6 (c .before)))
-    (p - args .measures .w) (turn .windows .n) (put-slice-known6 (c .before) .before .unrank .result) (put .result)
-    (turn .windows .codes) (turn .windows .positions) (put .last .0) (put .last .1 .0)
-    (lowest-slice-known6 (c .before) .lowest .ensures .first)
-    (code-there (put-slice-known6 (c .before) .before))
-    (put .ensures) es
-    ∙ turn .windows .inv .3 es
+    let picking = turn .loop .inv .2 in
+    let there = reached c in
+    kept (args .measures .last) (args .measures .w) (args .measures .room) (args .letters .now) (args .reached .at) (entry turn .pre .1 .1 .0 .0)
+    (turn .loop .low-at) (turn .loop .low) (picking .is-rank) (turn .loop .p) x (inside turn .4) (picking .is-lowest) from stays (omega arith)
+    (λ q a b. c .read-above .ensures .passed .above q a (omega arith))
 
-add-value-at : tie.Need-add-value-at Inv-loop μ-loop Inv-windows μ-windows
-add-value-at c = omega (arith, inside (c .before))
+-- ---- a new rank that is not above the lowest
 
-value-at-requires : tie.Need-value-at-requires Inv-loop μ-loop Inv-windows μ-windows
-value-at-requires c κs = entry (turn (c .before)) .pre .0 .table
+put-requires : tie.Need-put-requires Inv-loop μ-loop
+put-requires c κs =
+    let test = c .before .before in
+    let read = read-then1 test in
+    let there = reached read in
+    let place = inside (turn read) in
+    let found = read .read-above .ensures .found (test .if1 .taken) in
+    let more : read .read-above .result .at + entry (turn read) .args .measures .last < length (entry (turn read) .args .letters .now) =
+    omega (arith, found .1, same-run (turn read)) in
+    (turn read .loop .inv .1 .has-room, omega (arith, turn read .loop .inv .1 .counted), omega arith)
 
--- past the test the run goes on, and the letter is a digit
-goes-on : (c : tie.Else1 Inv-loop μ-loop Inv-windows μ-windows)
-    → (turn-else1 c .loop .p
-    + entry (turn (turn-else1 c)) .args .measures .last < runEnd (entry (turn (turn-else1 c)) .args .letters .now) (turn (turn-else1 c) .windows .p))
-    × (c .before .value-at .result < 4)
-goes-on c =
-    let at = turn-else1 c in
-    let start = entry (turn at) in
-    let letters = start .args .letters .now in
-    let from = turn at .windows .p in
-    let here = at .loop .p + start .args .measures .last in
-    let digit : value (getD letters here 0) ≡ foreign → ⊥ = λ h. c .if1 .left (c .before .value-at .ensures ∙ h) in
-    let on : from ≤ here = omega (arith, at .loop .inv .0 .start) in (
-      end-later letters from here on (at .loop .inv .0 .within) digit,
-      subst (λ (x : ℕ). x < 4) (sym (c .before .value-at .ensures)) (digit-below letters from here on (at .loop .inv .0 .within) digit),
-    )
+add-p : tie.Need-add-p Inv-loop μ-loop
+add-p c =
+    let read = read-then1 (then1-put (put-known6 c)) in
+    omega (arith, reached read, inside (turn read))
 
-next-code-requires : tie.Need-next-code-requires Inv-loop μ-loop Inv-windows μ-windows
-next-code-requires c κs = (entry (turn (turn-else1 c)) .pre .0 .short, turn-else1 c .loop .inv .0 .scanned .code-below, goes-on c .1)
+loop-less : tie.Need-loop-less Inv-loop μ-loop
+loop-less c =
+    let read = read-then1 (then1-put (put-known6 c)) in
+    omega (arith, reached read, inside (turn read))
 
-rank-requires : tie.Need-rank-requires Inv-loop μ-loop Inv-windows μ-windows
-rank-requires c κs = tt
-
-mul-ring : tie.Need-mul-ring Inv-loop μ-loop Inv-windows μ-windows
-mul-ring c = ring-scaled (turn-next-code (c .before) .loop .p)
-
-slice-write-ring : tie.Need-slice-write-ring Inv-loop μ-loop Inv-windows μ-windows
-slice-write-ring c = omega (arith, turn-next-code (c .before) .loop .inv .0 .scanned .sized)
-
-add-p : tie.Need-add-p Inv-loop μ-loop Inv-windows μ-windows
-add-p c = omega (arith, inside (turn-next-code (c .before)))
-
-add-if2 : tie.Need-add-if2 Inv-loop μ-loop Inv-windows μ-windows
-add-if2 c =
-    let at = turn-next-code (c .before .before) in
-    omega (arith, inside at, at .loop .inv .0 .is-lowest .last, entry (turn at) .pre .1 .0)
-
-windows-less : tie.Need-windows-less Inv-loop μ-loop Inv-windows μ-windows
-windows-less c =
-    let at = turn-next-code (next-code-then2 c) in
-    omega (arith, goes-on (next-code-then2 c .before) .0, same-end (turn at), at .loop .inv .0 .start)
-
-windows-again : tie.Need-windows-again Inv-loop μ-loop Inv-windows μ-windows
-windows-again c =
-    let at = turn-next-code (next-code-then2 c) in
-    let start = entry (turn at) in
-    let args = start .args in
-    let next = picking-left (args .measures .last) (args .measures .w) (args .measures .room) (args .letters .now) (turn at .windows .p) (inside at .3)
-    (start .pre .0 .short) (start .pre .1 .0 .0) (start .pre .1 .0 .1)
-    (at .loop .ring) (at .loop .codes) (at .loop .positions) (at .loop .p) (at .loop .code) (at .loop .n) (at .loop .low-at) (at .loop .low) (inside at .2)
-    (at .loop .inv .0)
-    (else1-next-code (next-code-then2 c) .before .value-at .result) (next-code-then2 c .next-code .result) (c .before .before .rank .result)
-    (goes-on (next-code-then2 c .before) .0) (else1-next-code (next-code-then2 c) .before .value-at .ensures) (next-code-then2 c .next-code .ensures)
-    (c .before .before .rank .ensures) (c .if2 .taken) in
-    let put = put-slice-known6 (at .before) .put in (
-      record {
-        start = omega (arith, next .0 .start, turn at .windows .inv .0 .start);
-        within = rw (same-end (turn at)) at (next .0 .within);
-        scanned = next .0 .scanned;
-        counted = next .0 .counted;
-        has-room = next .0 .has-room;
-      },
-      at .loop .inv .1 ∙ put .kept .0 ∙ turn at .windows .inv .1,
-      at .loop .inv .2 ∙ put .kept .1 .0 ∙ turn at .windows .inv .2,
-      λ es. ap (λ (l : List Entry). written (args .measures .room) (at .loop .n) (at .loop .codes) (at .loop .positions) (l ++ es))
-          (sym (rw (same-end (turn at)) at (next .1))) ∙ so-far at es,
-    )
-
-put-requires-2 : tie.Need-put-requires-2 Inv-loop μ-loop Inv-windows μ-windows
-put-requires-2 c κs =
-    let at = turn-else2 (c .before .before .before) in
-    let there = inside at in
-    let on = goes-on (else1-else2 (c .before .before .before)) .0 in
-    (at .loop .inv .0 .has-room, omega (arith, at .loop .inv .0 .counted), omega arith)
-
-loop-less : tie.Need-loop-less Inv-loop μ-loop Inv-windows μ-windows
-loop-less c = omega (arith, goes-on (rank-codes2 (c .before .before .before) .before .before) .0)
-
-loop-again : tie.Need-loop-again Inv-loop μ-loop Inv-windows μ-windows
+loop-again : tie.Need-loop-again Inv-loop μ-loop
 loop-again c =
-    let at = turn-codes2 (c .before .before .before) in
-    let start = entry (turn at) in
-    let args = start .args in
-    let put = put2-codes2 (c .before .before .before) .put2 in
-    let next = picking-new (args .measures .last) (args .measures .w) (args .measures .room) (args .letters .now) (turn at .windows .p) (inside at .3)
-    (start .pre .0 .short) (start .pre .1 .0 .0) (start .pre .1 .0 .1)
-    (at .loop .ring) (at .loop .codes) (at .loop .positions) (at .loop .p) (at .loop .code) (at .loop .n) (at .loop .low-at) (at .loop .low) (inside at .2)
-    (at .loop .inv .0)
-    (rank-codes2 (c .before .before .before) .before .before .before .value-at .result) (rank-codes2 (c .before .before .before) .before .next-code .result)
-    (rank-codes2 (c .before .before .before) .rank .result) (goes-on (rank-codes2 (c .before .before .before) .before .before) .0)
-    (rank-codes2 (c .before .before .before) .before .before .before .value-at .ensures)
-    (rank-codes2 (c .before .before .before) .before .next-code .ensures) (rank-codes2 (c .before .before .before) .rank .ensures)
-    (put .result) (put .last .0) (put .last .1 .0) (put2-codes2 (c .before .before .before) .before .before .before .if3 .taken) (put .ensures)
-    (record {
-      for-codes = rw (put .kept .0) (at .loop .inv .0 .has-room .for-codes);
-      for-positions = rw (put .kept .1 .0) (at .loop .inv .0 .has-room .for-positions);
-    }) in
-    (next .0, put .kept .0 ∙ at .loop .inv .1, put .kept .1 .0 ∙ at .loop .inv .2, λ es. next .1 es ∙ at .loop .inv .3 es)
-
-loop-less-2 : tie.Need-loop-less-2 Inv-loop μ-loop Inv-windows μ-windows
-loop-less-2 c = omega (arith, goes-on (else1-else2 (c .before)) .0)
-
-loop-again-2 : tie.Need-loop-again-2 Inv-loop μ-loop Inv-windows μ-windows
-loop-again-2 c =
-    let at = turn-else2 (c .before) in
-    let start = entry (turn at) in
-    let args = start .args in
-    let next = picking-kept (args .measures .last) (args .measures .w) (args .measures .room) (args .letters .now) (turn at .windows .p) (inside at .3)
-    (start .pre .0 .short) (start .pre .1 .0 .0) (start .pre .1 .0 .1)
-    (at .loop .ring) (at .loop .codes) (at .loop .positions) (at .loop .p) (at .loop .code) (at .loop .n) (at .loop .low-at) (at .loop .low) (inside at .2)
-    (at .loop .inv .0)
-    (else1-else2 (c .before) .before .value-at .result) (next-code-else2 (c .before) .next-code .result) (rank-else2 (c .before) .rank .result)
-    (goes-on (else1-else2 (c .before)) .0) (else1-else2 (c .before) .before .value-at .ensures) (next-code-else2 (c .before) .next-code .ensures)
-    (rank-else2 (c .before) .rank .ensures) (c .before .if2 .left) (c .if3 .left) in (
-      next .0,
-      at .loop .inv .1,
-      at .loop .inv .2,
-      λ es. ap (λ (l : List Entry). written (args .measures .room) (at .loop .n) (at .loop .codes) (at .loop .positions) (l ++ es)) (sym (next .1))
-          ∙ at .loop .inv .3 es,
+    let put = put-known6 c .put in
+    let test = then1-put (put-known6 c) in
+    let read = read-then1 test in
+    let turn = turn read in
+    let args = entry turn .args in
+    let last = args .measures .last in
+    let w = args .measures .w in
+    let letters = args .letters .now in
+    let from = args .reached .at in
+    let result = read .read-above .result in
+    let there = reached read in
+    let place = inside turn in
+    let stop = stop-there (read .before) in
+    let found = read .read-above .ensures .found (test .if1 .taken) in
+    let ranks = read .read-above .last .1 .1 .1 .0 in
+    let more : result .at + last < runEnd letters from = rw (same-run turn) at (found .1) in
+    let stays : result .at ≤ turn .loop .low-at + w = omega (arith, found .0) in
+    let same = kept-to read (result .at) (there .0) (le-refl (result .at)) stays in
+    let picking = turn .loop .inv .2 in
+    let below : rankAt (suc last) letters (result .at) ≤ rankAt (suc last) letters (turn .loop .low-at) =
+    subst₂ (λ (x y : ℕ). x ≤ y) (found .2) (picking .is-rank) (test .if1 .taken) in
+    let new = put-new last w (args .measures .room) letters from (entry turn .pre .1 .1 .0 .0) (turn .loop .low-at) (turn .loop .p) (result .at)
+    (turn .loop .n) (put .result) (result .code) (turn .loop .codes) (turn .loop .positions) (put .last .0) (put .last .1 .0) (omega arith) (same .1)
+    (same .0) more below (found .3) (put .ensures) in (
+      omega (arith, found .0),
+      record {
+        start = omega (arith, turn .loop .inv .1 .start);
+        within = omega arith;
+        counted = omega (arith, put .ensures .counted, turn .loop .inv .1 .counted);
+        has-room = record {
+          for-codes = rw (put .kept .0) (turn .loop .inv .1 .has-room .for-codes);
+          for-positions = rw (put .kept .1 .0) (turn .loop .inv .1 .has-room .for-positions);
+        };
+      },
+      record {
+        scanned = scanned-later last (args .base) letters ranks (suc (turn .loop .low-at)) (suc (result .at)) (result .at + 1) (result .code)
+            (found .4 (suc (turn .loop .low-at)) (picking .scanned)) (omega arith);
+        is-lowest = new .0;
+        is-rank = found .2;
+      },
+      (read .read-above .kept .1 .1 .1 .0 ∙ turn .loop .inv .3 .0, put .kept .0 ∙ turn .loop .inv .3 .1, put .kept .1 .0 ∙ turn .loop .inv .3 .2),
+      λ es. new .1 es ∙ turn .loop .inv .4 es,
     )
 
-add-at : tie.Need-add-at Inv-loop μ-loop Inv-windows μ-windows
-add-at c = omega (arith, inside (turn-then1 (c .before)))
+-- ---- the block ends, or the run
 
-same-length : tie.Need-same-length Inv-loop μ-loop Inv-windows μ-windows
-same-length c = turn-then1 (c .before) .loop .inv .0 .scanned .sized ∙ sym (entry (turn (turn-then1 (c .before))) .pre .1 .1 .1 .0 .sized)
+same-length : tie.Need-same-length Inv-loop μ-loop
+same-length c =
+    let read = read-else1 (c .before) in
+    read .read-above .kept .1 .1 .1 .0 ∙ turn read .loop .inv .3 .0
 
-same-length-2 : tie.Need-same-length-2 Inv-loop μ-loop Inv-windows μ-windows
-same-length-2 c = turn-then1 (c .before) .loop .inv .1 ∙ put-slice-known6 (turn-then1 (c .before) .before) .put .kept .0
-    ∙ turn (turn-then1 (c .before)) .windows .inv .1
+same-length-2 : tie.Need-same-length-2 Inv-loop μ-loop
+same-length-2 c = turn (read-else1 (c .before)) .loop .inv .3 .1
 
-same-length-3 : tie.Need-same-length-3 Inv-loop μ-loop Inv-windows μ-windows
-same-length-3 c = turn-then1 (c .before) .loop .inv .2 ∙ put-slice-known6 (turn-then1 (c .before) .before) .put .kept .1 .0
-    ∙ turn (turn-then1 (c .before)) .windows .inv .2
+same-length-3 : tie.Need-same-length-3 Inv-loop μ-loop
+same-length-3 c = turn (read-else1 (c .before)) .loop .inv .3 .2
 
-returns : tie.Need-returns Inv-loop μ-loop Inv-windows μ-windows
+returns : tie.Need-returns Inv-loop μ-loop
 returns c =
-    let at = turn-then1 (c .before) in
-    let start = entry (turn at) in
-    let args = start .args in
+    let read = read-else1 (c .before) in
+    let turn = turn read in
+    let result = read .read-above .result in
+    let there = reached read in
+    let stop = stop-there (read .before) in
+    let none = read .read-above .ensures .none (c .before .if1 .left) in
+    let picking = turn .loop .inv .2 in
+    let standing = turn .loop .inv .1 in
+    let same = kept-to read (result .at) (there .0) (le-refl (result .at)) (omega (arith, c .if2 .taken)) in (
+      record { most = omega arith; ended = λ h. rw (same-run turn) at (none .0 (omega (arith, c .if2 .taken))) },
+      record { start = omega (arith, standing .start); within = there .1; counted = omega (arith, standing .counted); has-room = standing .has-room },
+      record { scanned = none .1 (suc (turn .loop .low-at)) (picking .scanned); is-lowest = same .0; is-rank = picking .is-rank },
+      λ es. rw (sym (same .1)) (turn .loop .inv .4 es),
+    )
+
+-- ---- the lowest has left
+
+-- the window then begins behind it
+left : (c : tie.Else2 Inv-loop μ-loop)
+    → read-else1 (c .before) .read-above .result .at
+    ≡ turn (read-else1 (c .before)) .loop .low-at + entry (turn (read-else1 (c .before))) .args .measures .w + 1
+left c = omega (arith, c .if2 .left, reached (read-else1 (c .before)), stop-there (read-else1 (c .before) .before))
+
+slot-requires : tie.Need-slot-requires Inv-loop μ-loop
+slot-requires c κs =
+    let read = read-else1 (c .before) in
+    let there = reached read in
+    let place = inside (turn read) in
+    let stop = stop-there (read .before) in
+    (omega arith, omega arith, omega arith)
+
+abbrev read-slot : tie.After-slot Inv-loop μ-loop → Read
+read-slot c = read-else1 (c .before .before)
+
+-- the ranks behind it stand in their slots
+scanned : (c : tie.After-slot Inv-loop μ-loop)
+    → Scanned (entry (turn (read-slot c)) .args .measures .last) (entry (turn (read-slot c)) .args .base) (entry (turn (read-slot c)) .args .letters .now)
+    (read-slot c .read-above .last .1 .1 .1 .0) (suc (turn (read-slot c) .loop .low-at)) (read-slot c .read-above .result .at)
+    (read-slot c .read-above .result .code)
+scanned c =
+    let turn = turn (read-slot c) in
+    read-slot c .read-above .ensures .none (c .before .before .if1 .left) .1 (suc (turn .loop .low-at)) (turn .loop .inv .2 .scanned)
+
+-- the slots of the window
+slots : (c : tie.After-slot Inv-loop μ-loop)
+    → (entry (turn (read-slot c)) .args .measures .w ≤ c .slot .result)
+    × (c .slot .result
+    ≡ slotOf (entry (turn (read-slot c)) .args .measures .last) (entry (turn (read-slot c)) .args .base) (read-slot c .read-above .result .at))
+slots c =
+    let turn = turn (read-slot c) in
+    let there = c .slot .ensures .0 in
+    (omega (arith, inside turn, reached (read-slot c), entry turn .pre .1 .1 .0), there)
+
+sub-lowest : tie.Need-sub-lowest Inv-loop μ-loop
+sub-lowest c = slots (c .before .before) .0
+
+lowest-requires : tie.Need-lowest-requires Inv-loop μ-loop
+lowest-requires c κs =
+    let slot = c .before .before in (
+      scanned slot .sized,
+      omega (arith, slots slot .0, entry (turn (read-slot slot)) .pre .1 .1 .0),
+      slot .slot .ensures .1,
+    )
+
+-- the place of the lowest among them
+found-there : (c : tie.After-lowest Inv-loop μ-loop)
+    → (slot-lowest-there c .slot .result - entry (turn (read-slot (slot-lowest-there c))) .args .measures .w ≤ c .lowest .result)
+    × (c .lowest .result < slot-lowest-there c .slot .result)
+    × (slot-lowest-there c .slot .result ≤ ranksSize)
+found-there c = (c .lowest .ensures .first, c .lowest .ensures .last, slot-lowest-there c .slot .ensures .1)
+
+sub-low-at : tie.Need-sub-low-at Inv-loop μ-loop
+sub-low-at c = omega (arith, found-there c)
+
+sub-low-at-2 : tie.Need-sub-low-at-2 Inv-loop μ-loop
+sub-low-at-2 c = omega (arith, found-there c, left (else2-lowest c))
+
+mul-low : tie.Need-mul-low Inv-loop μ-loop
+mul-low c = omega (arith, found-there c)
+
+slice-read-low : tie.Need-slice-read-low Inv-loop μ-loop
+slice-read-low c = omega (arith, found-there (c .before), scanned (slot-lowest-there (c .before)) .sized)
+
+unrank-requires : tie.Need-unrank-requires Inv-loop μ-loop
+unrank-requires c κs = tt
+
+-- it is the lowest of the window
+searched : (c : tie.After-lowest Inv-loop μ-loop)
+    → IsLowest
+    (rankAt (suc (entry (turn (read-slot (slot-lowest-there c))) .args .measures .last)) (entry (turn (read-slot (slot-lowest-there c))) .args .letters .now))
+    (read-slot (slot-lowest-there c) .read-above .result .at - entry (turn (read-slot (slot-lowest-there c))) .args .measures .w)
+    (read-slot (slot-lowest-there c) .read-above .result .at)
+    (read-slot (slot-lowest-there c) .read-above .result .at - (slot-lowest-there c .slot .result - c .lowest .result))
+    × (c .lowest .result
+    ≡ slotOf (entry (turn (read-slot (slot-lowest-there c))) .args .measures .last) (entry (turn (read-slot (slot-lowest-there c))) .args .base)
+    (read-slot (slot-lowest-there c) .read-above .result .at - (slot-lowest-there c .slot .result - c .lowest .result)))
+searched c =
+    let slot = slot-lowest-there c in
+    let read = read-slot slot in
+    let args = entry (turn read) .args in
+    let result = read .read-above .result in
+    let same = slots slot .1 in
+    let place = inside (turn read) in
+    let there = reached read in
+    let gone = left (else2-lowest c) in
+    rw (sym same) at
+    (slot-lowest (args .measures .last) (args .base) (args .letters .now) (read .read-above .last .1 .1 .1 .0) (suc (turn read .loop .low-at)) (result .at)
+    (result .code) (scanned slot) (omega arith) (args .measures .w) (c .lowest .result) (entry (turn read) .pre .1 .1 .0 .1) (omega arith)
+    (rw same at (c .lowest .ensures)))
+
+put-requires-2 : tie.Need-put-requires-2 Inv-loop μ-loop
+put-requires-2 c κs =
+    let found = lowest-unrank c in
+    let read = read-slot (slot-lowest-there found) in
+    let place = inside (turn read) in
+    let there = reached read in
+    let gone = left (else2-lowest found) in
+    let standing = turn read .loop .inv .1 in
+    (standing .has-room, omega (arith, standing .counted), omega (arith, searched found .0 .last))
+
+loop-less-2 : tie.Need-loop-less-2 Inv-loop μ-loop
+loop-less-2 c =
+    let found = lowest-unrank (put2-known9 c .before) in
+    let read = read-slot (slot-lowest-there found) in
+    omega (arith, inside (turn read), reached read, left (else2-lowest found))
+
+-- what was to pick is what the window at hand and those behind it pick
+to-pick : (c : tie.Else2 Inv-loop μ-loop)
+    → toPick (entry (turn (read-else1 (c .before))) .args .measures .last) (entry (turn (read-else1 (c .before))) .args .measures .w)
+    (entry (turn (read-else1 (c .before))) .args .letters .now) (entry (turn (read-else1 (c .before))) .args .reached .at)
+    (suc (turn (read-else1 (c .before)) .loop .p - entry (turn (read-else1 (c .before))) .args .measures .w)) (suc (turn (read-else1 (c .before)) .loop .low-at))
+    ≡ toPick (entry (turn (read-else1 (c .before))) .args .measures .last) (entry (turn (read-else1 (c .before))) .args .measures .w)
+    (entry (turn (read-else1 (c .before))) .args .letters .now) (entry (turn (read-else1 (c .before))) .args .reached .at)
+    (read-else1 (c .before) .read-above .result .at - entry (turn (read-else1 (c .before))) .args .measures .w)
+    (read-else1 (c .before) .read-above .result .at - entry (turn (read-else1 (c .before))) .args .measures .w)
+to-pick c =
+    let read = read-else1 (c .before) in
+    let low-at = turn read .loop .low-at in
+    let w = entry (turn read) .args .measures .w in
+    let place = inside (turn read) in
+    let first : suc (low-at + w - w) ≡ read .read-above .result .at - w = omega (arith, left c) in
+    let behind : suc low-at ≡ read .read-above .result .at - w = omega (arith, left c) in
+    let same = kept-to read (low-at + w) (omega arith) (omega (arith, left c)) (le-refl (low-at + w)) .1 in
+    same ∙ rw (first, behind)
+
+-- the window at hand is of the run
+window-there : (c : Read)
+    → (c .read-above .result .at - entry (turn c) .args .measures .w + entry (turn c) .args .measures .w ≡ c .read-above .result .at)
+    × (c .read-above .result .at
+    ≤ runEnd (entry (turn c) .args .letters .now) (entry (turn c) .args .reached .at) - entry (turn c) .args .measures .last)
+window-there c =
+    let there = reached c in
+    (omega (arith, inside (turn c) .4), omega arith)
+
+loop-again-2 : tie.Need-loop-again-2 Inv-loop μ-loop
+loop-again-2 c =
+    let put = put2-known9 c .put2 in
+    let unrank = put2-known9 c .before .unrank in
+    let found = lowest-unrank (put2-known9 c .before) in
+    let slot = slot-lowest-there found in
+    let read = read-slot slot in
+    let turn = turn read in
+    let args = entry turn .args in
+    let last = args .measures .last in
+    let w = args .measures .w in
     let letters = args .letters .now in
-    let e = end-here letters (turn at .windows .p) (at .loop .p + args .measures .last) (omega (arith, at .loop .inv .0 .start)) (at .loop .inv .0 .within)
-    (sym (c .before .before .value-at .ensures) ∙ c .before .if1 .taken) in
-    let none = picking-end (args .measures .last) (args .measures .w) (args .measures .room) letters (turn at .windows .p) (inside at .3)
-    (start .pre .0 .short) (start .pre .1 .0 .0) (start .pre .1 .0 .1)
-    (at .loop .ring) (at .loop .codes) (at .loop .positions) (at .loop .p) (at .loop .code) (at .loop .n) (at .loop .low-at) (at .loop .low) (inside at .2)
-    (at .loop .inv .0) e in
-    record {
-      ended = e ∙ same-end (turn at);
-      counted = omega (arith, at .loop .inv .0 .counted);
-      put = λ es. ap (λ (l : List Entry). written (args .measures .room) (at .loop .n) (at .loop .codes) (at .loop .positions) (l ++ es))
-          (sym (rw (same-end (turn at)) at none)) ∙ so-far at es;
-    }
+    let result = read .read-above .result in
+    let ranks = read .read-above .last .1 .1 .1 .0 in
+    let low-at = result .at - (slot .slot .result - found .lowest .result) in
+    let there = reached read in
+    let place = inside turn in
+    let stop = stop-there (read .before) in
+    let gone = left (else2-lowest found) in
+    let lowest = searched found in
+    let behind : suc (turn .loop .low-at) ≤ low-at = omega (arith, lowest .0 .first) in
+    let code = slot-code last (args .base) letters ranks (suc (turn .loop .low-at)) (result .at) (result .code) (scanned slot) (omega arith)
+    low-at (unrank .result) behind (lowest .0 .last) (rw (sym (lowest .1)) (unrank .ensures)) in
+    let new = window-new last w (args .measures .room) (runEnd letters (args .reached .at) - last) letters (entry turn .pre .1 .1 .0 .0) (result .at - w)
+    (result .at) low-at (window-there read .0) (window-there read .1) (lowest .0) (result .at - w) (turn .loop .n) (unrank .result) (put .result)
+    (turn .loop .codes) (turn .loop .positions) (put .last .0) (put .last .1 .0) (lowest .0 .first) code (put .ensures) in (
+      omega arith,
+      record {
+        start = omega (arith, turn .loop .inv .1 .start);
+        within = there .1;
+        counted = omega (arith, put .ensures .counted, turn .loop .inv .1 .counted);
+        has-room = record {
+          for-codes = rw (put .kept .0) (turn .loop .inv .1 .has-room .for-codes);
+          for-positions = rw (put .kept .1 .0) (turn .loop .inv .1 .has-room .for-positions);
+        };
+      },
+      record {
+        scanned = scanned-later last (args .base) letters ranks (suc (turn .loop .low-at)) (suc low-at) (result .at) (result .code) (scanned slot) (omega arith);
+        is-lowest = lowest .0;
+        is-rank = rw (sym (lowest .1)) at (scanned slot .ranked low-at behind (lowest .0 .last));
+      },
+      (read .read-above .kept .1 .1 .1 .0 ∙ turn .loop .inv .3 .0, put .kept .0 ∙ turn .loop .inv .3 .1, put .kept .1 .0 ∙ turn .loop .inv .3 .2),
+      λ es. new es ∙ rw (sym (to-pick (else2-lowest found))) (turn .loop .inv .4 es),
+    )
 
 pub pass-windows-spec : {M : Type 1} → statement M
 pass-windows-spec =
@@ -440,33 +494,29 @@ pass-windows-spec =
     (tie.spec
     Inv-loop
     μ-loop
-    Inv-windows
-    μ-windows
-    windows-holds
-    sub-lowest
-    lowest-requires
-    mul-low
-    slice-read-low
-    unrank-requires
-    put-requires
+    add-end
+    sub-end
     loop-holds
-    add-value-at
-    value-at-requires
-    next-code-requires
-    rank-requires
-    mul-ring
-    slice-write-ring
+    add-leaves
+    add-leaves-2
+    smaller-requires
+    read-above-requires
+    put-requires
     add-p
-    add-if2
-    windows-less
-    windows-again
-    put-requires-2
     loop-less
     loop-again
-    loop-less-2
-    loop-again-2
-    add-at
     same-length
     same-length-2
     same-length-3
-    returns)
+    returns
+    slot-requires
+    sub-lowest
+    lowest-requires
+    sub-low-at
+    sub-low-at-2
+    mul-low
+    slice-read-low
+    unrank-requires
+    put-requires-2
+    loop-less-2
+    loop-again-2)

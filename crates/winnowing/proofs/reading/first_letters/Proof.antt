@@ -1,4 +1,4 @@
--- `windows::first_letters` meets its contract. The loop's invariant: the code of the letters read, all of the run.
+-- `reading::first_letters` meets its contract. The loop's invariant: the code of the letters read, all of the run.
 use borrow.Author.Needs.{needs}
 use Prim.Native.Nat.{ℕ, _+_, _-_, _^_, _≤_, _<_}
 use native.Mathlib.Nat.{le-refl}
@@ -11,15 +11,15 @@ use Rattle.kmers.specs.Kmers.{codeOf}
 use Rattle.kmers.specs.Places.{codeAt, runEnd}
 use Rattle.minimizers.proofs.Runs.{runEnd-within}
 use Rattle.winnowing.proofs.Steps.{end-here, end-later, digit-below, code-small, code-longer}
-use Rattle.winnowing.proofs.windows.first_letters.Statement.{statement}
-use Rattle.winnowing.proofs.windows.first_letters.Tie as tie
+use Rattle.winnowing.proofs.reading.first_letters.Statement.{statement}
+use Rattle.winnowing.proofs.reading.first_letters.Tie as tie
 
 abbrev Inv-loop : tie.InvT-loop
-Inv-loop letters values from last to at₀ code₀ at code = (from ≤ at) × (at ≤ from + last) × (at ≤ runEnd letters from)
+Inv-loop letters values base from last to at₀ code₀ at code = (from ≤ at) × (at ≤ from + last) × (at ≤ runEnd letters from)
     × (code ≡ codeAt (at - from) letters from)
 
 abbrev μ-loop : tie.MeasureT-loop
-μ-loop letters values from last to at₀ code₀ at code = from + last - at
+μ-loop letters values base from last to at₀ code₀ at code = from + last - at
 
 -- places, each named for where it leads and from where
 abbrev entry-turn : tie.At-loop Inv-loop μ-loop → tie.Start Inv-loop μ-loop
@@ -36,12 +36,18 @@ loop-holds c =
     let none : args .from - args .from ≡ 0 = omega arith in (
       omega arith,
       omega arith,
-      runEnd-within letters (args .from) (c .before .before .pre .in-letters) .0,
+      runEnd-within letters (args .from) (c .before .before .pre .0 .in-letters) .0,
       sym (ap (λ (n : ℕ). codeAt n letters (args .from)) none),
     )
 
 value-at-requires : tie.Need-value-at-requires Inv-loop μ-loop
-value-at-requires c κs = entry-turn (c .before) .pre .table
+value-at-requires c κs =
+    let start = entry-turn (c .before) in
+    let at = c .before .loop in
+    let there = runEnd-within (start .args .letters .now) (start .args .from) (start .pre .0 .in-letters) in (
+      start .pre .0 .block,
+      (omega (arith, start .pre .1 .begins, at .inv .0), omega (arith, start .pre .1 .ends, c .loop-test .taken), omega (arith, at .inv .2)),
+    )
 
 returns : tie.Need-returns Inv-loop μ-loop
 returns c =
@@ -71,7 +77,7 @@ goes-on c =
       end-later letters from (at .at) (at .inv .0) (at .inv .2) digit,
       subst (λ (x : ℕ). x < 4) (sym (c .before .value-at .ensures)) (digit-below letters from (at .at) (at .inv .0) (at .inv .2) digit),
       subst (λ (x : ℕ). x < 4 ^ kLimit) (sym (at .inv .3))
-          (code-small letters from (start .pre .in-letters) from (at .at - from) (le-refl from) (omega arith) (omega arith)),
+          (code-small letters from (start .pre .0 .in-letters) from (at .at - from) (le-refl from) (omega arith) (omega arith)),
     )
 
 mul-code : tie.Need-mul-code Inv-loop μ-loop
@@ -99,7 +105,7 @@ loop-again c =
       omega arith,
       omega arith,
       omega arith,
-      rw (c .before .value-at .ensures) (code-longer letters from (start .pre .in-letters) (at .at) (at .code) (at .inv .0) (on .0) (at .inv .3)),
+      rw (c .before .value-at .ensures) (code-longer letters from (start .pre .0 .in-letters) (at .at) (at .code) (at .inv .0) (on .0) (at .inv .3)),
     )
 
 returns-2 : tie.Need-returns-2 Inv-loop μ-loop

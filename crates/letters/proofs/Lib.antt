@@ -1,0 +1,2 @@
+-- The law of the value by arithmetic.
+pub mod Law

@@ -1,0 +1,2 @@
+-- The value of a letter by arithmetic.
+pub mod Computed
