@@ -30,46 +30,42 @@ put-first room n code position n′ cs ps cs′ ps′ is es = rw (is .counted, i
 
 module _ (last base : ℕ) (letters ranks : List ℕ) (first at code : ℕ) (scanned : Scanned last base letters ranks first at code)
     (begins : base ≤ at + last) where
-  -- the lowest of the last n slots is that of the last n positions
-  pub slot-lowest : (n found : ℕ) → n ≤ backSize → first + n ≤ at
-      → IsLowest (λ (i : ℕ). getD ranks i 0) (slotOf last base at - n) (slotOf last base at) found
-      → IsLowest (rankAt (suc last) letters) (at - n) at (at - (slotOf last base at - found))
-      × (found ≡ slotOf last base (at - (slotOf last base at - found)))
-  slot-lowest n found few known is = (record { first = omega arith; last = omega arith; left = left; right = right }, there)
+  -- the lowest of the last n slots is that of the last n positions, and its code is taken back from its rank
+  pub slot-lowest : (n low-at low : ℕ) → n ≤ backSize → first + n ≤ at → at ≤ slotOf last base at + low-at
+      → IsLowest (λ (i : ℕ). getD ranks i 0) (slotOf last base at - n) (slotOf last base at) (slotOf last base at - (at - low-at))
+      → low ≡ getD ranks (slotOf last base at - (at - low-at)) 0
+      → IsLowest (rankAt (suc last) letters) (at - n) at low-at × (low ≡ rankAt (suc last) letters low-at) × (unrank low ≡ codeAt (suc last) letters low-at)
+  unfolding rankAt
+  slot-lowest n low-at low few known near is e =
+      (record { first = from; last = to; left = left; right = right }, e ∙ lowest-rank, ap unrank (e ∙ lowest-rank) ∙ back)
     where
       reaches : base ≤ first + last + backSize
       reaches = scanned .reaches
 
-      from : slotOf last base at - n ≤ found
-      from = is .first
+      to : low-at < at
+      to = omega (arith, is .last)
 
-      to : found < slotOf last base at
-      to = is .last
+      from : at - n ≤ low-at
+      from = omega (arith, is .first, to)
 
-      low : ℕ
-      low = at - (slotOf last base at - found)
+      there : slotOf last base at - (at - low-at) ≡ slotOf last base low-at
+      there = omega (arith, from, to)
 
-      there : found ≡ slotOf last base (at - (slotOf last base at - found))
-      there = omega arith
+      lowest-rank : getD ranks (slotOf last base at - (at - low-at)) 0 ≡ rankAt (suc last) letters low-at
+      lowest-rank = ap (λ (i : ℕ). getD ranks i 0) there ∙ scanned .ranked low-at (omega (arith, from)) to
 
-      rank-of : (q : ℕ) → first ≤ q → q < at → getD ranks (slotOf last base q) 0 ≡ rankAt (suc last) letters q
-      rank-of = scanned .ranked
+      back : unrank (rankAt (suc last) letters low-at) ≡ codeAt (suc last) letters low-at
+      back = unrank-rank (codeAt (suc last) letters low-at) (scanned .small low-at (omega (arith, from)) to)
 
-      lowest-rank : getD ranks found 0 ≡ rankAt (suc last) letters (at - (slotOf last base at - found))
-      lowest-rank = ap (λ (i : ℕ). getD ranks i 0) there ∙ rank-of (at - (slotOf last base at - found)) (omega arith) (omega arith)
+      left : (q : ℕ) → at - n ≤ q → q < low-at → rankAt (suc last) letters low-at ≤ rankAt (suc last) letters q
+      left q h l =
+          subst₂ (λ (x y : ℕ). x ≤ y) lowest-rank (scanned .ranked q (omega arith) (omega (arith, to)))
+          (is .left (slotOf last base q) (omega (arith, to)) (omega (arith, there)))
 
-      left : (q : ℕ) → at - n ≤ q → q < at - (slotOf last base at - found)
-          → rankAt (suc last) letters (at - (slotOf last base at - found)) ≤ rankAt (suc last) letters q
-      left q h l = subst₂ (λ (x y : ℕ). x ≤ y) lowest-rank (rank-of q (omega arith) (omega arith)) (is .left (slotOf last base q) (omega arith) (omega arith))
-
-      right : (q : ℕ) → at - (slotOf last base at - found) < q → q < at
-          → rankAt (suc last) letters (at - (slotOf last base at - found)) < rankAt (suc last) letters q
-      right q h l = subst₂ (λ (x y : ℕ). x < y) lowest-rank (rank-of q (omega arith) l) (is .right (slotOf last base q) (omega arith) (omega arith))
-
-  -- and the code of a k-mer is taken back from its rank
-  pub slot-code : (q u : ℕ) → first ≤ q → q < at → u ≡ unrank (getD ranks (slotOf last base q) 0) → u ≡ codeAt (suc last) letters q
-  unfolding rankAt
-  slot-code q u a b e = e ∙ ap unrank (scanned .ranked q a b) ∙ unrank-rank (codeAt (suc last) letters q) (scanned .small q a b)
+      right : (q : ℕ) → low-at < q → q < at → rankAt (suc last) letters low-at < rankAt (suc last) letters q
+      right q h l =
+          subst₂ (λ (x y : ℕ). x < y) lowest-rank (scanned .ranked q (omega (arith, from)) l)
+          (is .right (slotOf last base q) (omega (arith, there)) (omega (arith, from)))
 
 -- ---- one window more
 

@@ -16,7 +16,7 @@ use Rattle.base.specs.Limits.{kLimit}
 use Rattle.kmers.specs.Letters.{value, isForeign, foreign}
 use Rattle.kmers.specs.Kmers.{rank}
 use Rattle.kmers.specs.Places.{codeAt, rankAt, runLength, runEnd}
-use Rattle.winnowing.specs.Blocks.{blockSize, backSize, slotOf, IsCarried}
+use Rattle.winnowing.specs.Blocks.{blockSize, backSize, ranksSize, slotOf, IsCarried}
 use Rattle.winnowing.specs.Scan.{InHand, Scanned}
 use Rattle.kmers.proofs.Codes.{value-below, cut-digit, codeAt-below, codeAt-suc, codeAt-cut}
 use Rattle.minimizers.proofs.Runs.{runEnd-within, run-letters}
@@ -134,6 +134,17 @@ rank-there last at code r letters er ec = er ∙ ap rank ec
 pub rank-small : (k q : ℕ) (letters : List ℕ) → rankAt k letters q < 4 ^ kLimit
 unfolding rankAt rank
 rank-small k q letters = mod-lt (codeAt k letters q * 2654435761) (lit< tt)
+
+-- no rank is read yet
+pub scanned-none : (last base : ℕ) (letters ranks : List ℕ) (at code : ℕ) → length ranks ≡ ranksSize → base ≤ at → InHand last letters at code
+    → Scanned last base letters ranks at at code
+scanned-none last base letters ranks at code sized begins in-hand = record {
+  sized = sized;
+  reaches = omega arith;
+  ranked = λ q a b. absurd (omega arith);
+  small = λ q a b. absurd (omega arith);
+  in-hand = in-hand;
+}
 
 -- what is known of the ranks from a position on is known from a later one on
 pub scanned-later : (last base : ℕ) (letters ranks : List ℕ) (first first′ at code : ℕ) → Scanned last base letters ranks first at code → first ≤ first′

@@ -5,6 +5,7 @@ use mathlib.Core.List.{List, [], _++_}
 use lib.ListN.{length, getD}
 use Rattle.base.specs.Limits.{kLimit, letterLimit}
 use Rattle.kmers.specs.Kmers.{Entry}
+use Rattle.kmers.specs.Ranks.{unrank}
 use Rattle.kmers.specs.Places.{codeAt, rankAt, runEnd}
 use Rattle.minimizers.specs.Places.{pickedFrom, IsLowest}
 use Rattle.winnowing.specs.Winnowed.{placed, written}
@@ -87,6 +88,13 @@ pub record IsPut (room n code position n′ : ℕ) (cs ps cs′ ps′ : List ℕ
   pub counted : n′ ≡ suc n
   pub codes-after : cs′ ≡ placed room n code cs
   pub positions-after : ps′ ≡ placed room n position ps
+
+-- the lowest of the slots from `from` to `to` is put: `to` is the slot of position p, and `at` the position of the lowest
+pub record PutsLowest (room : ℕ) (ranks : List ℕ) (from to p n at rank n′ : ℕ) (cs ps cs′ ps′ : List ℕ) : Type 0 where
+  pub near : p ≤ to + at
+  pub lowest : IsLowest (λ (i : ℕ). getD ranks i 0) from to (to - (p - at))
+  pub rank-there : rank ≡ getD ranks (to - (p - at)) 0
+  pub put : IsPut room n (unrank rank) at n′ cs ps cs′ ps′
 
 -- n entries in the buffers cs and ps, with those of `left` still to come, are as far as n₀ entries in cs₀ and ps₀ with those of
 -- `all`: whatever comes after, the same stands at the end

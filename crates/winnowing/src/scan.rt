@@ -15,17 +15,15 @@ use crate::blocks::carry;
 use crate::blocks::covering;
 use crate::blocks::read_block;
 use crate::blocks::slot;
-use crate::codes::unrank;
 use crate::reading::Reached;
 use crate::reading::first_letters;
 use crate::reading::first_window;
 use crate::windows::Counted;
 use crate::windows::Measures;
 use crate::windows::Passed;
-use crate::windows::lowest;
 use crate::windows::pass_kmers;
 use crate::windows::pass_windows;
-use crate::windows::put;
+use crate::windows::put_lowest;
 use letters::FOREIGN;
 use letters::value;
 
@@ -140,18 +138,11 @@ pub(crate) fn run_windows(
 {
     let from = begun.at;
     let last = measures.last;
-    let full = first_window(
-        letters,
-        values,
-        base,
-        ranks,
-        Reached {
-            at: from,
-            code: begun.code,
-        },
-        last,
-        measures.w,
-    );
+    let start = Reached {
+        at: from,
+        code: begun.code,
+    };
+    let full = first_window(letters, values, base, ranks, start, last, measures.w);
     let p = full.at;
     let at = p + last;
     if p <= from {
@@ -162,25 +153,25 @@ pub(crate) fn run_windows(
         };
     }
     let to = slot(p, last, base);
-    let found = lowest(ranks, to - (p - from), to);
-    let low_at = p - (to - found);
-    let low = ranks[found];
-    let entries = put(
+    let found = put_lowest(
+        ranks,
+        to - (p - from),
+        to,
+        p,
         codes,
         positions,
         measures.room,
         begun.entries,
-        unrank(low),
-        low_at,
     );
+    let entries = found.entries;
     if p < from + measures.w {
         return Place { at, base, entries };
     }
     let reached = Passed {
         at: p,
         code: full.code,
-        lowest: low_at,
-        low,
+        lowest: found.at,
+        low: found.rank,
         entries,
     };
     all_windows(

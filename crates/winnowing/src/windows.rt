@@ -6,7 +6,8 @@ ghost use lib.ListN.{length, getD};
 ghost use Rattle.base.specs.Limits.{wLimit, letterLimit};
 ghost use Rattle.minimizers.specs.Places.{IsLowest};
 ghost use Rattle.winnowing.specs.Blocks.{ranksSize};
-ghost use Rattle.winnowing.specs.Scan.{Ready, InBlock, InHand, HasRoom, IsPut, SameEnd, toPick, Standing, Picking, PassesBlock};
+ghost use Rattle.winnowing.specs.Scan.{Ready, InBlock, InHand, HasRoom, IsPut, PutsLowest, SameEnd, toPick};
+ghost use Rattle.winnowing.specs.Scan.{Standing, Picking, PassesBlock};
 use crate::blocks::BLOCK;
 use crate::blocks::slot;
 use crate::blocks::value_at;
@@ -37,6 +38,13 @@ pub(crate) struct Passed {
     pub(crate) code: u32,
     pub(crate) lowest: usize,
     pub(crate) low: u32,
+    pub(crate) entries: usize,
+}
+
+// A position, the rank of its k-mer, and the entries found with it.
+pub(crate) struct Picked {
+    pub(crate) at: usize,
+    pub(crate) rank: u32,
     pub(crate) entries: usize,
 }
 
@@ -79,6 +87,30 @@ pub(crate) fn lowest(ranks: &[u32], from: usize, to: usize) -> usize
         }
     }
     low_at
+}
+
+// Searches the slots from `from` to `to`, those of k-mers in front of position p, and puts the lowest.
+pub(crate) fn put_lowest(
+    ranks: &[u32],
+    from: usize,
+    to: usize,
+    p: usize,
+    codes: &mut [u32],
+    positions: &mut [u32],
+    room: usize,
+    n: usize,
+) -> Picked
+    requires { ⌜ (length (now ranks) ≡ ranksSize) × (from < to) × (to ≤ ranksSize) × (to ≤ from + p) ⌝ }
+    requires { ⌜ HasRoom room (now codes) (now positions) × (n < letterLimit) × (p ≤ letterLimit) ⌝ }
+    ensures { λ r.
+        ⌜ PutsLowest room (now (ranks .entry)) from to p n (r .at) (r .rank) (r .entries)
+        (now (codes .entry)) (now (positions .entry)) (now (codes .exit)) (now (positions .exit)) ⌝ }
+{
+    let found = lowest(ranks, from, to);
+    let at = p - (to - found);
+    let rank = ranks[found];
+    let entries = put(codes, positions, room, n, unrank(rank), at);
+    Picked { at, rank, entries }
 }
 
 // Passes the windows that end in a block, the first of which has its lowest put, and puts each pick that is new: a pick changes where
@@ -147,10 +179,19 @@ pub(crate) fn pass_windows(
             };
         }
         let to = slot(p, last, base);
-        let found = lowest(ranks, to - measures.w, to);
-        low_at = p - (to - found);
-        low = ranks[found];
-        n = put(codes, positions, measures.room, n, unrank(low), low_at);
+        let found = put_lowest(
+            ranks,
+            to - measures.w,
+            to,
+            p,
+            codes,
+            positions,
+            measures.room,
+            n,
+        );
+        low_at = found.at;
+        low = found.rank;
+        n = found.entries;
     }
 }
 

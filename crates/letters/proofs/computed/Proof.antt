@@ -18,11 +18,11 @@ high s h l = ⊎-elim (λ e. rw e) (λ n. let three : s ≡ 3 = omega arith in r
 
 returns : tie.Need-returns
 unfolding computed
-returns c = low (c .before .args .b / 2 % 4) (c .if1 .taken)
+returns c = low (c .before .args .b / 2 % 4) (omega (arith, c .if1 .taken))
 
 returns-2 : tie.Need-returns-2
 unfolding computed
-returns-2 c = high (c .before .args .b / 2 % 4) (c .if1 .left) (omega arith)
+returns-2 c = high (c .before .args .b / 2 % 4) (omega (arith, c .if1 .left)) (omega arith)
 
 pub computed-spec : {M : Type 1} → statement M
 computed-spec = tie.close (tie.spec returns returns-2)

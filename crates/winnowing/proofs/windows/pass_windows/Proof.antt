@@ -5,15 +5,16 @@ use Prim.Native.Nat.{ℕ, suc, _+_, _-_, _≤_, _<_}
 use native.Mathlib.Nat.{le-refl}
 use native.Mathlib.Omega.{arith}
 use mathlib.Core.Path.{_≡_, refl, sym, _∙_, subst₂}
-use lib.ListN.{length, getD}
+use lib.ListN.{length}
 use Rattle.base.specs.Limits.{letterLimit}
+use Rattle.kmers.specs.Ranks.{unrank}
 use Rattle.kmers.specs.Places.{codeAt, rankAt, runEnd}
 use Rattle.minimizers.specs.Places.{IsLowest}
 use Rattle.minimizers.proofs.Runs.{runEnd-within}
-use Rattle.winnowing.specs.Blocks.{blockSize, ranksSize, slotOf}
+use Rattle.winnowing.specs.Blocks.{blockSize, slotOf}
 use Rattle.winnowing.specs.Scan.{Scanned, SameEnd, toPick, Standing, Picking}
 use Rattle.winnowing.proofs.Steps.{runEnd-same, rank-small, scanned-later}
-use Rattle.winnowing.proofs.Passing.{slot-lowest, slot-code, window-new, kept, put-new}
+use Rattle.winnowing.proofs.Passing.{slot-lowest, window-new, kept, put-new}
 use Rattle.winnowing.proofs.windows.pass_windows.Statement.{statement}
 use Rattle.winnowing.proofs.windows.pass_windows.Tie as tie
 
@@ -64,14 +65,11 @@ read-else1 c = read-struct2 (c .before)
 abbrev codes-known6 : tie.After-slice-known6 Inv-loop μ-loop → tie.After-codes Inv-loop μ-loop
 codes-known6 c = c .before .before .before
 
-abbrev slot-lowest-there : tie.After-lowest Inv-loop μ-loop → tie.After-slot Inv-loop μ-loop
-slot-lowest-there c = c .before .before .before
+abbrev codes2-known8 : tie.After-slice-known8 Inv-loop μ-loop → tie.After-codes2 Inv-loop μ-loop
+codes2-known8 c = c .before .before .before
 
-abbrev known7-unrank : tie.After-unrank Inv-loop μ-loop → tie.After-slice-known7 Inv-loop μ-loop
-known7-unrank c = c .before .before .before
-
-abbrev codes2-known9 : tie.After-slice-known9 Inv-loop μ-loop → tie.After-codes2 Inv-loop μ-loop
-codes2-known9 c = c .before .before .before
+abbrev arg-arg3 : tie.After-put-lowest-arg3 Inv-loop μ-loop → tie.After-put-lowest-arg Inv-loop μ-loop
+arg-arg3 c = c .before .before .before
 
 abbrev put-known6 : tie.After-slice-known6 Inv-loop μ-loop → tie.After-put Inv-loop μ-loop
 put-known6 c = codes-known6 c .before
@@ -79,14 +77,14 @@ put-known6 c = codes-known6 c .before
 abbrev then1-put : tie.After-put Inv-loop μ-loop → tie.Then1 Inv-loop μ-loop
 then1-put c = c .before .before .before
 
-abbrev else2-lowest : tie.After-lowest Inv-loop μ-loop → tie.Else2 Inv-loop μ-loop
-else2-lowest c = slot-lowest-there c .before
+abbrev put-lowest-known8 : tie.After-slice-known8 Inv-loop μ-loop → tie.After-put-lowest Inv-loop μ-loop
+put-lowest-known8 c = codes2-known8 c .before
 
-abbrev lowest-unrank : tie.After-unrank Inv-loop μ-loop → tie.After-lowest Inv-loop μ-loop
-lowest-unrank c = known7-unrank c .before
+abbrev slot-arg3 : tie.After-put-lowest-arg3 Inv-loop μ-loop → tie.After-slot Inv-loop μ-loop
+slot-arg3 c = arg-arg3 c .before
 
-abbrev put2-known9 : tie.After-slice-known9 Inv-loop μ-loop → tie.After-put2 Inv-loop μ-loop
-put2-known9 c = codes2-known9 c .before
+abbrev slot-lowest-there : tie.After-put-lowest Inv-loop μ-loop → tie.After-slot Inv-loop μ-loop
+slot-lowest-there c = slot-arg3 (c .before)
 
 -- ---- the place of a turn
 
@@ -342,49 +340,34 @@ slots c =
     let there = c .slot .ensures .0 in
     (omega (arith, inside turn, reached (read-slot c), entry turn .pre .1 .1 .0), there)
 
-sub-lowest : tie.Need-sub-lowest Inv-loop μ-loop
-sub-lowest c = slots (c .before .before) .0
+sub-put-lowest : tie.Need-sub-put-lowest Inv-loop μ-loop
+sub-put-lowest c = slots (c .before .before) .0
 
-lowest-requires : tie.Need-lowest-requires Inv-loop μ-loop
-lowest-requires c κs =
-    let slot = c .before .before in (
-      scanned slot .sized,
-      omega (arith, slots slot .0, entry (turn (read-slot slot)) .pre .1 .1 .0),
-      slot .slot .ensures .1,
+put-lowest-requires : tie.Need-put-lowest-requires Inv-loop μ-loop
+put-lowest-requires c κs =
+    let slot = slot-arg3 c in
+    let read = read-slot slot in
+    let place = inside (turn read) in
+    let there = reached read in
+    let wide = slots slot .0 in
+    let gone = left (slot .before) in
+    let standing = turn read .loop .inv .1 in (
+      (scanned slot .sized, omega (arith, entry (turn read) .pre .1 .1 .0), slot .slot .ensures .1, omega arith),
+      (standing .has-room, omega (arith, standing .counted), omega arith),
     )
 
--- the place of the lowest among them
-found-there : (c : tie.After-lowest Inv-loop μ-loop)
-    → (slot-lowest-there c .slot .result - entry (turn (read-slot (slot-lowest-there c))) .args .measures .w ≤ c .lowest .result)
-    × (c .lowest .result < slot-lowest-there c .slot .result)
-    × (slot-lowest-there c .slot .result ≤ ranksSize)
-found-there c = (c .lowest .ensures .first, c .lowest .ensures .last, slot-lowest-there c .slot .ensures .1)
-
-sub-low-at : tie.Need-sub-low-at Inv-loop μ-loop
-sub-low-at c = omega (arith, found-there c)
-
-sub-low-at-2 : tie.Need-sub-low-at-2 Inv-loop μ-loop
-sub-low-at-2 c = omega (arith, found-there c, left (else2-lowest c))
-
-mul-low : tie.Need-mul-low Inv-loop μ-loop
-mul-low c = omega (arith, found-there c)
-
-slice-read-low : tie.Need-slice-read-low Inv-loop μ-loop
-slice-read-low c = omega (arith, found-there (c .before), scanned (slot-lowest-there (c .before)) .sized)
-
-unrank-requires : tie.Need-unrank-requires Inv-loop μ-loop
-unrank-requires c κs = tt
-
--- it is the lowest of the window
-searched : (c : tie.After-lowest Inv-loop μ-loop)
+-- what is put is the lowest of the window
+searched : (c : tie.After-put-lowest Inv-loop μ-loop)
     → IsLowest
     (rankAt (suc (entry (turn (read-slot (slot-lowest-there c))) .args .measures .last)) (entry (turn (read-slot (slot-lowest-there c))) .args .letters .now))
     (read-slot (slot-lowest-there c) .read-above .result .at - entry (turn (read-slot (slot-lowest-there c))) .args .measures .w)
-    (read-slot (slot-lowest-there c) .read-above .result .at)
-    (read-slot (slot-lowest-there c) .read-above .result .at - (slot-lowest-there c .slot .result - c .lowest .result))
-    × (c .lowest .result
-    ≡ slotOf (entry (turn (read-slot (slot-lowest-there c))) .args .measures .last) (entry (turn (read-slot (slot-lowest-there c))) .args .base)
-    (read-slot (slot-lowest-there c) .read-above .result .at - (slot-lowest-there c .slot .result - c .lowest .result)))
+    (read-slot (slot-lowest-there c) .read-above .result .at) (c .put-lowest .result .at)
+    × (c .put-lowest .result .rank
+    ≡ rankAt (suc (entry (turn (read-slot (slot-lowest-there c))) .args .measures .last)) (entry (turn (read-slot (slot-lowest-there c))) .args .letters .now)
+    (c .put-lowest .result .at))
+    × (unrank (c .put-lowest .result .rank)
+    ≡ codeAt (suc (entry (turn (read-slot (slot-lowest-there c))) .args .measures .last)) (entry (turn (read-slot (slot-lowest-there c))) .args .letters .now)
+    (c .put-lowest .result .at))
 searched c =
     let slot = slot-lowest-there c in
     let read = read-slot slot in
@@ -393,27 +376,16 @@ searched c =
     let same = slots slot .1 in
     let place = inside (turn read) in
     let there = reached read in
-    let gone = left (else2-lowest c) in
-    rw (sym same) at
-    (slot-lowest (args .measures .last) (args .base) (args .letters .now) (read .read-above .last .1 .1 .1 .0) (suc (turn read .loop .low-at)) (result .at)
-    (result .code) (scanned slot) (omega arith) (args .measures .w) (c .lowest .result) (entry (turn read) .pre .1 .1 .0 .1) (omega arith)
-    (rw same at (c .lowest .ensures)))
-
-put-requires-2 : tie.Need-put-requires-2 Inv-loop μ-loop
-put-requires-2 c κs =
-    let found = lowest-unrank c in
-    let read = read-slot (slot-lowest-there found) in
-    let place = inside (turn read) in
-    let there = reached read in
-    let gone = left (else2-lowest found) in
-    let standing = turn read .loop .inv .1 in
-    (standing .has-room, omega (arith, standing .counted), omega (arith, searched found .0 .last))
+    let gone = left (slot .before) in
+    let found = c .put-lowest .ensures in
+    slot-lowest (args .measures .last) (args .base) (args .letters .now) (read .read-above .last .1 .1 .1 .0) (suc (turn read .loop .low-at)) (result .at)
+    (result .code) (scanned slot) (omega arith) (args .measures .w) (c .put-lowest .result .at) (c .put-lowest .result .rank)
+    (entry (turn read) .pre .1 .1 .0 .1) (omega arith) (rw same at (found .near)) (rw same at (found .lowest)) (rw same at (found .rank-there))
 
 loop-less-2 : tie.Need-loop-less-2 Inv-loop μ-loop
 loop-less-2 c =
-    let found = lowest-unrank (put2-known9 c .before) in
-    let read = read-slot (slot-lowest-there found) in
-    omega (arith, inside (turn read), reached read, left (else2-lowest found))
+    let slot = slot-lowest-there (put-lowest-known8 c) in
+    omega (arith, inside (turn (read-slot slot)), reached (read-slot slot), left (slot .before))
 
 -- what was to pick is what the window at hand and those behind it pick
 to-pick : (c : tie.Else2 Inv-loop μ-loop)
@@ -445,9 +417,9 @@ window-there c =
 
 loop-again-2 : tie.Need-loop-again-2 Inv-loop μ-loop
 loop-again-2 c =
-    let put = put2-known9 c .put2 in
-    let unrank = put2-known9 c .before .unrank in
-    let found = lowest-unrank (put2-known9 c .before) in
+    let found = put-lowest-known8 c in
+    let picked = found .put-lowest in
+    let put = picked .ensures .put in
     let slot = slot-lowest-there found in
     let read = read-slot slot in
     let turn = turn read in
@@ -457,35 +429,38 @@ loop-again-2 c =
     let letters = args .letters .now in
     let result = read .read-above .result in
     let ranks = read .read-above .last .1 .1 .1 .0 in
-    let low-at = result .at - (slot .slot .result - found .lowest .result) in
     let there = reached read in
     let place = inside turn in
     let stop = stop-there (read .before) in
-    let gone = left (else2-lowest found) in
+    let gone = left (slot .before) in
     let lowest = searched found in
-    let behind : suc (turn .loop .low-at) ≤ low-at = omega (arith, lowest .0 .first) in
-    let code = slot-code last (args .base) letters ranks (suc (turn .loop .low-at)) (result .at) (result .code) (scanned slot) (omega arith)
-    low-at (unrank .result) behind (lowest .0 .last) (rw (sym (lowest .1)) (unrank .ensures)) in
+    let behind : suc (turn .loop .low-at) ≤ picked .result .at = omega (arith, lowest .0 .first) in
     let new = window-new last w (args .measures .room) (runEnd letters (args .reached .at) - last) letters (entry turn .pre .1 .1 .0 .0) (result .at - w)
-    (result .at) low-at (window-there read .0) (window-there read .1) (lowest .0) (result .at - w) (turn .loop .n) (unrank .result) (put .result)
-    (turn .loop .codes) (turn .loop .positions) (put .last .0) (put .last .1 .0) (lowest .0 .first) code (put .ensures) in (
+    (result .at) (picked .result .at) (window-there read .0) (window-there read .1) (lowest .0) (result .at - w) (turn .loop .n)
+    (unrank (picked .result .rank)) (picked .result .entries) (turn .loop .codes) (turn .loop .positions) (picked .last .1 .1 .1 .1 .0)
+    (picked .last .1 .1 .1 .1 .1 .0) (lowest .0 .first) (lowest .2) put in (
       omega arith,
       record {
         start = omega (arith, turn .loop .inv .1 .start);
         within = there .1;
-        counted = omega (arith, put .ensures .counted, turn .loop .inv .1 .counted);
+        counted = omega (arith, put .counted, turn .loop .inv .1 .counted);
         has-room = record {
-          for-codes = rw (put .kept .0) (turn .loop .inv .1 .has-room .for-codes);
-          for-positions = rw (put .kept .1 .0) (turn .loop .inv .1 .has-room .for-positions);
+          for-codes = rw (picked .kept .1 .1 .1 .1 .0) (turn .loop .inv .1 .has-room .for-codes);
+          for-positions = rw (picked .kept .1 .1 .1 .1 .1 .0) (turn .loop .inv .1 .has-room .for-positions);
         };
       },
       record {
-        scanned = scanned-later last (args .base) letters ranks (suc (turn .loop .low-at)) (suc low-at) (result .at) (result .code) (scanned slot) (omega arith);
+        scanned = scanned-later last (args .base) letters ranks (suc (turn .loop .low-at)) (suc (picked .result .at)) (result .at) (result .code)
+            (scanned slot) (omega arith);
         is-lowest = lowest .0;
-        is-rank = rw (sym (lowest .1)) at (scanned slot .ranked low-at behind (lowest .0 .last));
+        is-rank = lowest .1;
       },
-      (read .read-above .kept .1 .1 .1 .0 ∙ turn .loop .inv .3 .0, put .kept .0 ∙ turn .loop .inv .3 .1, put .kept .1 .0 ∙ turn .loop .inv .3 .2),
-      λ es. new es ∙ rw (sym (to-pick (else2-lowest found))) (turn .loop .inv .4 es),
+      (
+        read .read-above .kept .1 .1 .1 .0 ∙ turn .loop .inv .3 .0,
+        picked .kept .1 .1 .1 .1 .0 ∙ turn .loop .inv .3 .1,
+        picked .kept .1 .1 .1 .1 .1 .0 ∙ turn .loop .inv .3 .2,
+      ),
+      λ es. new es ∙ rw (sym (to-pick (slot .before))) (turn .loop .inv .4 es),
     )
 
 pub pass-windows-spec : {M : Type 1} → statement M
@@ -510,13 +485,7 @@ pass-windows-spec =
     same-length-3
     returns
     slot-requires
-    sub-lowest
-    lowest-requires
-    sub-low-at
-    sub-low-at-2
-    mul-low
-    slice-read-low
-    unrank-requires
-    put-requires-2
+    sub-put-lowest
+    put-lowest-requires
     loop-less-2
     loop-again-2)
