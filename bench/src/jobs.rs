@@ -15,6 +15,22 @@ pub fn random_letters(number: usize) -> Vec<u8> {
     letters(&mut Random::new(1), number, b"ACGT")
 }
 
+/// Random letters, one in a hundred of which is an N, so that runs have some hundred letters.
+pub fn with_foreign(number: usize) -> Vec<u8> {
+    let mut random = Random::new(5);
+    (0..number).map(|_| if random.once_in(100) { b'N' } else { random.one_of(b"ACGT") }).collect()
+}
+
+/// Random letters in lower case, in one run.
+pub fn lower_case(number: usize) -> Vec<u8> {
+    letters(&mut Random::new(6), number, b"acgt")
+}
+
+/// Letters outside the eight alone, which have no run.
+pub fn only_foreign(number: usize) -> Vec<u8> {
+    vec![b'N'; number]
+}
+
 /// The code behind one more letter.
 fn rolled(code: u32, letter: usize) -> u32 {
     (code * 4 + letter as u32) % (1 << (2 * K))

@@ -3,6 +3,7 @@
 pub mod clock;
 pub mod growth;
 pub mod jobs;
+pub mod letters_table;
 pub mod lines;
 pub mod machine;
 pub mod made;

@@ -6,7 +6,7 @@ use bench::plain::{fastest_strike, hash_strike};
 use bench::sessions::{HITS, PATTERN, cluster, random_hits};
 use bench::table::Table;
 use bench::timing::ROUNDS;
-use bench::{growth, machine};
+use bench::{growth, letters_table, machine};
 
 /// Prints what the first table's columns mean.
 fn print_legend() {
@@ -19,6 +19,20 @@ fn print_legend() {
         "Checksums are of every number, entry, answer and work word made, in one layout; behind steps the fastest session has"
     );
     println!("some words of its own, so that all three are compared without these, and proved and plain in all words.\n");
+}
+
+/// Prints what the columns of the letter decision's table mean.
+fn print_letters_legend() {
+    println!(
+        "\nHow a letter's value is had, k 15: 'before' is plain Rust with the former algorithm, which has each value as it reads"
+    );
+    println!(
+        "the letter, by a table that a match fills once a call, or by a match at each letter. 'computed' is plain Rust with the"
+    );
+    println!(
+        "proved function's algorithm of today. 'fastest' is the least of all times in plain Rust, the fastest known to us with them."
+    );
+    println!("The best processor time of {} runs counts, taken in turn. All five make the same.\n", letters_table::ROUNDS);
 }
 
 fn print_sketches(table: &mut Table) {
@@ -62,6 +76,8 @@ fn main() {
     print_sketches(&mut table);
     print_strikes(&mut table);
     print_sessions(&mut table);
+    print_letters_legend();
+    letters_table::print_all(&mut table);
     println!(
         "\nHow the cost of the proved functions grows: ten times the letters or entries, twice the hits (four times the cells).\n"
     );

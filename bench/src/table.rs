@@ -45,7 +45,7 @@ impl Table {
     }
 
     /// The goal, and by how much it is missed, which is remembered.
-    fn judged(&mut self, job: &str, ratio: f64, goal: Option<f64>) -> String {
+    pub fn judged(&mut self, job: &str, ratio: f64, goal: Option<f64>) -> String {
         match goal {
             None => "-".to_string(),
             Some(goal) if ratio <= goal => format!("{goal} met"),

@@ -1,102 +1,72 @@
-//! The picks of a run by chunks: keys of rank and place for a whole chunk, then the least of each window by doubling the span,
-//! then the picks that are new. No branch depends on the letters but for a run's end.
-//! Assumes k 1 to 15, w 1 to 64 and at most 1,048,576 letters.
+//! The picks of a run's windows by chunks: keys for all k-mers of a block, and then the least one of each window. No branch depends on
+//! the letters but for a run's end.
 
-use super::keys::{Key, key_of, least};
-use super::letters::FOREIGN;
-use super::sketch::prime;
+use super::block_codes::Halves;
+use super::keys::Key;
+use super::minima::minima;
+use super::parts::{BLOCK, Part, Taker, Values};
 
-/// New k-mers of a chunk, and room for the w − 1 that are left over from the chunk before.
-const CHUNK: usize = 512;
-const ROOM: usize = CHUNK + 64;
+/// How many keys are kept of the block before: those of the widest window.
+const BACK: usize = 64;
+pub const ROOM: usize = BACK + BLOCK;
 
-/// Appends the keys of the k-mers that end at the letters from `at` on, up to a run's end or a full chunk; returns how many.
-#[inline(always)]
-fn fill(keys: &mut [Key], letters: &[u8], at: usize, k: usize, code: &mut u32, values: &[u8; 256]) -> usize {
-    let mask = u32::MAX >> (32 - 2 * k);
-    let mut rolling = *code;
-    let mut number = 0;
-    for (key, &letter) in keys.iter_mut().zip(&letters[at..]) {
-        let value = values[usize::from(letter)];
-        if value == FOREIGN {
-            break;
-        }
-        rolling = rolling << 2 | u32::from(value);
-        *key = key_of(rolling & mask, at + number + 1 - k);
-        number += 1;
-    }
-    *code = rolling;
-    number
+/// Windows of a run that follow each other.
+pub struct Windows<'a, K> {
+    /// the key of each window's last k-mer
+    pub lasts: &'a [K],
+    /// the least key of the window before, or none where the run begins, and then that of each window
+    pub lows: &'a [K],
 }
 
-/// The least key of each window of w keys: spans of 1, 2, 4 and so on up to w, and then two such spans that overlap.
-fn least_of_windows(keys: &[Key], w: usize, low: &mut [Key; ROOM]) {
-    let windows = keys.len() + 1 - w;
-    let mut other = [0.0; ROOM];
-    low[..keys.len()].copy_from_slice(keys);
-    let (mut from, mut to) = (low, &mut other);
-    let (mut span, mut left) = (1, keys.len());
-    let mut swaps = 0;
-    loop {
-        // the last turn, where two spans no longer fit into a window, joins its two ends
-        let apart = span.min(w - span);
-        left -= apart;
-        for ((to, &a), &b) in to[..left].iter_mut().zip(&from[..left]).zip(&from[apart..]) {
-            *to = least(a, b);
-        }
-        (from, to) = (to, from);
-        swaps += 1;
-        span += apart;
-        if span == w {
-            break;
-        }
+/// Takes the parts of runs, and hands on their windows.
+pub struct Chunks<K, T> {
+    k: usize,
+    w: usize,
+    halves: Halves,
+    keys: [K; ROOM],
+    lows: [[K; ROOM + 1]; 2],
+    before: K,
+    take: T,
+}
+
+impl<K: Key, T: FnMut(Windows<K>)> Chunks<K, T> {
+    pub fn new(k: usize, w: usize, take: T) -> Chunks<K, T> {
+        let (keys, lows) = ([K::NONE; ROOM], [[K::NONE; ROOM + 1]; 2]);
+        Chunks { k, w, halves: Halves::NONE, keys, lows, before: K::NONE, take }
     }
-    if swaps % 2 == 1 {
-        to[..windows].copy_from_slice(&from[..windows]);
+
+    /// Hands on the windows of w k-mers among those that end from `from` to before `to`.
+    #[inline(always)]
+    fn windows(&mut self, base: usize, w: usize, from: usize, to: usize) {
+        let keys = &self.keys[from + BACK - base..to + BACK - base];
+        let [one, other] = &mut self.lows;
+        let lows = minima(keys, w, one, other);
+        lows[0] = self.before;
+        self.before = lows[lows.len() - 1];
+        (self.take)(Windows { lasts: &keys[w - 1..], lows });
     }
 }
 
-/// Hands the picks of a chunk's windows on, each once. `latest` is the last one before.
-#[inline(always)]
-fn hand_on(low: &[Key], latest: &mut Key, take: &mut impl FnMut(&[Key])) {
-    let mut picks = [0.0; ROOM];
-    let (mut number, mut before) = (0, latest.to_bits());
-    for &key in low {
-        picks[number % ROOM] = key;
-        number += usize::from(key.to_bits() != before);
-        before = key.to_bits();
+impl<K: Key, T: FnMut(Windows<K>)> Taker for Chunks<K, T> {
+    fn block(&mut self, values: &Values, base: usize) {
+        self.keys.copy_within(BLOCK.., 0);
+        let new = self.keys.last_chunk_mut().expect("room for a block");
+        self.halves.codes(values, self.k, new, |at, code| K::of(code, base + at));
     }
-    *latest = Key::from_bits(before);
-    take(&picks[..number]);
-}
 
-/// Hands on the picks of the run that begins at `start`; returns the index behind it.
-pub fn pick_run(letters: &[u8], start: usize, k: usize, w: usize, values: &[u8; 256], take: &mut impl FnMut(&[Key])) -> usize {
-    let (mut keys, mut low) = ([0.0; ROOM], [0.0; ROOM]);
-    let mut latest = 0.0;
-    let (mut at, mut code) = prime(letters, values, start, k);
-    let mut kept = 0;
-    loop {
-        let new = fill(&mut keys[kept..kept + CHUNK], letters, at, k, &mut code, values);
-        at += new;
-        let number = kept + new;
-        if number >= w && new > 0 {
-            if w > 1 {
-                least_of_windows(&keys[..number], w, &mut low);
-                hand_on(&low[..number + 1 - w], &mut latest, take);
-            } else {
-                take(&keys[..number]);
-            }
+    #[inline(always)]
+    fn part(&mut self, part: Part) {
+        let Part { base, first, to, ends } = part;
+        // the first k-mer whose window ends in this block, or the run's first one
+        let from = first.max((base + 1).saturating_sub(self.w));
+        if from == first {
+            self.before = K::NONE;
         }
-        if new < CHUNK {
+        if from + self.w <= to {
+            self.windows(base, self.w, from, to);
+        } else if ends && from == first && first < to {
             // a run with fewer k-mers than w has one window
-            if kept == 0 && 0 < number && number < w {
-                let whole = keys[..number].iter().copied().fold(f64::INFINITY, least);
-                take(&[whole]);
-            }
-            return at;
+            self.windows(base, to - first, first, to);
         }
-        keys.copy_within(number + 1 - w..number, 0);
-        kept = w - 1;
     }
 }

@@ -1,114 +1,85 @@
-//! The picks of a run by its events: between a new lowest rank and the moment when the lowest leaves its window, a k-mer costs a
-//! store and a comparison.
-//! Assumes k 1 to 15, w 1 to 64 and at most 1,048,576 letters.
+//! The picks of a run's windows by its events: between a new lowest rank and the moment when the lowest leaves its window, a k-mer
+//! costs a comparison. The ranks of a block are there before.
 
-use super::keys::{Key, ranked_key};
-use super::letters::FOREIGN;
-use super::ranks::rank;
-use super::sketch::{prime, value_at};
+use super::block_codes::Halves;
+use super::parts::{BLOCK, Part, Taker, Values};
+use super::ranks::{rank, unrank};
 
-const RING: usize = 64;
+/// How many ranks are kept of the block before: those of the widest window.
+const BACK: usize = 64;
 
-/// A rank, and the position of its k-mer.
-#[derive(Clone, Copy)]
-struct Lowest {
-    rank: u32,
-    at: usize,
-}
-
-impl Lowest {
-    fn key(self) -> Key {
-        ranked_key(self.rank, self.at)
-    }
-}
-
-/// The ranks of a run's last k-mers. They stand apart from the run, so that its numbers can stay in registers.
-type Ring = [u32; RING];
-
-/// A run in hand: the index of the next letter, and the code so far.
-struct Run {
+/// Takes the parts of runs, and hands on their picks, each by its code and its position.
+pub struct Events<T> {
     k: usize,
-    at: usize,
-    code: u32,
+    w: usize,
+    halves: Halves,
+    /// with a sign, since the machine compares many of these at a time
+    ranks: [i32; BACK + BLOCK],
+    low: i32,
+    /// the last letter of the lowest
+    low_at: usize,
+    take: T,
 }
 
-impl Run {
-    /// Takes one more letter, of this value, and returns the rank and the position of the k-mer that ends with it.
+impl<T: FnMut(u32, usize)> Events<T> {
+    pub fn new(k: usize, w: usize, take: T) -> Events<T> {
+        Events { k, w, halves: Halves::NONE, ranks: [0; BACK + BLOCK], low: 0, low_at: 0, take }
+    }
+
     #[inline(always)]
-    fn push(&mut self, value: u8, ring: &mut Ring) -> Lowest {
-        self.code = self.code << 2 | u32::from(value);
-        self.at += 1;
-        let (rank, at) = (rank(self.code & (u32::MAX >> (32 - 2 * self.k))), self.at - self.k);
-        ring[at % RING] = rank;
-        Lowest { rank, at }
+    fn pick(&mut self, low: i32, low_at: usize) {
+        (self.low, self.low_at) = (low, low_at);
+        (self.take)(unrank(low as u32), low_at + 1 - self.k);
     }
-}
 
-/// The lowest of the w ranks before a position, rightmost among equals.
-fn search(ring: &Ring, behind: usize, w: usize) -> Lowest {
-    let mut lowest = Lowest { rank: u32::MAX, at: 0 };
-    for at in behind - w..behind {
-        let rank = ring[at % RING];
-        if rank <= lowest.rank {
-            lowest = Lowest { rank, at };
+    /// Picks the lowest of the k-mers that end from `from` to before `to`, rightmost among equals: the lowest rank, and then its last
+    /// place, since each of the two is had of many at a time.
+    #[inline(always)]
+    fn search(&mut self, base: usize, from: usize, to: usize) {
+        let ranks = &self.ranks[from + BACK - base..to + BACK - base];
+        let low = ranks.iter().copied().fold(i32::MAX, i32::min);
+        let places = ranks.iter().zip(0i32..).map(|(&rank, at)| if rank == low { at } else { 0 });
+        self.pick(low, from + places.fold(0, i32::max) as usize);
+    }
+
+    /// Passes the k-mers that end from `at` to before `to`.
+    #[inline(always)]
+    fn pass(&mut self, base: usize, mut at: usize, to: usize) {
+        loop {
+            let (low, leaves) = (self.low, self.low_at + self.w);
+            let ahead = &self.ranks[at + BACK - base..leaves.min(to) + BACK - base];
+            if let Some(passed) = ahead.iter().position(|&rank| rank <= low) {
+                at += passed;
+                self.pick(ahead[passed], at);
+            } else if leaves < to {
+                at = leaves;
+                self.search(base, at + 1 - self.w, at + 1);
+            } else {
+                return;
+            }
+            at += 1;
         }
     }
-    lowest
 }
 
-/// Takes the k-mers of a run's first window, or all where it has fewer; returns the lowest, if there is any.
-#[inline(always)]
-fn first_window(run: &mut Run, ring: &mut Ring, letters: &[u8], w: usize, values: &[u8; 256]) -> Option<Lowest> {
-    let mut lowest: Option<Lowest> = None;
-    for _ in 0..w {
-        let value = value_at(letters, values, run.at);
-        if value == FOREIGN {
-            break;
-        }
-        let new = run.push(value, ring);
-        lowest = lowest.filter(|lowest| lowest.rank < new.rank).or(Some(new));
+impl<T: FnMut(u32, usize)> Taker for Events<T> {
+    fn block(&mut self, values: &Values, _: usize) {
+        self.ranks.copy_within(BLOCK.., 0);
+        let new = self.ranks.last_chunk_mut().expect("room for a block");
+        self.halves.codes(values, self.k, new, |_, code| rank(code) as i32);
     }
-    lowest
-}
 
-/// What ends the stay of a lowest rank: one that is not above it, its leaving the window, or the end of the run.
-enum Event {
-    Lower(Lowest),
-    Left,
-    End,
-}
-
-/// Takes k-mers up to the next event.
-#[inline(always)]
-fn next_event(run: &mut Run, ring: &mut Ring, letters: &[u8], w: usize, values: &[u8; 256], lowest: Lowest) -> Event {
-    let leaves = lowest.at + w + run.k;
-    for &letter in &letters[run.at..leaves.min(letters.len())] {
-        let value = values[usize::from(letter)];
-        if value == FOREIGN {
-            return Event::End;
+    #[inline(always)]
+    fn part(&mut self, part: Part) {
+        let Part { base, first, to, ends } = part;
+        if first + self.w <= base {
+            self.pass(base, base, to);
+        } else if first + self.w <= to {
+            self.search(base, first, first + self.w);
+            self.pass(base, first + self.w, to);
+        } else if ends && first < to {
+            // a run with fewer k-mers than w has one window
+            self.search(base, first, to);
         }
-        let new = run.push(value, ring);
-        if new.rank <= lowest.rank {
-            return Event::Lower(new);
-        }
-    }
-    if run.at == leaves { Event::Left } else { Event::End }
-}
-
-/// Hands on the picks of the run that begins at `start`; returns the index behind it.
-pub fn pick_run(letters: &[u8], start: usize, k: usize, w: usize, values: &[u8; 256], take: &mut impl FnMut(&[Key])) -> usize {
-    let (at, code) = prime(letters, values, start, k);
-    let (mut run, mut ring) = (Run { k, at, code }, [0; RING]);
-    if at + 1 < start + k {
-        return at;
-    }
-    let Some(mut lowest) = first_window(&mut run, &mut ring, letters, w, values) else { return run.at };
-    loop {
-        take(&[lowest.key()]);
-        lowest = match next_event(&mut run, &mut ring, letters, w, values, lowest) {
-            Event::Lower(new) => new,
-            Event::Left => search(&ring, run.at + 1 - k, w),
-            Event::End => return run.at,
-        };
     }
 }

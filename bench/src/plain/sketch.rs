@@ -1,153 +1,95 @@
-//! Sketch and count by the algorithm of the proved functions: the ranks of the last 64 k-mers stand in a ring, the lowest of a window
-//! is kept and searched anew when it leaves the window, and its code is had back from its rank.
+//! Sketch and count by the algorithm of the proved functions: the values of a block of letters are computed ahead of the scan, ranks
+//! stand in a buffer in their order, and the lowest of a window is kept and searched anew when it leaves the window. Its code is had
+//! back from its rank.
 //! Assumes k 1 to 15, w 1 to 64 and at most 1,048,576 letters where it does not test them.
 
-use super::letters::{FOREIGN, table};
-use super::ranks::{rank, unrank};
+use super::blocks::{BLOCK, NO_RANKS, NO_VALUES, Ranks, Values, carry, covering, read_block, slot};
+use super::entries::Entries;
+use super::letters::{FOREIGN, value};
+use super::reading::{Reached, first_letters, first_window};
+use super::refusal::refusal;
+use super::windows::{Measures, Passed, pass_kmers, pass_windows, put_lowest};
 
-const RING: usize = 64;
-
-/// Entries in two buffers: all are counted, and as many as there is room for are written.
-struct Entries<'a> {
-    codes: &'a mut [u32],
-    positions: &'a mut [u32],
-    number: usize,
-}
-
-impl Entries<'_> {
-    #[inline(always)]
-    fn put(&mut self, code: u32, position: usize) {
-        if let (Some(to_code), Some(to_position)) = (self.codes.get_mut(self.number), self.positions.get_mut(self.number)) {
-            *to_code = code;
-            *to_position = position as u32;
-        }
-        self.number += 1;
-    }
-}
-
-/// The value of the letter at an index; the end of the letters ends a run too.
-#[inline(always)]
-pub fn value_at(letters: &[u8], values: &[u8; 256], at: usize) -> u8 {
-    letters.get(at).map_or(FOREIGN, |&letter| values[usize::from(letter)])
-}
-
-/// Reads the letters before the last one of a run's first k-mer: the index behind them, and their code.
-#[inline(always)]
-pub fn prime(letters: &[u8], values: &[u8; 256], start: usize, k: usize) -> (usize, u32) {
-    let (mut at, mut code) = (start, 0);
-    while at + 1 < start + k {
-        let value = value_at(letters, values, at);
-        if value == FOREIGN {
-            break;
-        }
-        code = code << 2 | u32::from(value);
-        at += 1;
-    }
-    (at, code)
-}
-
-/// The letters with their values, and what a k-mer of them is.
+/// The letters, the block at hand, and where it begins.
 struct Scan<'a> {
     letters: &'a [u8],
-    values: &'a [u8; 256],
-    k: usize,
-    w: usize,
+    of: Measures,
+    values: Values,
+    ranks: Ranks,
+    base: usize,
 }
 
 impl Scan<'_> {
-    /// The code of the k-mer at this position, given that of the one before it; none where the run has ended.
-    #[inline(always)]
-    fn next_code(&self, code: u32, position: usize) -> Option<u32> {
-        let value = value_at(self.letters, self.values, position + self.k - 1);
-        (value != FOREIGN).then(|| (code << 2 | u32::from(value)) & (u32::MAX >> (32 - 2 * self.k)))
+    /// Passes the windows of a run to its end, the first of which has its lowest put; returns the index behind the run.
+    fn all_windows(&mut self, from: Passed, entries: &mut Entries) -> usize {
+        let last = self.of.last;
+        let mut passed = pass_windows(&self.values, self.base, &mut self.ranks, self.of, from, entries);
+        while self.base + BLOCK <= passed.reached.at + last {
+            self.base = passed.reached.at + last;
+            read_block(self.letters, &mut self.values, self.base);
+            carry(&mut self.ranks);
+            passed = pass_windows(&self.values, self.base, &mut self.ranks, self.of, passed, entries);
+        }
+        passed.reached.at + last
     }
 
-    /// Puts the entries of the run that begins at `start`; returns the index behind the run.
-    fn run(&self, start: usize, ring: &mut [u32; RING], entries: &mut Entries) -> usize {
-        let (at, mut code) = prime(self.letters, self.values, start, self.k);
-        if at + 1 < start + self.k {
-            return at;
+    /// Passes the k-mers of a run to its end, where a window has one; returns the index behind the run.
+    fn all_kmers(&mut self, from: Reached, entries: &mut Entries) -> usize {
+        let last = self.of.last;
+        let mut reached = pass_kmers(&self.values, self.base, self.of, from, entries);
+        while self.base + BLOCK <= reached.at + last {
+            self.base = reached.at + last;
+            read_block(self.letters, &mut self.values, self.base);
+            reached = pass_kmers(&self.values, self.base, self.of, reached, entries);
         }
-        let mut position = start;
-        while position < start + self.w {
-            let Some(next) = self.next_code(code, position) else {
-                // a run with fewer k-mers than w has one window
-                if position > start {
-                    let low_at = lowest(ring, start, position);
-                    entries.put(unrank(ring[low_at % RING]), low_at);
-                }
-                return position + self.k - 1;
-            };
-            code = next;
-            ring[position % RING] = rank(code);
-            position += 1;
-        }
-        self.windows(position, code, ring, entries)
+        reached.at + last
     }
 
-    /// Puts the picks of a run's windows, of which the first stands in the ring; returns the index behind the run.
-    fn windows(&self, behind: usize, code: u32, ring: &mut [u32; RING], entries: &mut Entries) -> usize {
-        let (mut position, mut code) = (behind, code);
-        'windows: loop {
-            let mut low_at = lowest(ring, position - self.w, position);
-            let mut low = ring[low_at % RING];
-            entries.put(unrank(low), low_at);
-            loop {
-                let Some(next) = self.next_code(code, position) else { break 'windows };
-                code = next;
-                let (here, rank) = (position, rank(code));
-                ring[here % RING] = rank;
-                position += 1;
-                // asked first, since this is foreseen more often than how the ranks compare
-                if low_at + self.w <= here {
-                    continue 'windows;
-                }
-                if rank <= low {
-                    (low_at, low) = (here, rank);
-                    entries.put(code, here);
-                }
-            }
+    /// Passes a run of which the letters in front of the first k-mer's last one are read, and puts its sketch.
+    fn run_windows(&mut self, begun: Reached, entries: &mut Entries) -> usize {
+        let Measures { last, w } = self.of;
+        let reached = first_window(&self.values, self.base, &mut self.ranks, begun, last, w);
+        if reached.at <= begun.at {
+            return reached.at + last;
         }
-        position + self.k - 1
+        let to = slot(reached.at, last, self.base);
+        let (low_at, low) = put_lowest(&self.ranks, to - (reached.at - begun.at), to, reached.at, entries);
+        // a run with fewer k-mers than w has one window
+        if reached.at < begun.at + w {
+            return reached.at + last;
+        }
+        self.all_windows(Passed { reached, low_at, low }, entries)
     }
-}
 
-/// The position of the lowest rank, rightmost among equals.
-fn lowest(ring: &[u32; RING], from: usize, to: usize) -> usize {
-    let (mut low_at, mut low) = (from, ring[from % RING]);
-    for at in from + 1..to {
-        if ring[at % RING] <= low {
-            (low_at, low) = (at, ring[at % RING]);
+    /// Passes the run that begins at `from`, and puts its sketch; returns the index behind the run.
+    fn run(&mut self, from: usize, entries: &mut Entries) -> usize {
+        let Measures { last, w } = self.of;
+        self.base = covering(self.letters, &mut self.values, self.base, from, from + last + w);
+        let begun = first_letters(&self.values, self.base, from, last);
+        if begun.at < from + last {
+            return begun.at;
         }
+        let start = Reached { at: from, code: begun.code };
+        if w == 1 { self.all_kmers(start, entries) } else { self.run_windows(start, entries) }
     }
-    low_at
 }
 
 /// Passes all runs; returns the number of entries. Those that fit into the buffers are written.
 fn winnow(letters: &[u8], k: u32, w: u32, codes: &mut [u32], positions: &mut [u32]) -> usize {
-    let values = table();
-    let scan = Scan { letters, values: &values, k: k as usize, w: w as usize };
-    let mut ring = [0; RING];
+    let of = Measures { last: k as usize - 1, w: w as usize };
+    let mut scan = Scan { letters, of, values: NO_VALUES, ranks: NO_RANKS, base: 0 };
     let mut entries = Entries { codes, positions, number: 0 };
-    let mut start = 0;
-    while start < letters.len() {
-        start = scan.run(start, &mut ring, &mut entries) + 1;
+    read_block(letters, &mut scan.values, 0);
+    let mut at = 0;
+    while at < letters.len() {
+        // a letter outside the eight ends a run of no letters
+        if value(letters[at]) == FOREIGN {
+            at += 1;
+            continue;
+        }
+        at = scan.run(at, &mut entries) + 1;
     }
     entries.number
-}
-
-/// The number that refuses these arguments, or 0.
-pub fn refusal(letters: &[u8], k: u32, w: u32) -> i32 {
-    if !(1..=15).contains(&k) {
-        return 1;
-    }
-    if !(1..=64).contains(&w) {
-        return 2;
-    }
-    if letters.len() > 1_048_576 {
-        return 3;
-    }
-    0
 }
 
 /// The number of entries, or the refusal number negated: winnowing with no room to write.

@@ -34,7 +34,8 @@ module _ (last base : ℕ) (letters ranks : List ℕ) (first at code : ℕ) (sca
   pub slot-lowest : (n low-at low : ℕ) → n ≤ backSize → first + n ≤ at → at ≤ slotOf last base at + low-at
       → IsLowest (λ (i : ℕ). getD ranks i 0) (slotOf last base at - n) (slotOf last base at) (slotOf last base at - (at - low-at))
       → low ≡ getD ranks (slotOf last base at - (at - low-at)) 0
-      → IsLowest (rankAt (suc last) letters) (at - n) at low-at × (low ≡ rankAt (suc last) letters low-at) × (unrank low ≡ codeAt (suc last) letters low-at)
+      → IsLowest (rankAt (suc last) letters) (at - n) at low-at × (low ≡ rankAt (suc last) letters low-at)
+      × (unrank low ≡ codeAt (suc last) letters low-at)
   unfolding rankAt
   slot-lowest n low-at low few known near is e =
       (record { first = from; last = to; left = left; right = right }, e ∙ lowest-rank, ap unrank (e ∙ lowest-rank) ∙ back)
@@ -112,7 +113,8 @@ module _ (last w room : ℕ) (letters : List ℕ) (from : ℕ) (some : 1 ≤ w) 
       )
 
   -- any number of them
-  kept-many : (n p : ℕ) → w ≤ p → IsLowest (rankAt (suc last) letters) (p - w) p low-at → p + n ≤ low-at + w → p + n + last ≤ runEnd letters from
+  kept-many : (n p : ℕ) → w ≤ p → IsLowest (rankAt (suc last) letters) (p - w) p low-at → p + n ≤ low-at + w
+      → p + n + last ≤ runEnd letters from
       → ((q : ℕ) → p ≤ q → q < p + n → low < rankAt (suc last) letters q)
       → IsLowest (rankAt (suc last) letters) (p + n - w) (p + n) low-at
       × (toPick last w letters from (suc (p - w)) (suc low-at) ≡ toPick last w letters from (suc (p + n - w)) (suc low-at))
@@ -121,11 +123,13 @@ module _ (last w room : ℕ) (letters : List ℕ) (from : ℕ) (some : 1 ≤ w) 
       let one = kept-one p wide is (omega arith) (omega arith) (above p (le-refl p) (omega arith)) in
       let many = kept-many n (suc p) (omega arith) (one .0) (omega arith) (omega arith) (λ q a b. above q (omega arith) (omega arith)) in
       let same : suc p + n ≡ p + suc n = omega arith in
-      let picks : toPick last w letters from (suc (p - w)) (suc low-at) ≡ toPick last w letters from (suc (suc p + n - w)) (suc low-at) = one .1 ∙ many .1 in
+      let picks : toPick last w letters from (suc (p - w)) (suc low-at) ≡ toPick last w letters from (suc (suc p + n - w)) (suc low-at) =
+      one .1 ∙ many .1 in
       (rw same at (many .0), rw same at picks)
 
   -- up to a position
-  pub kept : (p at : ℕ) → w ≤ p → IsLowest (rankAt (suc last) letters) (p - w) p low-at → p ≤ at → at ≤ low-at + w → at + last ≤ runEnd letters from
+  pub kept : (p at : ℕ) → w ≤ p → IsLowest (rankAt (suc last) letters) (p - w) p low-at → p ≤ at → at ≤ low-at + w
+      → at + last ≤ runEnd letters from
       → ((q : ℕ) → p ≤ q → q < at → low < rankAt (suc last) letters q)
       → IsLowest (rankAt (suc last) letters) (at - w) at low-at
       × (toPick last w letters from (suc (p - w)) (suc low-at) ≡ toPick last w letters from (suc (at - w)) (suc low-at))
@@ -156,8 +160,9 @@ module _ (last w room : ℕ) (letters : List ℕ) (from : ℕ) (some : 1 ≤ w) 
 -- ---- one block more
 
 -- what is put after what was put
-pub put-behind : (room n n′ n₀ : ℕ) (cs ps cs′ ps′ cs₀ ps₀ : List ℕ) (left more all : List Entry) → SameEnd room n′ cs′ ps′ left n cs ps more
-    → SameEnd room n cs ps more n₀ cs₀ ps₀ all → SameEnd room n′ cs′ ps′ left n₀ cs₀ ps₀ all
+pub put-behind : (room n n′ n₀ : ℕ) (cs ps cs′ ps′ cs₀ ps₀ : List ℕ) (left more all : List Entry)
+    → SameEnd room n′ cs′ ps′ left n cs ps more → SameEnd room n cs ps more n₀ cs₀ ps₀ all
+    → SameEnd room n′ cs′ ps′ left n₀ cs₀ ps₀ all
 put-behind room n n′ n₀ cs ps cs′ ps′ cs₀ ps₀ left more all next so-far es = next es ∙ so-far es
 
 -- what is put from a later place of a run on comes behind what was put up to there

@@ -106,7 +106,8 @@ module _ (letters : List ℕ) (from : ℕ) (in-letters : from ≤ length letters
         rw (cut-digit last code (value (getD letters (at + last) 0)) digit, h) (sym (codeAt-suc letters last at (omega arith)))
 
     -- the code in hand is then that of the k-mer at the position, and the next one ends in it
-    pub pushed : (code v code′ : ℕ) → InHand last letters at code → v ≡ value (getD letters (at + last) 0) → code′ ≡ (4 * code + v) % 4 ^ suc last
+    pub pushed : (code v code′ : ℕ) → InHand last letters at code → v ≡ value (getD letters (at + last) 0)
+        → code′ ≡ (4 * code + v) % 4 ^ suc last
         → (code′ ≡ codeAt (suc last) letters at) × (codeAt (suc last) letters at < 4 ^ kLimit) × InHand last letters (at + 1) code′
     pushed code v code′ is ev ec =
         let there : code′ ≡ codeAt (suc last) letters at =
@@ -126,7 +127,8 @@ module _ (letters : List ℕ) (from : ℕ) (in-letters : from ≤ length letters
 -- ---- the ranks in their slots
 
 -- the rank of the code that is read is that of the k-mer
-pub rank-there : (last at code r : ℕ) (letters : List ℕ) → r ≡ rank code → code ≡ codeAt (suc last) letters at → r ≡ rankAt (suc last) letters at
+pub rank-there : (last at code r : ℕ) (letters : List ℕ) → r ≡ rank code → code ≡ codeAt (suc last) letters at
+    → r ≡ rankAt (suc last) letters at
 unfolding rankAt
 rank-there last at code r letters er ec = er ∙ ap rank ec
 
@@ -147,8 +149,8 @@ scanned-none last base letters ranks at code sized begins in-hand = record {
 }
 
 -- what is known of the ranks from a position on is known from a later one on
-pub scanned-later : (last base : ℕ) (letters ranks : List ℕ) (first first′ at code : ℕ) → Scanned last base letters ranks first at code → first ≤ first′
-    → Scanned last base letters ranks first′ at code
+pub scanned-later : (last base : ℕ) (letters ranks : List ℕ) (first first′ at code : ℕ)
+    → Scanned last base letters ranks first at code → first ≤ first′ → Scanned last base letters ranks first′ at code
 scanned-later last base letters ranks first first′ at code is h = record {
   sized = is .sized;
   reaches = omega (arith, is .reaches);
@@ -170,7 +172,8 @@ module _ (last base : ℕ) (letters ranks : List ℕ) (first at code r code′ :
     sized = length-set ranks (slotOf last base at) r ∙ is .sized;
     reaches = is .reaches;
     ranked = λ q c d. below-more (λ (x : ℕ). first ≤ x → getD new (slotOf last base x) 0 ≡ rankAt (suc last) letters x) at old here q (omega arith) c;
-    small = λ q c d. below-more (λ (x : ℕ). first ≤ x → codeAt (suc last) letters x < 4 ^ kLimit) at (λ x l m. is .small x m l) (λ m. small) q (omega arith) c;
+    small = λ q c d.
+        below-more (λ (x : ℕ). first ≤ x → codeAt (suc last) letters x < 4 ^ kLimit) at (λ x l m. is .small x m l) (λ m. small) q (omega arith) c;
     in-hand = in-hand;
   }
     where

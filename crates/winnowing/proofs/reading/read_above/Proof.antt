@@ -96,8 +96,8 @@ returns c =
       most = at .inv .1;
       found = λ h. absurd (omega (arith, start .pre .1 .0 .0));
       none = λ h. (
-        λ l. end-here (start .args .letters .now) (start .args .reached .at) (at .at + start .args .last) (omega (arith, at .inv .0 .start)) (at .inv .0 .within)
-            (sym (c .before .value-at .ensures) ∙ c .if1 .taken),
+        λ l. end-here (start .args .letters .now) (start .args .reached .at) (at .at + start .args .last)
+            (omega (arith, at .inv .0 .start)) (at .inv .0 .within) (sym (c .before .value-at .ensures) ∙ c .if1 .taken),
         at .inv .3,
       );
     }
@@ -180,8 +180,8 @@ one-more c first is =
     let kmer = read (c .before) in
     rw (slot-there c)
     (scanned-next (args .last) (args .base) (args .letters .now) (turn .loop .ranks) first (turn .loop .at) (turn .loop .code) (c .before .rank .result)
-    (c .before .before .next-code .result) is (there .0) (omega (arith, else1-rank (c .before) .before .before .loop-test .taken)) (ranked (c .before)) (kmer .1)
-    (kmer .2))
+    (c .before .before .next-code .result) is (there .0) (omega (arith, else1-rank (c .before) .before .before .loop-test .taken)) (ranked (c .before))
+    (kmer .1) (kmer .2))
 
 returns-2 : tie.Need-returns-2 Inv-loop μ-loop
 returns-2 c =

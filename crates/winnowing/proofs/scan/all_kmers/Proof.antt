@@ -216,7 +216,8 @@ returns c =
     let end : at .loop .s .at + last ≡ runEnd letters from = is .2 .ended (c .before .if1 .left) ∙ same in
     let none : toPick last 1 letters from (at .loop .s .at) (at .loop .s .at) ≡ [] =
     picked-none (suc last) letters 1 (runEnd letters from - last) (le-refl 1) (at .loop .s .at) (at .loop .s .at) (omega arith) in
-    let put = put-on last 1 (args .measures .room) letters from (first .result .at) (first .result .at) (first .result .at) (at .loop .s .at) (at .loop .s .at) same
+    let put = put-on last 1 (args .measures .room) letters from (first .result .at) (first .result .at) (first .result .at) (at .loop .s .at)
+    (at .loop .s .at) same
     (first .result .entries) (at .loop .s .entries) (args .reached .entries) (first .last .1 .1 .1 .1 .1 .0) (first .last .1 .1 .1 .1 .1 .1 .0)
     (at .loop .codes) (at .loop .positions) (args .codes .now) (args .positions .now) (toPick last 1 letters from from from) (is .7) (first .ensures .3) in
     record { block = is .0; begins = is .1; ended = end; counted = omega (arith, is .3 .counted); put = λ es. rw none at (put es) }
