@@ -74,20 +74,24 @@ impl Scan<'_> {
     }
 }
 
+/// The next index whose letter is one of the eight, from this one on, or the end of the letters.
+fn next_run(letters: &[u8], from: usize) -> usize {
+    let mut at = from;
+    while at < letters.len() && value(letters[at]) == FOREIGN {
+        at += 1;
+    }
+    at
+}
+
 /// Passes all runs; returns the number of entries. Those that fit into the buffers are written.
 fn winnow(letters: &[u8], k: u32, w: u32, codes: &mut [u32], positions: &mut [u32]) -> usize {
     let of = Measures { last: k as usize - 1, w: w as usize };
     let mut scan = Scan { letters, of, values: NO_VALUES, ranks: NO_RANKS, base: 0 };
     let mut entries = Entries { codes, positions, number: 0 };
     read_block(letters, &mut scan.values, 0);
-    let mut at = 0;
+    let mut at = next_run(letters, 0);
     while at < letters.len() {
-        // a letter outside the eight ends a run of no letters
-        if value(letters[at]) == FOREIGN {
-            at += 1;
-            continue;
-        }
-        at = scan.run(at, &mut entries) + 1;
+        at = next_run(letters, scan.run(at, &mut entries) + 1);
     }
     entries.number
 }

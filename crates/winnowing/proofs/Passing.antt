@@ -9,17 +9,19 @@ use mathlib.Core.List.{List, [], _∷_, _++_}
 use lib.Dec.{ltb}
 use lib.ListN.{length, getD}
 use borrow.Author.Tests.{ltb-true, ltb-false}
+use Rattle.kmers.specs.Letters.{value, foreign}
 use Rattle.kmers.specs.Kmers.{Entry}
 use Rattle.kmers.specs.Places.{codeAt, rankAt, runEnd}
 use Rattle.kmers.specs.Ranks.{unrank}
 use Rattle.kmers.proofs.Ranks.{unrank-rank}
 use Rattle.minimizers.specs.Places.{spanSketch, sketchFrom, IsLowest, pickedFrom}
-use Rattle.minimizers.proofs.Runs.{sketchFrom-run}
+use Rattle.minimizers.proofs.Runs.{runEnd-within, sketchFrom-run}
 use Rattle.minimizers.proofs.Picks.{lowest-new, lowest-kept, lowest-moved, picked-new, picked-old, picked-none}
 use Rattle.minimizers.proofs.Picks.{spanSketch-none, spanSketch-short, spanSketch-long}
 use Rattle.winnowing.specs.Winnowed.{written}
 use Rattle.winnowing.specs.Blocks.{backSize, slotOf}
 use Rattle.winnowing.specs.Scan.{Scanned, IsPut, SameEnd, toPick}
+use Rattle.winnowing.proofs.Steps.{end-here}
 
 -- what is put stood first among what was to come
 put-first : (room n code position n′ : ℕ) (cs ps cs′ ps′ : List ℕ) → IsPut room n code position n′ cs ps cs′ ps′
@@ -219,3 +221,14 @@ run-passed k w room at e n n′ letters cs ps cs′ ps′ some h ended put =
     let all : spanSketch (suc (k - 1)) w letters at (runEnd letters at - (k - 1)) ++ rest ≡ sketchFrom k w letters at =
     rw (whole, to) (sym (sketchFrom-run k w at letters some h)) in
     first ∙ ap (written room n cs ps) all
+
+-- a letter outside the eight ends a run of no letters
+pub foreign-passed : (k w at : ℕ) (letters : List ℕ) → 1 ≤ k → 1 ≤ w → at < length letters → value (getD letters at 0) ≡ foreign
+    → sketchFrom k w letters (at + 1) ≡ sketchFrom k w letters at
+foreign-passed k w at letters some wide h stop =
+    let within : at ≤ length letters = omega arith in
+    let ended : at ≡ runEnd letters at = end-here letters at at (le-refl at) (runEnd-within letters at within .0) stop in
+    let behind : at + 1 ≡ suc (runEnd letters at) = omega arith in
+    let none : spanSketch k w letters at (suc (runEnd letters at) - k) ≡ [] =
+    spanSketch-none k letters w (suc (runEnd letters at) - k) wide at (omega arith) in
+    sym (sketchFrom-run k w at letters some within ∙ rw (none, behind))

@@ -1,11 +1,11 @@
 // The runs of the letters, one after the other, each block by block.
-ghost use Prim.Native.Nat.{suc, _+_, _-_, _≤_, _<_};
+ghost use Prim.Native.Nat.{ℕ, suc, _+_, _-_, _≤_, _<_};
 ghost use mathlib.Core.Path.{_≡_};
 ghost use lib.ListN.{length};
 ghost use Rattle.base.specs.Limits.{kLimit, wLimit, letterLimit};
 ghost use Rattle.kmers.specs.Places.{runEnd};
 ghost use Rattle.minimizers.specs.Sketch.{sketch};
-ghost use Rattle.minimizers.specs.Places.{spanSketch};
+ghost use Rattle.minimizers.specs.Places.{spanSketch, sketchFrom};
 ghost use Rattle.winnowing.specs.Winnowed.{wrote, written};
 ghost use Rattle.winnowing.specs.Blocks.{ranksSize, IsBlock};
 ghost use Rattle.winnowing.specs.Scan.{Ready, InBlock, InHand, Scanned, HasRoom, toPick, Standing, Picking, Passes};
@@ -236,6 +236,24 @@ pub(crate) fn run(
     )
 }
 
+// The next position whose letter is one of the eight, from this one on, or the end of the letters. What it passes are runs of no
+// letters, in a loop of its own since a text may have many.
+pub(crate) fn next_run(letters: &[u8], from: usize) -> usize
+    requires { ⌜ (from ≤ suc (length (now letters))) × (length (now letters) ≤ letterLimit) ⌝ }
+    ensures { λ r.
+        ⌜ (from ≤ r) × (r ≤ suc (length (now (letters .entry))))
+        × ((k w : ℕ) → 1 ≤ k → 1 ≤ w → sketchFrom k w (now (letters .entry)) r ≡ sketchFrom k w (now (letters .entry)) from) ⌝ }
+{
+    let mut at = from;
+    while at < letters.len() {
+        if value(letters[at]) != FOREIGN {
+            return at;
+        }
+        at += 1;
+    }
+    at
+}
+
 // Passes all runs, and answers how many entries their sketches have. As many as there is room for are written.
 pub(crate) fn scan(
     letters: &[u8],
@@ -259,15 +277,10 @@ pub(crate) fn scan(
         room,
     };
     read_block(letters, &mut values, 0);
-    let mut at: usize = 0;
+    let mut at = next_run(letters, 0);
     let mut base: usize = 0;
     let mut n: usize = 0;
     while at < letters.len() {
-        // A letter outside the eight ends a run of no letters.
-        if value(letters[at]) == FOREIGN {
-            at += 1;
-            continue;
-        }
         let place = Place {
             at,
             base,
@@ -282,7 +295,7 @@ pub(crate) fn scan(
             codes,
             positions,
         );
-        at = end.at + 1;
+        at = next_run(letters, end.at + 1);
         base = end.base;
         n = end.entries;
     }
