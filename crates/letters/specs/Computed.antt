@@ -1,6 +1,6 @@
 -- The value of one of the eight letters by arithmetic, as 5/13 of document 02 has it.
 use Prim.Native.Nat.{ℕ, suc, _-_, _/_, _%_}
-use mathlib.Core.Bool.{Bool, cond, _||_}
+use mathlib.Core.Bool.{cond, _||_}
 use mathlib.Core.List.{List, [], _∷_}
 use lib.Dec.{eqb}
 

@@ -94,9 +94,6 @@ module _ (last w room to : ℕ) (letters : List ℕ) (some : 1 ≤ w) (i b p : �
 -- ---- windows with the same lowest
 
 module _ (last w room : ℕ) (letters : List ℕ) (from : ℕ) (some : 1 ≤ w) (low-at low : ℕ) (is-rank : low ≡ rankAt (suc last) letters low-at) where
-  abbrev ranks : ℕ → ℕ
-  ranks = rankAt (suc last) letters
-
   -- one window more
   kept-one : (p : ℕ) → w ≤ p → IsLowest (rankAt (suc last) letters) (p - w) p low-at → p < low-at + w → p + last < runEnd letters from
       → low < rankAt (suc last) letters p

@@ -51,7 +51,7 @@ module _ (letters : List ℕ) (from at : ℕ) (start : from ≤ at) (within : at
   end-here h = le-antisymm within (end-before letters from at start (eq-eqb (value (getD letters at 0)) foreign h))
 
   -- it goes on at a letter of the eight
-  pub end-later : (value (getD letters at 0) ≡ foreign → ⊥) → at < runEnd letters from
+  end-later : (value (getD letters at 0) ≡ foreign → ⊥) → at < runEnd letters from
   unfolding isForeign
   end-later h = go (ltb at (runEnd letters from)) refl
     where
@@ -69,10 +69,14 @@ module _ (letters : List ℕ) (from at : ℕ) (start : from ≤ at) (within : at
       (end-before letters at (runEnd letters from) within (runEnd-stop letters from))
       (end-before letters from (runEnd letters at) (omega arith) (runEnd-stop letters at))
 
-  -- its value is then a digit
-  pub digit-below : (value (getD letters at 0) ≡ foreign → ⊥) → value (getD letters at 0) < 4
+  -- whose value is a digit
+  digit-below : (value (getD letters at 0) ≡ foreign → ⊥) → value (getD letters at 0) < 4
   unfolding isForeign
   digit-below h = value-below (getD letters at 0) (ne-eqb (value (getD letters at 0)) foreign h)
+
+  -- so it does where a value, as it is read, is not that of a letter outside the eight
+  pub run-goes-on : (v : ℕ) → v ≡ value (getD letters at 0) → (v ≡ foreign → ⊥) → (at < runEnd letters from) × (v < 4)
+  run-goes-on v e h = (end-later (λ f. h (e ∙ f)), subst (λ (x : ℕ). x < 4) (sym e) (digit-below (λ f. h (e ∙ f))))
 
 -- ---- the code in hand
 

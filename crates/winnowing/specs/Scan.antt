@@ -20,7 +20,7 @@ pub record Ready (letters values : List ℕ) (base from last : ℕ) : Type 0 whe
   pub few : length letters ≤ letterLimit
   pub short : last < kLimit
 
--- the letters up to this position, which are at most all, are of the block
+-- the positions from `from` up to `to` are of the block that begins at `base`
 pub record InBlock (base from to : ℕ) : Type 0 where
   pub begins : base ≤ from
   pub ends : to ≤ base + blockSize

@@ -1,6 +1,5 @@
 // Reads the letters of a run: those in front of its first k-mer's last one, and its k-mers with their ranks.
-ghost use Prim.Native.Nat.{suc, _+_, _≤_, _<_};
-ghost use mathlib.Core.Path.{_≡_};
+ghost use Prim.Native.Nat.{_+_, _≤_, _<_};
 ghost use Rattle.base.specs.Limits.{wLimit};
 ghost use Rattle.kmers.specs.Places.{runEnd};
 ghost use Rattle.winnowing.specs.Scan.{Ready, InBlock, Begun, Scanned, Filled, ReadAbove};

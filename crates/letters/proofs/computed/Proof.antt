@@ -1,7 +1,7 @@
 -- `computed` meets its contract: below 2 nothing is flipped, and 2 and 3 are.
 use Prim.Native.Nat.{ℕ, _/_, _%_, _≤_, _<_}
 use native.Mathlib.Omega.{arith}
-use mathlib.Core.Path.{_≡_, sym}
+use mathlib.Core.Path.{_≡_}
 use mathlib.Core.Logic.{⊎-elim}
 use lib.Bits.{bitXor}
 use borrow.Author.Tests.{ne-eqb}

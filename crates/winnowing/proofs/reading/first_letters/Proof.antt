@@ -4,13 +4,11 @@ use Prim.Native.Nat.{ℕ, _+_, _-_, _^_, _≤_, _<_}
 use native.Mathlib.Nat.{le-refl}
 use native.Mathlib.Omega.{arith}
 use mathlib.Core.Path.{_≡_, sym, ap, _∙_, subst}
-use lib.ListN.{getD}
 use Rattle.base.specs.Limits.{kLimit}
-use Rattle.kmers.specs.Letters.{value, foreign}
 use Rattle.kmers.specs.Kmers.{codeOf}
 use Rattle.kmers.specs.Places.{codeAt, runEnd}
 use Rattle.minimizers.proofs.Runs.{runEnd-within}
-use Rattle.winnowing.proofs.Steps.{end-here, end-later, digit-below, code-small, code-longer}
+use Rattle.winnowing.proofs.Steps.{end-here, run-goes-on, code-small, code-longer}
 use Rattle.winnowing.proofs.reading.first_letters.Statement.{statement}
 use Rattle.winnowing.proofs.reading.first_letters.Tie as tie
 
@@ -73,9 +71,9 @@ goes-on c =
     let letters = start .args .letters .now in
     let from = start .args .from in
     let at = c .before .before .before .loop in
-    let digit : value (getD letters (at .at) 0) ≡ foreign → ⊥ = λ h. c .if1 .left (c .before .value-at .ensures ∙ h) in (
-      end-later letters from (at .at) (at .inv .0) (at .inv .2) digit,
-      subst (λ (x : ℕ). x < 4) (sym (c .before .value-at .ensures)) (digit-below letters from (at .at) (at .inv .0) (at .inv .2) digit),
+    let on = run-goes-on letters from (at .at) (at .inv .0) (at .inv .2) (c .before .value-at .result) (c .before .value-at .ensures) (c .if1 .left) in (
+      on .0,
+      on .1,
       subst (λ (x : ℕ). x < 4 ^ kLimit) (sym (at .inv .3))
           (code-small letters from (start .pre .0 .in-letters) from (at .at - from) (le-refl from) (omega arith) (omega arith)),
     )

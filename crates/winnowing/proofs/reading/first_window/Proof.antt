@@ -3,15 +3,14 @@ use borrow.Author.Needs.{needs}
 use Prim.Native.Nat.{ℕ, suc, _+_, _-_, _^_, _≤_, _<_}
 use native.Mathlib.Nat.{le-refl}
 use native.Mathlib.Omega.{arith}
-use mathlib.Core.Path.{_≡_, refl, sym, _∙_, subst}
-use lib.ListN.{length, getD, length-set}
+use mathlib.Core.Path.{_≡_, refl, sym, _∙_}
+use lib.ListN.{length, length-set}
 use Rattle.base.specs.Limits.{kLimit, letterLimit}
-use Rattle.kmers.specs.Letters.{value, foreign}
 use Rattle.kmers.specs.Places.{codeAt, runEnd}
-use Rattle.winnowing.specs.Blocks.{blockSize, slotOf}
+use Rattle.winnowing.specs.Blocks.{blockSize}
 use Rattle.winnowing.specs.Scan.{InHand, Scanned}
 use Rattle.minimizers.proofs.Runs.{runEnd-within}
-use Rattle.winnowing.proofs.Steps.{end-here, end-later, digit-below, pushed, rank-there, scanned-next}
+use Rattle.winnowing.proofs.Steps.{end-here, run-goes-on, pushed, rank-there, scanned-next}
 use Rattle.winnowing.proofs.reading.first_window.Statement.{statement}
 use Rattle.winnowing.proofs.reading.first_window.Tie as tie
 
@@ -110,14 +109,9 @@ goes-on : (c : tie.Else1 Inv-loop μ-loop)
     × (c .before .value-at .result < 4)
 goes-on c =
     let turn = turn-else1 c in
-    let letters = entry turn .args .letters .now in
-    let from = entry turn .args .begun .at in
-    let at = turn .loop .at + entry turn .args .last in
-    let later : from ≤ at = omega (arith, turn .loop .inv .0 .0) in
-    let digit : value (getD letters at 0) ≡ foreign → ⊥ = λ h. c .if1 .left (c .before .value-at .ensures ∙ h) in (
-      end-later letters from at later (turn .loop .inv .0 .2) digit,
-      subst (λ (x : ℕ). x < 4) (sym (c .before .value-at .ensures)) (digit-below letters from at later (turn .loop .inv .0 .2) digit),
-    )
+    let args = entry turn .args in
+    run-goes-on (args .letters .now) (args .begun .at) (turn .loop .at + args .last) (omega (arith, turn .loop .inv .0 .0)) (turn .loop .inv .0 .2) (c .before .value-at .result)
+    (c .before .value-at .ensures) (c .if1 .left)
 
 next-code-requires : tie.Need-next-code-requires Inv-loop μ-loop
 next-code-requires c κs = (entry (turn-else1 c) .pre .0 .0 .short, turn-else1 c .loop .inv .2 .in-hand .code-below, goes-on c .1)

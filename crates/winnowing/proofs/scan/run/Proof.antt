@@ -1,6 +1,6 @@
 -- `scan::run` meets its contract: a run is shorter than a k-mer, or its k-mers are passed, or its windows.
 use borrow.Author.Needs.{needs}
-use Prim.Native.Nat.{ℕ, suc, _+_, _-_, _^_, _≤_, _<_}
+use Prim.Native.Nat.{ℕ, _+_, _-_, _^_, _≤_, _<_}
 use native.Mathlib.Nat.{le-refl, le-of-lt, lt-of-lt-of-le, mod-eq-of-lt, pow-le-pow-right}
 use native.Mathlib.Omega.{arith}
 use mathlib.Core.Path.{_≡_, sym, ap, _∙_, subst}
@@ -10,7 +10,7 @@ use Rattle.base.specs.Limits.{letterLimit}
 use Rattle.kmers.specs.Places.{codeAt, runEnd}
 use Rattle.kmers.proofs.Codes.{codeAt-below}
 use Rattle.minimizers.proofs.Runs.{runEnd-within, run-letters}
-use Rattle.winnowing.specs.Blocks.{blockSize, IsBlock}
+use Rattle.winnowing.specs.Blocks.{blockSize}
 use Rattle.winnowing.specs.Scan.{InHand, Standing}
 use Rattle.winnowing.proofs.Passing.{run-none, run-ones}
 use Rattle.winnowing.proofs.scan.run.Statement.{statement}

@@ -4,18 +4,17 @@ use Prim.Native.Nat.{ℕ, suc, _+_, _-_, _≤_, _<_}
 use native.Mathlib.Nat.{le-refl}
 use native.Mathlib.Numerals.{add-one}
 use native.Mathlib.Omega.{arith}
-use mathlib.Core.Path.{_≡_, refl, sym, _∙_, subst}
+use mathlib.Core.Path.{_≡_, refl, sym, _∙_}
 use mathlib.Core.List.{List}
-use lib.ListN.{length, getD}
+use lib.ListN.{length}
 use Rattle.base.specs.Limits.{letterLimit}
-use Rattle.kmers.specs.Letters.{value, foreign}
 use Rattle.kmers.specs.Kmers.{Entry}
 use Rattle.kmers.specs.Places.{codeAt, rankAt, runEnd}
 use Rattle.minimizers.proofs.Picks.{lowest-one}
 use Rattle.minimizers.proofs.Runs.{runEnd-within}
 use Rattle.winnowing.specs.Blocks.{blockSize}
 use Rattle.winnowing.specs.Scan.{InHand, IsPut, SameEnd, toPick, Standing}
-use Rattle.winnowing.proofs.Steps.{end-here, end-later, digit-below, pushed}
+use Rattle.winnowing.proofs.Steps.{end-here, run-goes-on, pushed}
 use Rattle.winnowing.proofs.Passing.{window-new}
 use Rattle.winnowing.proofs.windows.pass_kmers.Statement.{statement}
 use Rattle.winnowing.proofs.windows.pass_kmers.Tie as tie
@@ -118,14 +117,8 @@ goes-on : (c : tie.Else1 Inv-loop μ-loop)
 goes-on c =
     let at = turn-else1 c in
     let args = entry-turn at .args in
-    let letters = args .letters .now in
-    let from = args .reached .at in
-    let q : ℕ = at .loop .p + args .measures .last in
-    let start : from ≤ q = omega (arith, at .loop .inv .1 .start) in
-    let digit : value (getD letters q 0) ≡ foreign → ⊥ = λ h. c .if1 .left (c .before .value-at .ensures ∙ h) in (
-      end-later letters from q start (at .loop .inv .1 .within) digit,
-      subst (λ (x : ℕ). x < 4) (sym (c .before .value-at .ensures)) (digit-below letters from q start (at .loop .inv .1 .within) digit),
-    )
+    run-goes-on (args .letters .now) (args .reached .at) (at .loop .p + args .measures .last) (omega (arith, at .loop .inv .1 .start))
+    (at .loop .inv .1 .within) (c .before .value-at .result) (c .before .value-at .ensures) (c .if1 .left)
 
 next-code-requires : tie.Need-next-code-requires Inv-loop μ-loop
 next-code-requires c κs = (entry-turn (turn-else1 c) .pre .0 .short, turn-else1 c .loop .inv .2 .code-below, goes-on c .1)

@@ -1,6 +1,5 @@
 -- `windows::pass_windows` meets its contract. The loop's invariant: the window at hand has its lowest put, and what is put and what is still
 -- to pick make up what there was to pick at first.
-use borrow.Author.Needs.{needs}
 use Prim.Native.Nat.{ℕ, suc, _+_, _-_, _≤_, _<_}
 use native.Mathlib.Nat.{le-refl}
 use native.Mathlib.Omega.{arith}
