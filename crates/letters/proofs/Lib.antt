@@ -1,2 +1,3 @@
--- The law of the value by arithmetic.
+-- The law of the value by arithmetic, and examples of it.
 pub mod Law
+pub mod Cases

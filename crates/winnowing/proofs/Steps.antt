@@ -61,6 +61,15 @@ module _ (letters : List ℕ) (from at : ℕ) (start : from ≤ at) (within : at
           let same : runEnd letters from ≡ at = omega (arith, ltb-false at (runEnd letters from) e) in
           clash (subst (λ (x : ℕ). isForeign (getD letters x 0) ≡ true) same (runEnd-stop letters from)) (ne-eqb (value (getD letters at 0)) foreign h)
 
+  -- whose value is a digit
+  digit-below : (value (getD letters at 0) ≡ foreign → ⊥) → value (getD letters at 0) < 4
+  unfolding isForeign
+  digit-below h = value-below (getD letters at 0) (ne-eqb (value (getD letters at 0)) foreign h)
+
+  -- both for a value as it is read
+  pub run-goes-on : (v : ℕ) → v ≡ value (getD letters at 0) → (v ≡ foreign → ⊥) → (at < runEnd letters from) × (v < 4)
+  run-goes-on v e h = (end-later (λ f. h (e ∙ f)), subst (λ (x : ℕ). x < 4) (sym e) (digit-below (λ f. h (e ∙ f))))
+
   -- the run is the same from any letter of it on
   pub runEnd-same : runEnd letters at ≡ runEnd letters from
   unfolding runEnd
@@ -68,15 +77,6 @@ module _ (letters : List ℕ) (from at : ℕ) (start : from ≤ at) (within : at
       le-antisymm
       (end-before letters at (runEnd letters from) within (runEnd-stop letters from))
       (end-before letters from (runEnd letters at) (omega arith) (runEnd-stop letters at))
-
-  -- whose value is a digit
-  digit-below : (value (getD letters at 0) ≡ foreign → ⊥) → value (getD letters at 0) < 4
-  unfolding isForeign
-  digit-below h = value-below (getD letters at 0) (ne-eqb (value (getD letters at 0)) foreign h)
-
-  -- so it does where a value, as it is read, is not that of a letter outside the eight
-  pub run-goes-on : (v : ℕ) → v ≡ value (getD letters at 0) → (v ≡ foreign → ⊥) → (at < runEnd letters from) × (v < 4)
-  run-goes-on v e h = (end-later (λ f. h (e ∙ f)), subst (λ (x : ℕ). x < 4) (sym e) (digit-below (λ f. h (e ∙ f))))
 
 -- ---- the code in hand
 

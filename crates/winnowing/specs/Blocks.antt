@@ -23,9 +23,9 @@ pub record IsBlock (letters values : List ℕ) (base : ℕ) : Type 0 where
   pub sized : length values ≡ blockSize
   pub known : (at : ℕ) → base ≤ at → at < base + blockSize → at ≤ length letters → getD values (at - base) 0 ≡ value (getD letters at 0)
 
--- where the rank of the k-mer of last + 1 letters at position q stands
+-- where the rank of the k-mer of last + 1 letters at this position stands
 abbrev pub slotOf : ℕ → ℕ → ℕ → ℕ
-slotOf last base q = q + last + backSize - base
+slotOf last base position = position + last + backSize - base
 
 -- the last ranks of a block have been taken to the front
 pub record IsCarried (ranks ranks′ : List ℕ) : Type 0 where

@@ -43,8 +43,8 @@ pub record InHand (last : ℕ) (letters : List ℕ) (at code : ℕ) : Type 0 whe
 pub record Scanned (last base : ℕ) (letters ranks : List ℕ) (first at code : ℕ) : Type 0 where
   pub sized : length ranks ≡ ranksSize
   pub reaches : base ≤ first + last + backSize
-  pub ranked : (q : ℕ) → first ≤ q → q < at → getD ranks (slotOf last base q) 0 ≡ rankAt (suc last) letters q
-  pub small : (q : ℕ) → first ≤ q → q < at → codeAt (suc last) letters q < 4 ^ kLimit
+  pub ranked : (x : ℕ) → first ≤ x → x < at → getD ranks (slotOf last base x) 0 ≡ rankAt (suc last) letters x
+  pub small : (x : ℕ) → first ≤ x → x < at → codeAt (suc last) letters x < 4 ^ kLimit
   pub in-hand : InHand last letters at code
 
 -- the k-mers of a run's first window are read, or all of the run where they are fewer
@@ -55,26 +55,26 @@ pub record Filled (last base w : ℕ) (letters ranks : List ℕ) (from at code :
   pub ended : at < from + w → at + last ≡ runEnd letters from
   pub scanned : Scanned last base letters ranks from at code
 
--- the k-mers from position p up to position `at` are of one run, and have ranks above low
-pub record Above (last : ℕ) (letters : List ℕ) (low p at : ℕ) : Type 0 where
-  pub start : p ≤ at
-  pub within : at + last ≤ runEnd letters p
-  pub above : (q : ℕ) → p ≤ q → q < at → low < rankAt (suc last) letters q
+-- the k-mers from position `from` up to position `at` are of one run, and have ranks above low
+pub record Above (last : ℕ) (letters : List ℕ) (low from at : ℕ) : Type 0 where
+  pub start : from ≤ at
+  pub within : at + last ≤ runEnd letters from
+  pub above : (x : ℕ) → from ≤ x → x < at → low < rankAt (suc last) letters x
 
--- whatever ranks stood in their slots when the code in hand was that at position p, all up to position `at` now do
+-- whatever ranks stood in their slots when the code in hand was that at position `from`, all up to position `at` now do
 abbrev pub ReadOn : ℕ → ℕ → List ℕ → List ℕ → ℕ → ℕ → List ℕ → ℕ → ℕ → Type 0
-ReadOn last base letters ranks p code ranks′ at code′ =
-    (first : ℕ) → Scanned last base letters ranks first p code → Scanned last base letters ranks′ first at code′
+ReadOn last base letters ranks from code ranks′ at code′ =
+    (first : ℕ) → Scanned last base letters ranks first from code → Scanned last base letters ranks′ first at code′
 
--- k-mers are read from position p on, up to the one at position `at`, the first whose rank is not above low, or where there is none
+-- k-mers are read from position `from` on, up to the one at position `at`, the first whose rank is not above low, or where there is none
 -- up to position `stop` or the end of the run
-pub record ReadAbove (last base : ℕ) (letters ranks ranks′ : List ℕ) (low p code stop at code′ rank : ℕ) : Type 0 where
-  pub passed : Above last letters low p at
+pub record ReadAbove (last base : ℕ) (letters ranks ranks′ : List ℕ) (low from code stop at code′ rank : ℕ) : Type 0 where
+  pub passed : Above last letters low from at
   pub most : at ≤ stop
   pub found : rank ≤ low
-      → (at < stop) × (at + last < runEnd letters p) × (rank ≡ rankAt (suc last) letters at) × (code′ ≡ codeAt (suc last) letters at)
-      × ReadOn last base letters ranks p code ranks′ (at + 1) code′
-  pub none : low < rank → (at < stop → at + last ≡ runEnd letters p) × ReadOn last base letters ranks p code ranks′ at code′
+      → (at < stop) × (at + last < runEnd letters from) × (rank ≡ rankAt (suc last) letters at) × (code′ ≡ codeAt (suc last) letters at)
+      × ReadOn last base letters ranks from code ranks′ (at + 1) code′
+  pub none : low < rank → (at < stop → at + last ≡ runEnd letters from) × ReadOn last base letters ranks from code ranks′ at code′
 
 -- ---- buffers
 
@@ -89,11 +89,11 @@ pub record IsPut (room n code position n′ : ℕ) (cs ps cs′ ps′ : List ℕ
   pub codes-after : cs′ ≡ placed room n code cs
   pub positions-after : ps′ ≡ placed room n position ps
 
--- the lowest of the slots from `from` to `to` is put: `to` is the slot of position p, and `at` the position of the lowest
-pub record PutsLowest (room : ℕ) (ranks : List ℕ) (from to p n at rank n′ : ℕ) (cs ps cs′ ps′ : List ℕ) : Type 0 where
-  pub near : p ≤ to + at
-  pub lowest : IsLowest (λ (i : ℕ). getD ranks i 0) from to (to - (p - at))
-  pub rank-there : rank ≡ getD ranks (to - (p - at)) 0
+-- the lowest of the slots from `from` to `to` is put: `to` is the slot of position `behind`, and `at` the position of the lowest
+pub record PutsLowest (room : ℕ) (ranks : List ℕ) (from to behind n at rank n′ : ℕ) (cs ps cs′ ps′ : List ℕ) : Type 0 where
+  pub near : behind ≤ to + at
+  pub lowest : IsLowest (λ (i : ℕ). getD ranks i 0) from to (to - (behind - at))
+  pub rank-there : rank ≡ getD ranks (to - (behind - at)) 0
   pub put : IsPut room n (unrank rank) at n′ cs ps cs′ ps′
 
 -- n entries in the buffers cs and ps, with those of `left` still to come, are as far as n₀ entries in cs₀ and ps₀ with those of
@@ -107,17 +107,17 @@ SameEnd room n cs ps left n₀ cs₀ ps₀ all = (es : List Entry) → written r
 abbrev pub toPick : ℕ → ℕ → List ℕ → ℕ → ℕ → ℕ → List Entry
 toPick last w letters from i m = pickedFrom (suc last) w letters (runEnd letters from - last) i m
 
--- the scan has come to position p of the run that holds position `from`, with n entries put
-pub record Standing (last room : ℕ) (letters : List ℕ) (from : ℕ) (cs ps : List ℕ) (p n : ℕ) : Type 0 where
-  pub start : from ≤ p
-  pub within : p + last ≤ runEnd letters from
-  pub counted : n ≤ p
+-- the scan has come to position `at` of the run that holds position `from`, with n entries put
+pub record Standing (last room : ℕ) (letters : List ℕ) (from : ℕ) (cs ps : List ℕ) (at n : ℕ) : Type 0 where
+  pub start : from ≤ at
+  pub within : at + last ≤ runEnd letters from
+  pub counted : n ≤ at
   pub has-room : HasRoom room cs ps
 
--- the window that ends before position p has its lowest at low-at, which is put, and the ranks behind it stand in their slots
-pub record Picking (last base w : ℕ) (letters ranks : List ℕ) (p code low-at low : ℕ) : Type 0 where
-  pub scanned : Scanned last base letters ranks (suc low-at) p code
-  pub is-lowest : IsLowest (rankAt (suc last) letters) (p - w) p low-at
+-- the window that ends before position `at` has its lowest at low-at, with this rank, and the ranks behind that one stand in their slots
+pub record Picking (last base w : ℕ) (letters ranks : List ℕ) (at code low-at low : ℕ) : Type 0 where
+  pub scanned : Scanned last base letters ranks (suc low-at) at code
+  pub is-lowest : IsLowest (rankAt (suc last) letters) (at - w) at low-at
   pub is-rank : low ≡ rankAt (suc last) letters low-at
 
 -- the k-mers up to the end of the block are passed, or up to the end of the run where that is in it

@@ -29,6 +29,7 @@ pub fn run() -> bool {
     per_mille::random(&mut tally);
     println!("\nCases at the limits");
     sketches::limits(&mut tally);
+    sketches::block_ends(&mut tally);
     strikes::limits(&mut tally);
     stores::limits(&mut tally);
     session_refusals::limits(&mut tally);

@@ -1,4 +1,4 @@
-//! Sketch and count: random letters with every k and w, and the limits of k, w, letters and buffers.
+//! Sketch and count: random letters with every k and w, the limits of k, w, letters and buffers, and the ends of blocks of letters.
 
 use super::tally::Tally;
 use crate::cases::letters;
@@ -7,6 +7,8 @@ use crate::random::Random;
 use crate::reference::sketch::{MAX_LETTERS, count};
 
 const CASES: u64 = 6_000;
+/// How many letters the proved scan reads at a time.
+const BLOCK: usize = 512;
 const ALPHABETS: [&[u8]; 6] = [b"ACGT", b"ACGTacgt", b"AC", b"AAAAAAAC", b"ACGTACGTACGTN", b"ACGTacgtNn\0\xff-"];
 
 /// Room for all entries, more, or one word short in either buffer.
@@ -47,6 +49,27 @@ fn compare_short_buffers(tally: &mut Tally, random: &mut Random, letters: &[u8],
     for rooms in [(n, n), (n - 1, n), (n, n - 1), (n - 1, n - 1), (0, n), (n, 0)] {
         compare(tally, random, letters, k, w, rooms);
     }
+}
+
+/// Sketches of letters with an N near an end of a block, which the proved scan reads 512 letters at a time: in front of it, in a first
+/// k-mer or a first window that the block's end cuts, and behind it; of runs that end there; and of all bytes.
+pub fn block_ends(tally: &mut Tally) {
+    let mut random = Random::new(220_000);
+    let text = letters(&mut random, 3 * BLOCK, b"ACGTacgt");
+    for (k, w) in [(1, 1), (1, 64), (4, 5), (15, 1), (15, 10), (15, 64)] {
+        for end in [BLOCK, 2 * BLOCK] {
+            for at in end - 80..end + 3 {
+                let mut cut = text.clone();
+                cut[at] = b'N';
+                compare(tally, &mut random, &cut, k, w, (cut.len(), cut.len()));
+                compare(tally, &mut random, &cut[at..], k, w, (cut.len(), cut.len()));
+                compare(tally, &mut random, &text[..at], k, w, (at, at));
+            }
+        }
+        let bytes: Vec<u8> = (0..=255).flat_map(|byte| [b'A', b'c', byte, b'G', b't']).collect();
+        compare(tally, &mut random, &bytes, k, w, (bytes.len(), bytes.len()));
+    }
+    tally.end_part("an N at each of 83 positions near the ends of two blocks, texts that end there, all bytes");
 }
 
 pub fn limits(tally: &mut Tally) {

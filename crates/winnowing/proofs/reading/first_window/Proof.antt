@@ -110,8 +110,8 @@ goes-on : (c : tie.Else1 Inv-loop μ-loop)
 goes-on c =
     let turn = turn-else1 c in
     let args = entry turn .args in
-    run-goes-on (args .letters .now) (args .begun .at) (turn .loop .at + args .last) (omega (arith, turn .loop .inv .0 .0)) (turn .loop .inv .0 .2) (c .before .value-at .result)
-    (c .before .value-at .ensures) (c .if1 .left)
+    run-goes-on (args .letters .now) (args .begun .at) (turn .loop .at + args .last) (omega (arith, turn .loop .inv .0 .0)) (turn .loop .inv .0 .2)
+    (c .before .value-at .result) (c .before .value-at .ensures) (c .if1 .left)
 
 next-code-requires : tie.Need-next-code-requires Inv-loop μ-loop
 next-code-requires c κs = (entry (turn-else1 c) .pre .0 .0 .short, turn-else1 c .loop .inv .2 .in-hand .code-below, goes-on c .1)
