@@ -1,19 +1,19 @@
--- Laws of striking: what is kept keeps its order and positions, and is kept exactly where its code occurs at most c times.
+-- Laws of striking, over the codes that decide: what is kept keeps its order and positions, and is kept exactly where its code occurs at
+-- most c times among them. So a code leaves the read exactly where it leaves the text.
 use Prim.Native.Nat.{ℕ, zero, suc, _+_, _≤_, _<_}
 use native.Mathlib.Omega.{arith}
 use mathlib.Core.Path.{_≡_, refl, ap, _∙_}
 use mathlib.Core.Bool.{Bool, true, false}
+use mathlib.Core.Logic.{_⊎_, inl, inr}
 use mathlib.Core.List.{List, [], _∷_, map, List·Memᴰ, Sublistᴰ, Sublistᴰ·slnil, Sublistᴰ·cons, Sublistᴰ·cons-cons}
 use lib.Dec.{eqb, leb}
 use lib.ListN.{length, getD}
-use borrow.Author.Tests.{leb-true, le-leb}
+use borrow.Author.Tests.{leb-true, leb-false, le-leb, lt-leb}
 use Rattle.base.specs.Lists.{bit, addIf, keep}
 use Rattle.base.specs.Counts.{occ}
 use Rattle.base.proofs.Lists.{clash, keep-mem, mem-keep, length-keep}
 use Rattle.base.proofs.Counts.{bit-other}
-use Rattle.base.specs.Limits.{textLimit}
 use Rattle.kmers.specs.Kmers.{Entry, codes, positions}
-use Rattle.kmers.proofs.Entries.{length-codes}
 use Rattle.strike.specs.Strike.{strike, struck}
 
 -- ---- order
@@ -31,14 +31,6 @@ module _ {A : Type 0} where
   map-sublist g Sublistᴰ·slnil = Sublistᴰ·slnil
   map-sublist g (Sublistᴰ·cons s) = Sublistᴰ·cons (map-sublist g s)
   map-sublist g (Sublistᴰ·cons-cons e s) = Sublistᴰ·cons-cons (ap g e) (map-sublist g s)
-
--- the struck entries are some of the entries, in their order
-struck-sublist : (c : ℕ) (es : List Entry) → Sublistᴰ (struck c es) es
-unfolding struck strike
-struck-sublist c es = keep-sublist (λ (e : Entry). leb (occ (e .code) (codes es)) c) es
-
-struck-positions-sublist : (c : ℕ) (es : List Entry) → Sublistᴰ (positions (struck c es)) (positions es)
-struck-positions-sublist c es = map-sublist (λ (e : Entry). e .position) (struck-sublist c es)
 
 -- what stands in a sublist stands in the list
 sublist-at : {l r : List ℕ} → Sublistᴰ l r → (i : ℕ) → i < length l → (j : ℕ) × (j < length r) × (getD l i 0 ≡ getD r j 0)
@@ -65,29 +57,8 @@ rising-sublist (Sublistᴰ·cons-cons {l₂ = r} e s) rise zero (suc j) h m =
 rising-sublist (Sublistᴰ·cons-cons e s) rise (suc i) zero h m = absurd (omega arith)
 rising-sublist (Sublistᴰ·cons-cons {b = b} {l₂ = r} e s) rise (suc i) (suc j) h m = rising-sublist s (rising-tail b r rise) i j (omega arith) (omega arith)
 
--- what is below a bound at each position still is
-pub struck-below : (n c : ℕ) (es : List Entry) → ((j : ℕ) → j < length (positions es) → getD (positions es) j 0 < n)
-    → (i : ℕ) → i < length (positions (struck c es)) → getD (positions (struck c es)) i 0 < n
-struck-below n c es below i h = let at = sublist-at (struck-positions-sublist c es) i h in rw (at .2) (below (at .0) (at .1))
+-- ---- codes
 
--- positions that rise strictly still do
-pub struck-rising : (c : ℕ) (es : List Entry) → StrictlyRising (positions es) → StrictlyRising (positions (struck c es))
-struck-rising c es rise = rising-sublist (struck-positions-sublist c es) rise
-
--- ---- what is kept
-
--- an entry is kept exactly where it was there and its code occurs at most c times
-pub struck-mem : (c : ℕ) (es : List Entry) {e : Entry} → List·Memᴰ e (struck c es) → List·Memᴰ e es × (occ (e .code) (codes es) ≤ c)
-unfolding struck strike
-struck-mem c es {e} m =
-    let k = keep-mem (λ (x : Entry). leb (occ (x .code) (codes es)) c) es m in
-    (k .0, leb-true (occ (e .code) (codes es)) c (k .1))
-
-pub mem-struck : (c : ℕ) (es : List Entry) {e : Entry} → List·Memᴰ e es → occ (e .code) (codes es) ≤ c → List·Memᴰ e (struck c es)
-unfolding struck strike
-mem-struck c es {e} m h = mem-keep (λ (x : Entry). leb (occ (x .code) (codes es)) c) m (le-leb (occ (e .code) (codes es)) c h)
-
--- the codes kept are the codes that occur at most c times
 codes-keep : (f : ℕ → Bool) (es : List Entry) → codes (keep (λ (e : Entry). f (e .code)) es) ≡ keep f (codes es)
 codes-keep f [] = refl
 codes-keep f (e ∷ es) = go (f (e .code)) ∙ ap (addIf (f (e .code)) (e .code)) (codes-keep f es)
@@ -95,10 +66,6 @@ codes-keep f (e ∷ es) = go (f (e .code)) ∙ ap (addIf (f (e .code)) (e .code)
     go : (b : Bool) → codes (addIf b e (keep (λ (x : Entry). f (x .code)) es)) ≡ addIf b (e .code) (codes (keep (λ (x : Entry). f (x .code)) es))
     go true = refl
     go false = refl
-
-struck-keeps : (c : ℕ) (es : List Entry) → codes (struck c es) ≡ keep (λ (x : ℕ). leb (occ x (codes es)) c) (codes es)
-unfolding struck strike
-struck-keeps c es = codes-keep (λ (x : ℕ). leb (occ x (codes es)) c) es
 
 occ-keep : (f : ℕ → Bool) (x : ℕ) (l : List ℕ) → f x ≡ true → occ x (keep f l) ≡ occ x l
 occ-keep f x [] h = refl
@@ -110,19 +77,93 @@ occ-keep f x (y ∷ ys) h = go (f y) refl (occ-keep f x ys h)
         let z : bit (eqb x y) ≡ 0 = bit-other x y (λ q. clash h (ap f q ∙ e)) in
         omega arith
 
--- a code that is kept occurs as often as before
-pub struck-occ : (c : ℕ) (es : List Entry) (x : ℕ) → occ x (codes es) ≤ c → occ x (codes (struck c es)) ≡ occ x (codes es)
-struck-occ c es x h = ap (occ x) (struck-keeps c es) ∙ occ-keep (λ (y : ℕ). leb (occ y (codes es)) c) x (codes es) (le-leb (occ x (codes es)) c h)
+none-kept : (f : ℕ → Bool) (x : ℕ) (l : List ℕ) → f x ≡ false → occ x (keep f l) ≡ 0
+none-kept f x [] h = refl
+none-kept f x (y ∷ ys) h = go (f y) refl (none-kept f x ys h)
+  where
+    go : (b : Bool) → f y ≡ b → occ x (keep f ys) ≡ 0 → occ x (addIf b y (keep f ys)) ≡ 0
+    go true e r =
+        let z : bit (eqb x y) ≡ 0 = bit-other x y (λ q. clash (ap f q ∙ e) h) in
+        omega arith
+    go false e r = r
 
--- ---- lengths
+-- ---- what a strike keeps, whichever codes decide
 
-struck-length : (c : ℕ) (es : List Entry) → length (struck c es) ≤ length es
-unfolding struck strike
-struck-length c es = length-keep (λ (e : Entry). leb (occ (e .code) (codes es)) c) es
+module _ (deciding : List ℕ) (c : ℕ) (es : List Entry) where
+  -- some of the entries, in their order
+  strike-sublist : Sublistᴰ (strike deciding c es) es
+  unfolding strike
+  strike-sublist = keep-sublist (λ (e : Entry). leb (occ (e .code) deciding) c) es
 
--- a text within the limit is within it when struck
-pub struck-within : (c : ℕ) (es : List Entry) → length es ≤ textLimit → length (codes (struck c es)) ≤ textLimit
-struck-within c es h =
-    let e : length (codes (struck c es)) ≡ length (struck c es) = length-codes (struck c es) in
-    let l : length (struck c es) ≤ length es = struck-length c es in
-    omega arith
+  strike-positions-sublist : Sublistᴰ (positions (strike deciding c es)) (positions es)
+  strike-positions-sublist = map-sublist (λ (e : Entry). e .position) strike-sublist
+
+  -- no more entries than before
+  pub strike-length : length (strike deciding c es) ≤ length es
+  unfolding strike
+  strike-length = length-keep (λ (e : Entry). leb (occ (e .code) deciding) c) es
+
+  -- positions that are below a bound still are
+  pub strike-below : (n : ℕ) → ((j : ℕ) → j < length (positions es) → getD (positions es) j 0 < n)
+      → (i : ℕ) → i < length (positions (strike deciding c es)) → getD (positions (strike deciding c es)) i 0 < n
+  strike-below n below i h = let at = sublist-at strike-positions-sublist i h in rw (at .2) (below (at .0) (at .1))
+
+  -- positions that rise strictly still do
+  pub strike-rising : StrictlyRising (positions es) → StrictlyRising (positions (strike deciding c es))
+  strike-rising rise = rising-sublist strike-positions-sublist rise
+
+  -- an entry is kept exactly where it was there and its code occurs at most c times among those that decide
+  pub strike-mem : {e : Entry} → List·Memᴰ e (strike deciding c es) → List·Memᴰ e es × (occ (e .code) deciding ≤ c)
+  unfolding strike
+  strike-mem {e} m =
+      let k = keep-mem (λ (x : Entry). leb (occ (x .code) deciding) c) es m in
+      (k .0, leb-true (occ (e .code) deciding) c (k .1))
+
+  pub mem-strike : {e : Entry} → List·Memᴰ e es → occ (e .code) deciding ≤ c → List·Memᴰ e (strike deciding c es)
+  unfolding strike
+  mem-strike {e} m h = mem-keep (λ (x : Entry). leb (occ (x .code) deciding) c) m (le-leb (occ (e .code) deciding) c h)
+
+  codes-kept : codes (strike deciding c es) ≡ keep (λ (x : ℕ). leb (occ x deciding) c) (codes es)
+  unfolding strike
+  codes-kept = codes-keep (λ (x : ℕ). leb (occ x deciding) c) es
+
+  -- a code that is kept occurs as often as before, and one that is struck no more
+  pub kept-occ : (x : ℕ) → occ x deciding ≤ c → occ x (codes (strike deciding c es)) ≡ occ x (codes es)
+  kept-occ x h = ap (occ x) codes-kept ∙ occ-keep (λ (y : ℕ). leb (occ y deciding) c) x (codes es) (le-leb (occ x deciding) c h)
+
+  pub struck-occ : (x : ℕ) → c < occ x deciding → occ x (codes (strike deciding c es)) ≡ 0
+  struck-occ x h = ap (occ x) codes-kept ∙ none-kept (λ (y : ℕ). leb (occ y deciding) c) x (codes es) (lt-leb (occ x deciding) c h)
+
+-- ---- the read beside the text
+
+module _ (c : ℕ) (text read : List Entry) (x : ℕ) where
+  decide : (occ x (codes text) ≤ c) ⊎ (c < occ x (codes text))
+  decide = go (leb (occ x (codes text)) c) refl
+    where
+      go : (b : Bool) → leb (occ x (codes text)) c ≡ b → (occ x (codes text) ≤ c) ⊎ (c < occ x (codes text))
+      go true e = inl (leb-true (occ x (codes text)) c e)
+      go false e = inr (leb-false (occ x (codes text)) c e)
+
+  -- a code stays in the read, as often, where the text does not strike it; a code that the text lacks is such a one
+  pub read-keeps : occ x (codes (struck c text)) ≡ occ x (codes text) → occ x (codes (strike (codes text) c read)) ≡ occ x (codes read)
+  unfolding struck
+  read-keeps same = go decide
+    where
+      go : (occ x (codes text) ≤ c) ⊎ (c < occ x (codes text)) → occ x (codes (strike (codes text) c read)) ≡ occ x (codes read)
+      go (inl h) = kept-occ (codes text) c read x h
+      go (inr h) =
+          let none : occ x (codes (strike (codes text) c text)) ≡ 0 = struck-occ (codes text) c text x h in
+          let all : occ x (codes (strike (codes text) c text)) ≡ occ x (codes text) = same in
+          absurd (omega arith)
+
+  -- and leaves it where the text strikes it
+  pub read-strikes : occ x (codes (struck c text)) < occ x (codes text) → occ x (codes (strike (codes text) c read)) ≡ 0
+  unfolding struck
+  read-strikes fewer = go decide
+    where
+      go : (occ x (codes text) ≤ c) ⊎ (c < occ x (codes text)) → occ x (codes (strike (codes text) c read)) ≡ 0
+      go (inl h) =
+          let all : occ x (codes (strike (codes text) c text)) ≡ occ x (codes text) = kept-occ (codes text) c text x h in
+          let less : occ x (codes (strike (codes text) c text)) < occ x (codes text) = fewer in
+          absurd (omega arith)
+      go (inr h) = struck-occ (codes text) c read x h

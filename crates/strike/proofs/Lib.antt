@@ -1,6 +1,7 @@
 -- Laws about striking, and examples that compute.
 pub mod Compute
 pub mod Marked
+pub mod Parts
 pub mod Laws
 pub mod Cases
 pub mod Replies

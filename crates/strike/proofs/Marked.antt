@@ -1,5 +1,5 @@
--- Laws of marked words: what the loops that count and copy them keep, and that the words marked as rare are those of the struck
--- entries.
+-- Laws of marked words: what the loops that count and copy them keep, and that the words marked as rare are those of the
+-- entries kept.
 use Prim.Native.Nat.{ℕ, zero, suc, _+_, _≤_, _<_, zero-le}
 use native.Mathlib.Nat.{le-refl}
 use native.Mathlib.Omega.{arith}
@@ -9,17 +9,16 @@ use mathlib.Core.Logic.{_⊎_, inl, inr, _≢_}
 use mathlib.Core.Bool.{Bool, true, false}
 use mathlib.Core.List.{List, [], _∷_, _++_, map, append-nil}
 use lib.Dec.{eqb, leb}
-use lib.ListN.{length, getD, set, take, drop, length-set, take-append-drop, drop-of-length-le}
-use lib.Seq.{drop-cons, take-suc-set, take-set-le, drop-set-lt, length-take-le}
+use lib.ListN.{length, getD, set, take, drop, length-set, length-map, take-append-drop, drop-of-length-le}
+use lib.Seq.{drop-cons, take-suc-set, take-set-le, drop-set-lt, length-take-le, take-append-seam, drop-append-seam, take-at, drop-at}
 use borrow.Author.Tests.{eq-eqb, ne-eqb, leb-true, leb-false}
-use Rattle.kmers.proofs.Entries.{codes-entries}
 use Rattle.base.specs.Lists.{bit, addIf, keep, sum}
 use Rattle.base.specs.Counts.{occ}
 use Rattle.base.specs.Replies.{over}
-use Rattle.sorting.specs.Marks.{marksOf}
+use Rattle.marking.specs.Marks.{marksOf}
 use Rattle.base.proofs.Lists.{eq-or-ne, bit-le-one}
 use Rattle.kmers.specs.Kmers.{Entry, codes, positions, entries}
-use Rattle.strike.specs.Strike.{strike, struck}
+use Rattle.strike.specs.Strike.{strike}
 use Rattle.strike.specs.Marked.{markedWords}
 
 -- ---- counting
@@ -57,6 +56,14 @@ marked-parts (suc i) (m ∷ marks) (w ∷ words) =
     add : (b : Bool) (l r : List ℕ) → addIf b w (l ++ r) ≡ addIf b w l ++ r
     add true l r = refl
     add false l r = refl
+
+pub marked-append : (marks others words rest : List ℕ) → length marks ≡ length words
+    → markedWords (marks ++ others) (words ++ rest) ≡ markedWords marks words ++ markedWords others rest
+marked-append marks others words rest h =
+    marked-parts (length marks) (marks ++ others) (words ++ rest)
+    ∙ ap₂ (λ (a b : List ℕ). a ++ b)
+    (ap₂ markedWords (take-append-seam marks others) (take-at words rest (length marks) (sym h)))
+    (ap₂ markedWords (drop-append-seam marks others) (drop-at words rest (length marks) (sym h)))
 
 -- where every mark left is 0, no word is left
 marked-none : (marks words : List ℕ) → sum marks ≡ 0 → markedWords marks words ≡ []
@@ -152,7 +159,7 @@ copied-all words marks n out₀ out i at c h room =
     let long : length (markedWords marks words) ≡ n = ap length all ∙ length-take-le n out (omega arith) in
     sym (take-append-drop n out) ∙ ap₂ (λ (a b : List ℕ). a ++ b) (sym all) (c .rest ∙ ap (λ (j : ℕ). drop j out₀) (sym long))
 
--- ---- the struck entries
+-- ---- the entries kept
 
 codes-addIf : (b : Bool) (e : Entry) (es : List Entry) → codes (addIf b e es) ≡ addIf (eqb (bit b) 1) (e .code) (codes es)
 codes-addIf true e es = refl
@@ -195,25 +202,33 @@ module _ (f : ℕ → Bool) where
   kept-number (c ∷ cs) (p ∷ ps) h =
       length-addIf (f c) (record { code = c; position = p }) (kept cs ps) ∙ ap (λ (n : ℕ). bit (f c) + n) (kept-number cs ps (omega arith))
 
-module _ (c : ℕ) (cs ps : List ℕ) (paired : length cs ≡ length ps) where
-  struck-is : struck c (entries cs ps) ≡ kept (λ (x : ℕ). leb (occ x cs) c) cs ps
-  unfolding struck strike kept
-  struck-is = ap (λ (l : List ℕ). keep (λ (e : Entry). leb (occ (e .code) l) c) (entries cs ps)) (codes-entries cs ps paired)
+module _ (deciding : List ℕ) (c : ℕ) (cs ps : List ℕ) (paired : length cs ≡ length ps) where
+  pub strike-codes : codes (strike deciding c (entries cs ps)) ≡ markedWords (marksOf deciding c cs) cs
+  unfolding strike kept marks
+  strike-codes = kept-codes (λ (x : ℕ). leb (occ x deciding) c) cs ps paired
 
-  pub struck-codes : codes (struck c (entries cs ps)) ≡ markedWords (marksOf cs c) cs
-  unfolding marks
-  struck-codes = ap codes struck-is ∙ kept-codes (λ (x : ℕ). leb (occ x cs) c) cs ps paired
+  pub strike-positions : positions (strike deciding c (entries cs ps)) ≡ markedWords (marksOf deciding c cs) ps
+  unfolding strike kept marks
+  strike-positions = kept-positions (λ (x : ℕ). leb (occ x deciding) c) cs ps paired
 
-  pub struck-positions : positions (struck c (entries cs ps)) ≡ markedWords (marksOf cs c) ps
-  unfolding marks
-  struck-positions = ap positions struck-is ∙ kept-positions (λ (x : ℕ). leb (occ x cs) c) cs ps paired
+  pub strike-number : length (strike deciding c (entries cs ps)) ≡ sum (marksOf deciding c cs)
+  unfolding strike kept marks
+  strike-number = kept-number (λ (x : ℕ). leb (occ x deciding) c) cs ps paired
 
-  pub struck-number : length (struck c (entries cs ps)) ≡ sum (marksOf cs c)
-  unfolding marks
-  struck-number = ap length struck-is ∙ kept-number (λ (x : ℕ). leb (occ x cs) c) cs ps paired
+-- as many words are marked as the marks come to
+pub marked-number : (f : ℕ → Bool) (l words : List ℕ) → length words ≡ length l
+    → length (markedWords (map (λ (x : ℕ). bit (f x)) l) words) ≡ sum (map (λ (x : ℕ). bit (f x)) l)
+marked-number f [] words h = refl
+marked-number f (x ∷ xs) [] h = absurd (omega arith)
+marked-number f (x ∷ xs) (w ∷ ws) h = go (f x) (marked-number f xs ws (omega arith))
+  where
+    go : (b : Bool) → length (markedWords (map (λ (y : ℕ). bit (f y)) xs) ws) ≡ sum (map (λ (y : ℕ). bit (f y)) xs)
+        → length (addIf (eqb (bit b) 1) w (markedWords (map (λ (y : ℕ). bit (f y)) xs) ws)) ≡ bit b + sum (map (λ (y : ℕ). bit (f y)) xs)
+    go true e = omega arith
+    go false e = omega arith
 
 -- marks are 0 or 1
-pub marks-le-one : (f : ℕ → Bool) (l : List ℕ) (k : ℕ) → getD (map (λ (x : ℕ). bit (f x)) l) k 0 ≤ 1
+marks-le-one : (f : ℕ → Bool) (l : List ℕ) (k : ℕ) → getD (map (λ (x : ℕ). bit (f x)) l) k 0 ≤ 1
 marks-le-one f [] k = zero-le
 marks-le-one f (x ∷ xs) zero = bit-le-one (f x)
 marks-le-one f (x ∷ xs) (suc k) = marks-le-one f xs k
@@ -224,3 +239,12 @@ sum-marks-le f (x ∷ xs) =
     let b : bit (f x) ≤ 1 = bit-le-one (f x) in
     let r : sum (map (λ (y : ℕ). bit (f y)) xs) ≤ length xs = sum-marks-le f xs in
     omega arith
+
+-- what copying the marked words asks of the marks of codes
+pub copyable : (deciding cs words marks : List ℕ) (c n : ℕ) → length words ≡ length cs → marks ≡ marksOf deciding c cs → n ≡ sum (marksOf deciding c cs)
+    → (length words ≡ length marks) × ((k : ℕ) → getD marks k 0 ≤ 1) × (n ≡ sum marks)
+copyable deciding cs words marks c n paired e f = (
+  paired ∙ sym (ap length e ∙ length-map cs (λ (x : ℕ). bit (leb (occ x deciding) c))),
+  (λ k. rw e (marks-le-one (λ (x : ℕ). leb (occ x deciding) c) cs k)),
+  f ∙ sym (ap sum e),
+)

@@ -1,102 +1,138 @@
--- What strike answers and leaves in the buffers, check by check.
-use Prim.Native.Nat.{ℕ, _≤_, _<_}
-use mathlib.Core.Path.{_≡_, sym, ap, _∙_}
+-- What a strike answers and leaves in the buffers, check by check.
+use Prim.Native.Nat.{ℕ, _≤_, _<_, min}
+use native.Mathlib.Omega.{arith}
+use mathlib.Core.Path.{_≡_, refl, sym, ap, _∙_}
 use mathlib.Core.Logic.{_≢_}
+use mathlib.Core.Bool.{Bool, true, false, cond}
 use mathlib.Core.List.{List, [], _∷_}
-use lib.Dec.{leb}
-use lib.ListN.{length, getD}
-use borrow.Author.Tests.{lt-ltb, le-ltb, eq-eqb, ne-eqb}
+use lib.Dec.{ltb, leb}
+use lib.ListN.{length}
+use borrow.Author.Tests.{lt-ltb, le-ltb, eq-eqb, ne-eqb, ltb-true, ltb-false}
 use Rattle.base.specs.Lists.{sum}
 use Rattle.base.specs.Counts.{occ}
-use Rattle.base.specs.Replies.{Reply, accepted, refused, after, over}
-use Rattle.sorting.specs.Marks.{marksOf}
+use Rattle.base.specs.Replies.{Reply, accepted, refused, over, after}
 use Rattle.base.specs.Limits.{textLimit}
 use Rattle.kmers.specs.Kmers.{codes, positions, entries}
 use Rattle.sketch.specs.Replies.{roomFor}
-use Rattle.strike.specs.Strike.{struck, strikeReply, strikeCodes, strikePositions}
-use Rattle.strike.specs.Marked.{markedWords}
-use Rattle.strike.proofs.Marked.{struck-codes, struck-positions, struck-number, marks-le-one}
+use Rattle.marking.specs.Marks.{marksOf}
+use Rattle.strike.specs.Strike.{strike, strikeReply, strikeCodes, strikePositions}
+use Rattle.strike.specs.Marked.{markedWords, lacking}
+use Rattle.strike.proofs.Marked.{strike-codes, strike-positions, strike-number, sum-marks-le}
 
--- ---- the entries that are kept
+-- ---- the entries that lack room
 
-module _ (c : ℕ) (cs ps marks : List ℕ) (paired : length cs ≡ length ps) (e : marks ≡ marksOf cs c) where
-  pub kept-is : (n : ℕ) → n ≡ sum marks → n ≡ length (struck c (entries cs ps))
-  kept-is n h = h ∙ ap sum e ∙ sym (struck-number c cs ps paired)
+module _ (deciding cs : List ℕ) (c room : ℕ) where
+  abbrev number : ℕ
+  number = sum (marksOf deciding c cs)
 
-  pub codes-written : (old now : List ℕ) → now ≡ over (markedWords marks cs) old → now ≡ over (codes (struck c (entries cs ps))) old
-  codes-written old now h = h ∙ ap (λ (l : List ℕ). over l old) (ap (λ (m : List ℕ). markedWords m cs) e ∙ sym (struck-codes c cs ps paired))
+  -- no more entries are kept than there are
+  number-within : number ≤ length cs
+  number-within = sum-marks-le (λ (x : ℕ). leb (occ x deciding) c) cs
 
-  pub positions-written : (old now : List ℕ) → now ≡ over (markedWords marks ps) old → now ≡ over (positions (struck c (entries cs ps))) old
-  positions-written old now h = h ∙ ap (λ (l : List ℕ). over l old) (ap (λ (m : List ℕ). markedWords m ps) e ∙ sym (struck-positions c cs ps paired))
+  pub lacks-none : number ≤ room → 0 ≡ lacking deciding cs c room
+  unfolding lacking
+  lacks-none h = sym (ap (λ (b : Bool). cond b number 0) (le-ltb room number h))
 
-pub mark-le-one : (c : ℕ) (cs marks : List ℕ) → marks ≡ marksOf cs c → (k : ℕ) → getD marks k 0 ≤ 1
-mark-le-one c cs marks e k = rw e (marks-le-one (λ (x : ℕ). leb (occ x cs) c) cs k)
+  pub lacks-none-of-all : length cs ≤ room → 0 ≡ lacking deciding cs c room
+  lacks-none-of-all h = lacks-none (let l : number ≤ length cs = number-within in omega arith)
 
--- ---- 4, or the number of entries
+  pub lacks-some : (n : ℕ) → n ≡ number → room < n → n ≡ lacking deciding cs c room
+  unfolding lacking
+  lacks-some n e h = e ∙ sym (ap (λ (b : Bool). cond b number 0) (lt-ltb room number (rw (← e) h)))
 
-module _ (n k a b : ℕ) (e : k ≡ n) where
-  pub room-short-codes : a < k → refused 4 (k ∷ []) ≡ roomFor n a b
-  unfolding roomFor
-  room-short-codes h = rw (← e, lt-ltb a k h)
+  module _ (n : ℕ) (e : n ≡ lacking deciding cs c room) where
+    pub none-lacks : n ≡ 0 → number ≤ room
+    unfolding lacking
+    none-lacks z = go (ltb room number) refl
+      where
+        go : (b : Bool) → ltb room number ≡ b → number ≤ room
+        go false f = ltb-false room number f
+        go true f =
+            let some : n ≡ number = e ∙ ap (λ (b : Bool). cond b number 0) f in
+            let more : room < number = ltb-true room number f in
+            omega arith
 
-  pub room-short-positions : k ≤ a → b < k → refused 4 (k ∷ []) ≡ roomFor n a b
-  unfolding roomFor
-  room-short-positions h l = rw (← e, le-ltb a k h, lt-ltb b k l)
+    pub some-lack : n ≢ 0 → (n ≡ number) × (room < number)
+    unfolding lacking
+    some-lack h = go (ltb room number) refl
+      where
+        go : (b : Bool) → ltb room number ≡ b → (n ≡ number) × (room < number)
+        go true f = (e ∙ ap (λ (b : Bool). cond b number 0) f, ltb-true room number f)
+        go false f = absurd (h (e ∙ ap (λ (b : Bool). cond b number 0) f))
 
-  pub room-enough : k ≤ a → k ≤ b → accepted (k ∷ []) ≡ roomFor n a b
-  unfolding roomFor
-  room-enough h l = rw (← e, le-ltb a k h, le-ltb b k l)
+-- ---- what is answered
 
--- ---- 5, 8 and 6 before
-
-module _ (cs ps : List ℕ) (c : ℕ) (a b : ℕ) where
-  pub reply-unpaired : length cs ≢ length ps → strikeReply cs ps c a b ≡ refused 5 []
+module _ (deciding cs ps : List ℕ) (c a b : ℕ) where
+  pub reply-unpaired : length cs ≢ length ps → strikeReply deciding cs ps c a b ≡ refused 5 []
   unfolding strikeReply
   reply-unpaired h = rw (ne-eqb (length cs) (length ps) h)
 
-  pub reply-many : length cs ≡ length ps → textLimit < length cs → strikeReply cs ps c a b ≡ refused 8 []
-  unfolding strikeReply
-  reply-many h l = rw (eq-eqb (length cs) (length ps) h, lt-ltb textLimit (length cs) l)
+  module _ (paired : length cs ≡ length ps) where
+    pub reply-many : textLimit < length deciding → strikeReply deciding cs ps c a b ≡ refused 8 []
+    unfolding strikeReply
+    reply-many h = rw (eq-eqb (length cs) (length ps) paired, lt-ltb textLimit (length deciding) h)
 
-  pub reply-low : length cs ≡ length ps → length cs ≤ textLimit → c < 1 → strikeReply cs ps c a b ≡ refused 6 []
-  unfolding strikeReply
-  reply-low h l m = rw (eq-eqb (length cs) (length ps) h, le-ltb textLimit (length cs) l, lt-ltb c 1 m)
+    module _ (few : length deciding ≤ textLimit) where
+      pub reply-low : c < 1 → strikeReply deciding cs ps c a b ≡ refused 6 []
+      unfolding strikeReply
+      reply-low h = rw (eq-eqb (length cs) (length ps) paired, le-ltb textLimit (length deciding) few, lt-ltb c 1 h)
 
-  pub reply-high : length cs ≡ length ps → length cs ≤ textLimit → 1 ≤ c → textLimit < c → strikeReply cs ps c a b ≡ refused 6 []
-  unfolding strikeReply
-  reply-high h l m k = rw (eq-eqb (length cs) (length ps) h, le-ltb textLimit (length cs) l, le-ltb c 1 m, lt-ltb textLimit c k)
+      module _ (low : 1 ≤ c) where
+        pub reply-high : textLimit < c → strikeReply deciding cs ps c a b ≡ refused 6 []
+        unfolding strikeReply
+        reply-high h =
+            rw (eq-eqb (length cs) (length ps) paired, le-ltb textLimit (length deciding) few, le-ltb c 1 low, lt-ltb textLimit c h)
 
-  pub reply-room : length cs ≡ length ps → length cs ≤ textLimit → 1 ≤ c → c ≤ textLimit
-      → strikeReply cs ps c a b ≡ roomFor (length (struck c (entries cs ps))) a b
-  unfolding strikeReply
-  reply-room h l m k = rw (eq-eqb (length cs) (length ps) h, le-ltb textLimit (length cs) l, le-ltb c 1 m, le-ltb textLimit c k)
+        module _ (high : c ≤ textLimit) (n : ℕ) (counted : n ≡ sum (marksOf deciding c cs)) where
+          reply-room : strikeReply deciding cs ps c a b ≡ roomFor n a b
+          unfolding strikeReply
+          reply-room =
+              rw (eq-eqb (length cs) (length ps) paired, le-ltb textLimit (length deciding) few, le-ltb c 1 low, le-ltb textLimit c high)
+              (ap (λ (k : ℕ). roomFor k a b) (strike-number deciding c cs ps paired ∙ sym counted))
+
+          pub reply-short : min a b < sum (marksOf deciding c cs) → strikeReply deciding cs ps c a b ≡ refused 4 (n ∷ [])
+          unfolding roomFor
+          reply-short h = reply-room ∙ go (ltb a n) refl
+            where
+              go : (s : Bool) → ltb a n ≡ s → roomFor n a b ≡ refused 4 (n ∷ [])
+              go true e = rw e
+              go false e = let l : n ≤ a = ltb-false a n e in rw (e, lt-ltb b n (omega arith))
+
+          pub reply-kept : sum (marksOf deciding c cs) ≤ min a b → strikeReply deciding cs ps c a b ≡ accepted (n ∷ [])
+          unfolding roomFor
+          reply-kept h = reply-room ∙ rw (le-ltb a n (omega arith), le-ltb b n (omega arith))
 
 -- ---- the buffers
 
-module _ (cs ps : List ℕ) (c : ℕ) (codes₀ positions₀ : List ℕ) where
+module _ (deciding cs ps : List ℕ) (c : ℕ) (codes₀ positions₀ : List ℕ) where
+  abbrev reply : Reply
+  reply = strikeReply deciding cs ps c (length codes₀) (length positions₀)
+
   -- a refusal changes no buffer
-  pub refused-leaves : (number : ℕ) (values : List ℕ) → strikeReply cs ps c (length codes₀) (length positions₀) ≡ refused number values →
-      (refused number values ≡ strikeReply cs ps c (length codes₀) (length positions₀)) ×
-      ((codes₀ ≡ strikeCodes cs ps c codes₀ positions₀) × (positions₀ ≡ strikePositions cs ps c codes₀ positions₀))
+  pub refused-leaves : (number : ℕ) (values : List ℕ) → reply ≡ refused number values
+      → (refused number values ≡ reply)
+      × ((codes₀ ≡ strikeCodes deciding cs ps c codes₀ positions₀) × (positions₀ ≡ strikePositions deciding cs ps c codes₀ positions₀))
   unfolding strikeCodes strikePositions
   refused-leaves number values e = (
     sym e,
     (
-      sym (ap (λ (r : Reply). after r (codes (struck c (entries cs ps))) codes₀) e),
-      sym (ap (λ (r : Reply). after r (positions (struck c (entries cs ps))) positions₀) e),
+      sym (ap (λ (r : Reply). after r (codes (strike deciding c (entries cs ps))) codes₀) e),
+      sym (ap (λ (r : Reply). after r (positions (strike deciding c (entries cs ps))) positions₀) e),
     ),
   )
 
-  pub answered : (reply : Reply) (codes₁ positions₁ : List ℕ) → reply ≡ strikeReply cs ps c (length codes₀) (length positions₀) →
-      codes₁ ≡ after reply (codes (struck c (entries cs ps))) codes₀
-      → positions₁ ≡ after reply (positions (struck c (entries cs ps))) positions₀ →
-      (reply ≡ strikeReply cs ps c (length codes₀) (length positions₀)) ×
-      ((codes₁ ≡ strikeCodes cs ps c codes₀ positions₀) × (positions₁ ≡ strikePositions cs ps c codes₀ positions₀))
+  -- the marked words of both are the entries kept
+  pub kept-written : length cs ≡ length ps → (n : ℕ) (codes₁ positions₁ : List ℕ) → reply ≡ accepted (n ∷ [])
+      → codes₁ ≡ over (markedWords (marksOf deciding c cs) cs) codes₀ → positions₁ ≡ over (markedWords (marksOf deciding c cs) ps) positions₀
+      → (accepted (n ∷ []) ≡ reply)
+      × ((codes₁ ≡ strikeCodes deciding cs ps c codes₀ positions₀) × (positions₁ ≡ strikePositions deciding cs ps c codes₀ positions₀))
   unfolding strikeCodes strikePositions
-  answered reply codes₁ positions₁ e f g = (
-    e,
+  kept-written paired n codes₁ positions₁ e f g = (
+    sym e,
     (
-      f ∙ ap (λ (r : Reply). after r (codes (struck c (entries cs ps))) codes₀) e,
-      g ∙ ap (λ (r : Reply). after r (positions (struck c (entries cs ps))) positions₀) e,
+      f ∙ ap (λ (l : List ℕ). over l codes₀) (sym (strike-codes deciding c cs ps paired))
+          ∙ sym (ap (λ (r : Reply). after r (codes (strike deciding c (entries cs ps))) codes₀) e),
+      g ∙ ap (λ (l : List ℕ). over l positions₀) (sym (strike-positions deciding c cs ps paired))
+          ∙ sym (ap (λ (r : Reply). after r (positions (strike deciding c (entries cs ps))) positions₀) e),
     ),
   )

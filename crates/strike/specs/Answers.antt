@@ -1,4 +1,4 @@
--- What the cases of strike's answer say in document 01's numbers.
+-- What the cases of the answer of strike and strike_read say in the numbers of document 01.
 use mathlib.Core.List.{[], _∷_}
 use Rattle.base.specs.Replies.{Reply, accepted, refused}
 use Rattle.strike.specs.declared.Struck.{Struck}

@@ -1,4 +1,4 @@
--- Striking frequent k-mers from a sketch, and what the call answers.
+-- Striking frequent k-mers from a sketch, and what the two calls that strike answer.
 use Prim.Native.Nat.{ℕ}
 use mathlib.Core.Bool.{cond, not}
 use mathlib.Core.List.{List, []}
@@ -15,23 +15,24 @@ use Rattle.sketch.specs.Replies.{roomFor}
 unfoldable pub strike : List ℕ → ℕ → List Entry → List Entry
 strike deciding c es = keep (λ (e : Entry). leb (occ (e .code) deciding) c) es
 
--- a text sketch struck by its own counts
+-- a text's sketch, struck: its own codes decide
 unfoldable pub struck : ℕ → List Entry → List Entry
 struck c es = strike (codes es) c es
 
--- what strike answers, given the lengths of the two output buffers: 5, 8, 6, 4, or the number of entries kept
-unfoldable pub strikeReply : List ℕ → List ℕ → ℕ → ℕ → ℕ → Reply
-strikeReply cs ps c codeRoom positionRoom =
+-- what a strike answers, given the codes that decide, the codes and positions to strike, c, and the lengths of the two output
+-- buffers: 5, 8, 6, 4, or the number of entries kept
+unfoldable pub strikeReply : List ℕ → List ℕ → List ℕ → ℕ → ℕ → ℕ → Reply
+strikeReply deciding cs ps c codeRoom positionRoom =
     cond (not (eqb (length cs) (length ps))) (refused 5 [])
-    (cond (ltb textLimit (length cs)) (refused 8 [])
+    (cond (ltb textLimit (length deciding)) (refused 8 [])
     (cond (outside 1 textLimit c) (refused 6 [])
-    (roomFor (length (struck c (entries cs ps))) codeRoom positionRoom)))
+    (roomFor (length (strike deciding c (entries cs ps))) codeRoom positionRoom)))
 
--- the two output buffers after strike, given both as they came
-unfoldable pub strikeCodes : List ℕ → List ℕ → ℕ → List ℕ → List ℕ → List ℕ
-strikeCodes cs ps c codes₀ positions₀ =
-    after (strikeReply cs ps c (length codes₀) (length positions₀)) (codes (struck c (entries cs ps))) codes₀
+-- the two output buffers after a strike, given both as they came
+unfoldable pub strikeCodes : List ℕ → List ℕ → List ℕ → ℕ → List ℕ → List ℕ → List ℕ
+strikeCodes deciding cs ps c codes₀ positions₀ =
+    after (strikeReply deciding cs ps c (length codes₀) (length positions₀)) (codes (strike deciding c (entries cs ps))) codes₀
 
-unfoldable pub strikePositions : List ℕ → List ℕ → ℕ → List ℕ → List ℕ → List ℕ
-strikePositions cs ps c codes₀ positions₀ =
-    after (strikeReply cs ps c (length codes₀) (length positions₀)) (positions (struck c (entries cs ps))) positions₀
+unfoldable pub strikePositions : List ℕ → List ℕ → List ℕ → ℕ → List ℕ → List ℕ → List ℕ
+strikePositions deciding cs ps c codes₀ positions₀ =
+    after (strikeReply deciding cs ps c (length codes₀) (length positions₀)) (positions (strike deciding c (entries cs ps))) positions₀

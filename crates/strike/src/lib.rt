@@ -1,18 +1,16 @@
-// Striking of frequent k-mers from a sketch. It needs no heap: the marks of the entries and what counts them lie on the stack.
+// Striking of frequent k-mers: from a text's sketch by its own counts, and from a read's by the counts of the text. It needs no heap.
+mod blocks;
+mod copying;
+
 use base::TEXT_LIMIT;
+use base::smaller;
 ghost use mathlib.Core.Path.{_≡_};
-ghost use Prim.Native.Nat.{ℕ, _≤_, _<_, _^_};
-ghost use lib.ListN.{length, getD};
-ghost use Rattle.base.specs.Lists.{sum};
-ghost use Rattle.base.specs.Zeros.{zeros};
-ghost use Rattle.base.specs.Replies.{over, after};
-ghost use Rattle.sorting.specs.Marks.{marksOf};
+ghost use Prim.Native.Nat.{_≤_};
+ghost use lib.ListN.{length};
 ghost use Rattle.base.specs.Limits.{textLimit};
-ghost use Rattle.kmers.specs.Kmers.{codes as codesOf, positions as positionsOf, entries};
-ghost use Rattle.sketch.specs.Replies.{roomFor};
-ghost use Rattle.strike.specs.Strike.{struck, strikeReply, strikeCodes, strikePositions};
+ghost use Rattle.strike.specs.Strike.{strikeReply, strikeCodes, strikePositions};
 ghost use Rattle.strike.specs.Answers.{replyOf};
-ghost use Rattle.strike.specs.Marked.{markedWords};
+ghost use Rattle.strike.specs.Marked.{lacking};
 
 // The entries kept, or why the call is refused: 5, 8, 6, or 4 with the entries needed.
 pub enum Struck {
@@ -23,84 +21,22 @@ pub enum Struck {
     TooShort(usize),
 }
 
-fn text_zeros() -> [u8; TEXT_LIMIT]
-    ensures { λ r. ⌜ (textLimit ≡ length r) × (r ≡ zeros textLimit) ⌝ }
+// The entries kept where they are more than there is room for, else 0. Where all entries have room none need be counted.
+fn lacking(deciding: &[u32], codes: &[u32], c: u32, room: usize) -> usize
+    requires { ⌜ length (now deciding) ≤ textLimit ⌝ }
+    ensures { λ r. ⌜ r ≡ lacking (now (deciding .entry)) (now (codes .entry)) c room ⌝ }
 {
-    [0u8; TEXT_LIMIT]
-}
-
-fn wide(x: u8) -> usize
-    ensures { λ r. ⌜ r ≡ x ⌝ }
-{
-    x as usize
-}
-
-fn count_marked(marks: &[u8]) -> usize
-    requires { ⌜ sum (now marks) < 2 ^ 64 ⌝ }
-    ensures { λ r. ⌜ r ≡ sum (now (marks .entry)) ⌝ }
-{
-    let mut n: usize = 0;
-    let mut i = 0;
-    while i < marks.len() {
-        n += wide(marks[i]);
-        i += 1;
+    if codes.len() <= room {
+        return 0;
     }
-    n
+    let kept = blocks::count_kept(deciding, codes, c);
+    if room < kept { kept } else { 0 }
 }
 
-// Copies the n marked words to the start of `out`. A word that is not marked is written too, where the next marked one then
-// goes: that costs less than a branch that cannot be foreseen.
-fn copy_marked(words: &[u32], marks: &[u8], n: usize, out: &mut [u32])
-    requires { ⌜ length (now words) ≡ length (now marks) ⌝ }
-    requires { ⌜ ((k : ℕ) → getD (now marks) k 0 ≤ 1) ⌝ }
-    requires { ⌜ (n ≡ sum (now marks)) × (n ≤ length (now out)) ⌝ }
-    ensures { λ _. ⌜ now (out .exit) ≡ over (markedWords (now (marks .entry)) (now (words .entry))) (now (out .entry)) ⌝ }
-{
-    let mut i = 0;
-    let mut at = 0;
-    while at < n {
-        out[at] = words[i];
-        at += wide(marks[i]);
-        i += 1;
-    }
-}
-
-// What is left of strike once its arguments are judged, with room for a mark an entry.
-fn strike_marked(
-    codes: &[u32],
-    positions: &[u32],
-    c: u32,
-    marks: &mut [u8],
-    codes_out: &mut [u32],
-    positions_out: &mut [u32],
-) -> Struck
-    requires { ⌜ (length (now codes) ≡ length (now positions)) × (length (now codes) ≤ textLimit) × (length (now marks) ≡ length (now codes)) ⌝ }
-    ensures { λ r.
-        ⌜ replyOf r ≡ roomFor (length (struck c (entries (now (codes .entry)) (now (positions .entry))))) (length (now («codes_out» .entry)))
-        (length (now («positions_out» .entry))) ⌝ }
-    ensures { λ _. ⌜ now (marks .exit) ≡ marksOf (now (codes .entry)) c ⌝ }
-    ensures { λ r.
-        ⌜ now («codes_out» .exit)
-        ≡ after (replyOf r) (codesOf (struck c (entries (now (codes .entry)) (now (positions .entry))))) (now («codes_out» .entry)) ⌝ }
-    ensures { λ r.
-        ⌜ now («positions_out» .exit)
-        ≡ after (replyOf r) (positionsOf (struck c (entries (now (codes .entry)) (now (positions .entry))))) (now («positions_out» .entry)) ⌝ }
-{
-    sorting::mark_rare(codes, c, marks);
-    let kept = count_marked(marks);
-    if codes_out.len() < kept {
-        return Struck::TooShort(kept);
-    }
-    if positions_out.len() < kept {
-        return Struck::TooShort(kept);
-    }
-    copy_marked(codes, marks, kept, codes_out);
-    copy_marked(positions, marks, kept, positions_out);
-    Struck::Entries(kept)
-}
-
-// Writes the entries whose code occurs at most c times, in their order, and answers how many they are.
-pub fn strike(
+// Writes the entries of a read's sketch whose code occurs at most c times among the codes of the text's sketch, which is not struck, in
+// their order, and answers how many they are. A code that the text lacks is kept.
+pub fn strike_read(
+    text: &[u32],
     codes: &[u32],
     positions: &[u32],
     c: u32,
@@ -108,20 +44,19 @@ pub fn strike(
     positions_out: &mut [u32],
 ) -> Struck
     ensures { λ r.
-        ⌜ replyOf r ≡ strikeReply (now (codes .entry)) (now (positions .entry)) c (length (now («codes_out» .entry)))
+        ⌜ replyOf r ≡ strikeReply (now (text .entry)) (now (codes .entry)) (now (positions .entry)) c (length (now («codes_out» .entry)))
         (length (now («positions_out» .entry))) ⌝ }
     ensures { λ _.
         ⌜ now («codes_out» .exit)
-        ≡ strikeCodes (now (codes .entry)) (now (positions .entry)) c (now («codes_out» .entry)) (now («positions_out» .entry)) ⌝ }
+        ≡ strikeCodes (now (text .entry)) (now (codes .entry)) (now (positions .entry)) c (now («codes_out» .entry)) (now («positions_out» .entry)) ⌝ }
     ensures { λ _.
         ⌜ now («positions_out» .exit)
-        ≡ strikePositions (now (codes .entry)) (now (positions .entry)) c (now («codes_out» .entry)) (now («positions_out» .entry)) ⌝ }
+        ≡ strikePositions (now (text .entry)) (now (codes .entry)) (now (positions .entry)) c (now («codes_out» .entry)) (now («positions_out» .entry)) ⌝ }
 {
-    let n = codes.len();
-    if n != positions.len() {
+    if codes.len() != positions.len() {
         return Struck::NotPaired;
     }
-    if TEXT_LIMIT < n {
+    if TEXT_LIMIT < text.len() {
         return Struck::TooManyEntries;
     }
     if c < 1 {
@@ -130,13 +65,35 @@ pub fn strike(
     if TEXT_LIMIT < c as usize {
         return Struck::BadLimit;
     }
-    let mut marks = text_zeros();
-    strike_marked(
+    let needed = lacking(
+        text,
         codes,
-        positions,
         c,
-        &mut marks[..n],
-        codes_out,
-        positions_out,
-    )
+        smaller(codes_out.len(), positions_out.len()),
+    );
+    if needed != 0 {
+        return Struck::TooShort(needed);
+    }
+    Struck::Entries(blocks::copy_kept(text, codes, positions, c, codes_out, positions_out))
+}
+
+// The same of a text's sketch, whose own codes decide.
+pub fn strike(
+    codes: &[u32],
+    positions: &[u32],
+    c: u32,
+    codes_out: &mut [u32],
+    positions_out: &mut [u32],
+) -> Struck
+    ensures { λ r.
+        ⌜ replyOf r ≡ strikeReply (now (codes .entry)) (now (codes .entry)) (now (positions .entry)) c (length (now («codes_out» .entry)))
+        (length (now («positions_out» .entry))) ⌝ }
+    ensures { λ _.
+        ⌜ now («codes_out» .exit)
+        ≡ strikeCodes (now (codes .entry)) (now (codes .entry)) (now (positions .entry)) c (now («codes_out» .entry)) (now («positions_out» .entry)) ⌝ }
+    ensures { λ _.
+        ⌜ now («positions_out» .exit)
+        ≡ strikePositions (now (codes .entry)) (now (codes .entry)) (now (positions .entry)) c (now («codes_out» .entry)) (now («positions_out» .entry)) ⌝ }
+{
+    strike_read(codes, codes, positions, c, codes_out, positions_out)
 }

@@ -1,11 +1,11 @@
--- `copy_marked` meets its contract. The loop keeps: the marked words passed stand at the start, and as many as are left to come have room.
+-- `copying::copy_marked` meets its contract. The loop keeps: the marked words passed stand at the start, and as many as are left to come have room.
 use native.Mathlib.Omega.{arith}
 use Prim.Native.Nat.{_-_, _≤_, _<_}
 use lib.ListN.{length}
 use Rattle.strike.proofs.Marked.{Copied, copied-none, copied-index, copied-more, copied-all}
 use borrow.Author.Needs.{needs}
-use Rattle.strike.proofs.copy_marked.Statement.{statement}
-use Rattle.strike.proofs.copy_marked.Tie as tie
+use Rattle.strike.proofs.copying.copy_marked.Statement.{statement}
+use Rattle.strike.proofs.copying.copy_marked.Tie as tie
 
 abbrev Inv-loop : tie.InvT-loop
 Inv-loop words marks n out₀ i₀ at₀ out i at = (i ≤ length marks) × Copied words marks n out₀ out i at

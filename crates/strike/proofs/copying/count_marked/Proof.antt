@@ -1,4 +1,4 @@
--- `count_marked` meets its contract. The loop keeps: what is counted and what is left come to the sum.
+-- `copying::count_marked` meets its contract. The loop keeps: what is counted and what is left come to the sum.
 use native.Mathlib.Omega.{arith}
 use Prim.Native.Nat.{_+_, _-_, _≤_}
 use native.Mathlib.Numerals.{add-one}
@@ -7,8 +7,8 @@ use lib.ListN.{length, drop, drop-of-length-le}
 use Rattle.base.specs.Lists.{sum}
 use Rattle.strike.proofs.Marked.{sum-drop}
 use borrow.Author.Needs.{needs}
-use Rattle.strike.proofs.count_marked.Statement.{statement}
-use Rattle.strike.proofs.count_marked.Tie as tie
+use Rattle.strike.proofs.copying.count_marked.Statement.{statement}
+use Rattle.strike.proofs.copying.count_marked.Tie as tie
 
 abbrev Inv-loop : tie.InvT-loop
 Inv-loop marks n₀ i₀ n i = (i ≤ length marks) × (n + sum (drop i marks) ≡ sum marks)

@@ -1,0 +1,2 @@
+-- What marking the rare words of a list means.
+pub mod Marks

@@ -1,0 +1,21 @@
+-- `lacking` meets its contract: each way out has the tests that it took.
+use mathlib.Core.Path.{_≡_, _∙_}
+use Rattle.strike.proofs.Replies.{lacks-none, lacks-none-of-all, lacks-some}
+use borrow.Author.Needs.{needs}
+use Rattle.strike.proofs.lacking.Statement.{statement}
+use Rattle.strike.proofs.lacking.Tie as tie
+
+returns : tie.Need-returns
+returns c = lacks-none-of-all _ _ _ _ (c .if1 .taken)
+
+count-kept-requires : tie.Need-count-kept-requires
+count-kept-requires c κs = search needs
+
+returns-2 : tie.Need-returns-2
+returns-2 c = lacks-some _ _ _ _ _ (c .before .count-kept .ensures) (c .if2 .taken)
+
+returns-3 : tie.Need-returns-3
+returns-3 c = lacks-none _ _ _ _ (rw (← c .before .count-kept .ensures) (c .if2 .left))
+
+pub lacking-spec : {M : Type 1} → statement M
+lacking-spec = tie.close (tie.spec returns count-kept-requires returns-2 returns-3)

@@ -1,0 +1,122 @@
+// Striking a block of entries after the other. A block has a mark on the stack for each entry, so that a read may be of any length.
+use crate::copying::copy_marked;
+use crate::copying::count_marked;
+use base::TEXT_LIMIT;
+use base::smaller;
+ghost use mathlib.Core.Path.{_≡_};
+ghost use Prim.Native.Nat.{_≤_};
+ghost use lib.ListN.{length};
+ghost use Rattle.base.specs.Limits.{textLimit};
+ghost use Rattle.base.specs.Lists.{sum};
+ghost use Rattle.base.specs.Replies.{over};
+ghost use Rattle.base.specs.Zeros.{zeros};
+ghost use Rattle.marking.specs.Marks.{marksOf};
+ghost use Rattle.strike.specs.Marked.{markedWords};
+
+// A block has as many entries as may decide: counting those anew for each block then costs no more than the blocks themselves.
+const BLOCK: usize = TEXT_LIMIT;
+
+fn block_zeros() -> [u8; BLOCK]
+    ensures { λ r. ⌜ (textLimit ≡ length r) × (r ≡ zeros textLimit) ⌝ }
+{
+    [0u8; BLOCK]
+}
+
+// Marks the entries kept, and answers how many they are.
+fn mark_block(deciding: &[u32], codes: &[u32], c: u32, marks: &mut [u8]) -> usize
+    requires { ⌜ (length (now deciding) ≤ textLimit) × (length (now codes) ≤ textLimit) × (length (now marks) ≡ length (now codes)) ⌝ }
+    ensures { λ r. ⌜ r ≡ sum (marksOf (now (deciding .entry)) c (now (codes .entry))) ⌝ }
+    ensures { λ _. ⌜ now (marks .exit) ≡ marksOf (now (deciding .entry)) c (now (codes .entry)) ⌝ }
+{
+    marking::mark_rare(deciding, codes, c, marks);
+    count_marked(marks)
+}
+
+fn count_block(deciding: &[u32], codes: &[u32], c: u32) -> usize
+    requires { ⌜ (length (now deciding) ≤ textLimit) × (length (now codes) ≤ textLimit) ⌝ }
+    ensures { λ r. ⌜ r ≡ sum (marksOf (now (deciding .entry)) c (now (codes .entry))) ⌝ }
+{
+    let n = codes.len();
+    let mut block = block_zeros();
+    mark_block(deciding, codes, c, &mut block[..n])
+}
+
+// The number of entries kept.
+pub(crate) fn count_kept(deciding: &[u32], codes: &[u32], c: u32) -> usize
+    requires { ⌜ length (now deciding) ≤ textLimit ⌝ }
+    ensures { λ r. ⌜ r ≡ sum (marksOf (now (deciding .entry)) c (now (codes .entry))) ⌝ }
+{
+    let mut kept = 0;
+    let mut from = 0;
+    while from < codes.len() {
+        let to = from + smaller(codes.len() - from, BLOCK);
+        kept += count_block(deciding, &codes[from..to], c);
+        from = to;
+    }
+    kept
+}
+
+fn copy_block(
+    deciding: &[u32],
+    codes: &[u32],
+    positions: &[u32],
+    c: u32,
+    codes_out: &mut [u32],
+    positions_out: &mut [u32],
+) -> usize
+    requires { ⌜ (length (now deciding) ≤ textLimit) × (length (now codes) ≤ textLimit) × (length (now codes) ≡ length (now positions)) ⌝ }
+    requires { ⌜ (sum (marksOf (now deciding) c (now codes)) ≤ length (now «codes_out»))
+        × (sum (marksOf (now deciding) c (now codes)) ≤ length (now «positions_out»)) ⌝ }
+    ensures { λ r. ⌜ r ≡ sum (marksOf (now (deciding .entry)) c (now (codes .entry))) ⌝ }
+    ensures { λ _.
+        ⌜ now («codes_out» .exit)
+        ≡ over (markedWords (marksOf (now (deciding .entry)) c (now (codes .entry))) (now (codes .entry))) (now («codes_out» .entry)) ⌝ }
+    ensures { λ _.
+        ⌜ now («positions_out» .exit)
+        ≡ over (markedWords (marksOf (now (deciding .entry)) c (now (codes .entry))) (now (positions .entry))) (now («positions_out» .entry)) ⌝ }
+{
+    let n = codes.len();
+    let mut block = block_zeros();
+    let marks = &mut block[..n];
+    let kept = mark_block(deciding, codes, c, marks);
+    copy_marked(codes, marks, kept, codes_out);
+    copy_marked(positions, marks, kept, positions_out);
+    kept
+}
+
+// Copies the entries kept to the start of the two buffers, which have room for them, and answers their number.
+pub(crate) fn copy_kept(
+    deciding: &[u32],
+    codes: &[u32],
+    positions: &[u32],
+    c: u32,
+    codes_out: &mut [u32],
+    positions_out: &mut [u32],
+) -> usize
+    requires { ⌜ (length (now deciding) ≤ textLimit) × (length (now codes) ≡ length (now positions)) ⌝ }
+    requires { ⌜ (sum (marksOf (now deciding) c (now codes)) ≤ length (now «codes_out»))
+        × (sum (marksOf (now deciding) c (now codes)) ≤ length (now «positions_out»)) ⌝ }
+    ensures { λ r. ⌜ r ≡ sum (marksOf (now (deciding .entry)) c (now (codes .entry))) ⌝ }
+    ensures { λ _.
+        ⌜ now («codes_out» .exit)
+        ≡ over (markedWords (marksOf (now (deciding .entry)) c (now (codes .entry))) (now (codes .entry))) (now («codes_out» .entry)) ⌝ }
+    ensures { λ _.
+        ⌜ now («positions_out» .exit)
+        ≡ over (markedWords (marksOf (now (deciding .entry)) c (now (codes .entry))) (now (positions .entry))) (now («positions_out» .entry)) ⌝ }
+{
+    let mut at = 0;
+    let mut from = 0;
+    while from < codes.len() {
+        let to = from + smaller(codes.len() - from, BLOCK);
+        at += copy_block(
+            deciding,
+            &codes[from..to],
+            &positions[from..to],
+            c,
+            &mut codes_out[at..],
+            &mut positions_out[at..],
+        );
+        from = to;
+    }
+    at
+}
