@@ -1,5 +1,5 @@
--- Demand 3's hypotheses can be met: for document 01's own example sketch, strike and start accept, with buffers of four words and 16,384
--- zeros, and every list of steps can be run on the session that start then leaves.
+-- Demand 3's hypotheses can be met: for document 01's own example sketch, both strikes and start accept, with buffers of four words and
+-- 16,384 zeros, and every list of steps can be run on the session that start then leaves.
 use Prim.Native.Nat.{ℕ, _≤_}
 use native.Mathlib.Omega.{arith}
 use mathlib.Core.Path.{_≡_, refl, ap, _∙_}
@@ -22,11 +22,12 @@ use Rattle.mapper.specs.declared.answer.Stepped.the-variants.{TooFewWord
 use Rattle.mapper.specs.Answers.{answerOf}
 use Rattle.mapper.specs.Step.{badWords}
 use Rattle.mapper.specs.Promise.{StepPromise}
-use Rattle.mapper.specs.Sessions.{Ran, none, then, Lent, textCodes, textPositions, readCodes, struckCodes, startTask, AllAccept, Demand3}
+use Rattle.mapper.specs.Sessions.{Ran, none, then, Lent, EntryCounts, AllAccept, Demand3}
+use Rattle.mapper.specs.Sessions.{textCodes, textPositions, readCodes, readPositions, struckCodes, patternCodes, startTask}
 use Rattle.mapper.proofs.StepPromise.{few-promise, bad-promise, walk-promise}
 use Rattle.mapper.proofs.Demand3.{demand3}
 
--- ---- sketch, strike and start accept
+-- ---- sketch, both strikes and start accept
 
 -- ACAG and ACG, k = w = 1, c = 100, u = v = 1, threshold 1
 abbrev pub asked : Settings
@@ -49,22 +50,33 @@ buffers = record {
   read-positions = four;
   struck-codes = four;
   struck-positions = four;
+  pattern-codes = four;
+  pattern-positions = four;
   work = replicate workWords 0;
 }
 
+unfoldable calls-compute : Unit {0}
+unfolding textCodes textPositions readCodes readPositions struckCodes patternCodes startTask
+calls-compute = tt
+
+-- four entries of the text and three of the read, and as many that strike keeps
+abbrev counts : EntryCounts
+counts = record { text = 4; read = 3; struck = 4; pattern = 3 }
+
 -- start with the number of work words written out, so that no list of them is computed
-starts : startReply (startTask asked text read buffers 4 3 4) workWords ≡ accepted (4 ∷ [])
-unfolding strike-computes mappings-compute badWeights startReply textCodes textPositions readCodes struckCodes startTask
+starts : startReply (startTask asked text read buffers counts) workWords ≡ accepted (4 ∷ [])
+unfolding strike-computes mappings-compute badWeights startReply calls-compute
 starts = refl
 
--- four entries of the text, three of the read, four that strike keeps, and four hits
-pub all-accept : AllAccept asked text read buffers 4 3 4 4
-unfolding strike-computes mappings-compute textCodes textPositions
+-- with four hits
+pub all-accept : AllAccept asked text read buffers counts 4
+unfolding strike-computes mappings-compute calls-compute
 all-accept = record {
   sketch-text = refl;
   sketch-read = refl;
-  strike = refl;
-  start = ap (startReply (startTask asked text read buffers 4 3 4)) (length-replicate {A = ℕ} workWords 0) ∙ starts;
+  strike-text = refl;
+  strike-read = refl;
+  start = ap (startReply (startTask asked text read buffers counts)) (length-replicate {A = ℕ} workWords 0) ∙ starts;
   threshold-fits = omega arith;
 }
 
@@ -92,11 +104,11 @@ runs work (step ∷ steps) =
 
 -- the words of the example's fresh session
 abbrev begun : List ℕ
-begun = startWords (startTask asked text read buffers 4 3 4) (buffers .work)
+begun = startWords (startTask asked text read buffers counts) (buffers .work)
 
 -- any list of steps has a run on the example's session, and demand 3 speaks of it
 pub demand3-met : (steps : List Step) → (heard : List Answer) × (states : List (List ℕ)) × Ran begun steps heard states
     × Demand3 (taskOf asked text read) begun steps heard states
 demand3-met steps =
     let run = runs begun steps in
-    (run .0, run .1, run .2, demand3 asked text read buffers 4 3 4 4 all-accept (run .2))
+    (run .0, run .1, run .2, demand3 asked text read buffers counts 4 all-accept (run .2))

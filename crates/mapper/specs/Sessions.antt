@@ -32,7 +32,8 @@ pub data Ran : List ℕ → List Step → List Answer → List (List ℕ) → Ty
 abbrev pub wordsAfter : List ℕ → List (List ℕ) → ℕ → List ℕ
 wordsAfter work states n = getD (work ∷ states) n []
 
--- what all lent buffers held before: codes and positions of the text's sketch, of the read's and of the struck text, and the work words
+-- what all lent buffers held before: codes and positions of the text's sketch, of the read's, of the struck text and of the struck read,
+-- which is the pattern; and the work words
 pub record Lent : Type 0 where
   pub text-codes : List ℕ
   pub text-positions : List ℕ
@@ -40,31 +41,51 @@ pub record Lent : Type 0 where
   pub read-positions : List ℕ
   pub struck-codes : List ℕ
   pub struck-positions : List ℕ
+  pub pattern-codes : List ℕ
+  pub pattern-positions : List ℕ
   pub work : List ℕ
 
--- the calls in their order, each on what the one before it wrote: n entries of the text, m of the read, s struck ones, h hits
-module _ (settings : Settings) (text read : List ℕ) (lent : Lent) (n m s : ℕ) where
+-- how many entries the calls answer: of the text and of the read, and of what is left of both when they are struck
+pub record EntryCounts : Type 0 where
+  pub text : ℕ
+  pub read : ℕ
+  pub struck : ℕ
+  pub pattern : ℕ
+
+-- the calls in their order, each on what the ones before it wrote
+module _ (settings : Settings) (text read : List ℕ) (lent : Lent) (counts : EntryCounts) where
   unfoldable pub textCodes : List ℕ
-  textCodes = take n (sketchCodes (settings .k) (settings .w) text (lent .text-codes) (lent .text-positions))
+  textCodes = take (counts .text) (sketchCodes (settings .k) (settings .w) text (lent .text-codes) (lent .text-positions))
 
   unfoldable pub textPositions : List ℕ
-  textPositions = take n (sketchPositions (settings .k) (settings .w) text (lent .text-codes) (lent .text-positions))
+  textPositions = take (counts .text) (sketchPositions (settings .k) (settings .w) text (lent .text-codes) (lent .text-positions))
 
   unfoldable pub readCodes : List ℕ
-  readCodes = take m (sketchCodes (settings .k) (settings .w) read (lent .read-codes) (lent .read-positions))
+  readCodes = take (counts .read) (sketchCodes (settings .k) (settings .w) read (lent .read-codes) (lent .read-positions))
+
+  unfoldable pub readPositions : List ℕ
+  readPositions = take (counts .read) (sketchPositions (settings .k) (settings .w) read (lent .read-codes) (lent .read-positions))
 
   unfoldable pub struckCodes : List ℕ
-  struckCodes = take s (strikeCodes textCodes textPositions (settings .c) (lent .struck-codes) (lent .struck-positions))
+  struckCodes = take (counts .struck) (strikeCodes textCodes textCodes textPositions (settings .c) (lent .struck-codes) (lent .struck-positions))
+
+  unfoldable pub patternCodes : List ℕ
+  patternCodes = take (counts .pattern) (strikeCodes textCodes readCodes readPositions (settings .c) (lent .pattern-codes) (lent .pattern-positions))
 
   -- what start is given
   unfoldable pub startTask : Task
-  startTask = taskWith struckCodes readCodes (settings .u) (settings .v) (settings .threshold)
+  startTask = taskWith struckCodes patternCodes (settings .u) (settings .v) (settings .threshold)
 
-  -- sketch, strike and start accept; the threshold is any signed 32-bit number
+  -- sketch of text and read, strike of both and start accept; the threshold is any signed 32-bit number
   pub record AllAccept (h : ℕ) : Type 0 where
-    pub sketch-text : sketchReply (settings .k) (settings .w) text (length (lent .text-codes)) (length (lent .text-positions)) ≡ accepted (n ∷ [])
-    pub sketch-read : sketchReply (settings .k) (settings .w) read (length (lent .read-codes)) (length (lent .read-positions)) ≡ accepted (m ∷ [])
-    pub strike : strikeReply textCodes textPositions (settings .c) (length (lent .struck-codes)) (length (lent .struck-positions)) ≡ accepted (s ∷ [])
+    pub sketch-text : sketchReply (settings .k) (settings .w) text (length (lent .text-codes)) (length (lent .text-positions))
+        ≡ accepted (counts .text ∷ [])
+    pub sketch-read : sketchReply (settings .k) (settings .w) read (length (lent .read-codes)) (length (lent .read-positions))
+        ≡ accepted (counts .read ∷ [])
+    pub strike-text : strikeReply textCodes textCodes textPositions (settings .c) (length (lent .struck-codes)) (length (lent .struck-positions))
+        ≡ accepted (counts .struck ∷ [])
+    pub strike-read : strikeReply textCodes readCodes readPositions (settings .c) (length (lent .pattern-codes)) (length (lent .pattern-positions))
+        ≡ accepted (counts .pattern ∷ [])
     pub start : startReply startTask (length (lent .work)) ≡ accepted (h ∷ [])
     pub threshold-fits : mag (settings .threshold) < signedLimit
 

@@ -13,20 +13,41 @@ use Rattle.requests.specs.Requests.{textOf, patternOf, taskOf}
 abbrev asked : Settings
 asked = record { k = 1; w = 1; c = 1; u = 2; v = 3; threshold = negsuc 3 }
 
+-- the same with c one higher
+abbrev milder : Settings
+milder = record { k = 1; w = 1; c = 2; u = 2; v = 3; threshold = negsuc 3 }
+
 -- k 2, w 1, c 1
 abbrev longer : Settings
 longer = record { k = 2; w = 1; c = 1; u = 1; v = 1; threshold = negsuc 0 }
 
 pub record RequestExamples : Type 0 where
-  -- ACAG and AACG: A occurs twice in the text and is struck there; it stays in the read, whose sketch is not struck
-  pub task : taskOf asked (asBytes "ACAG") (asBytes "AACG") ≡ taskWith (1 ∷ 2 ∷ []) (0 ∷ 0 ∷ 1 ∷ 2 ∷ []) 2 3 (negsuc 3)
-  -- the struck text keeps the positions of its entries
+  -- ACAG and AACG: A occurs twice in the text, and is struck in text and read
+  pub task : taskOf asked (asBytes "ACAG") (asBytes "AACG") ≡ taskWith (1 ∷ 2 ∷ []) (1 ∷ 2 ∷ []) 2 3 (negsuc 3)
+  -- with c 2 it stays in both
+  pub milder-task : taskOf milder (asBytes "ACAG") (asBytes "AACG") ≡ taskWith (0 ∷ 1 ∷ 0 ∷ 2 ∷ []) (0 ∷ 0 ∷ 1 ∷ 2 ∷ []) 2 3 (negsuc 3)
+  -- what is struck keeps the positions of the rest, in text and read
   pub text-positions : positions (textOf asked (asBytes "ACAG")) ≡ 1 ∷ 3 ∷ []
+  pub read-positions : positions (patternOf asked (asBytes "ACAG") (asBytes "AACG")) ≡ 2 ∷ 3 ∷ []
+  -- the text's counts decide, and not the read's: C, which the text has once, and T, which it lacks, stay in a read that has them twice
+  pub repeated : codes (patternOf asked (asBytes "ACAG") (asBytes "CCTT")) ≡ 1 ∷ 1 ∷ 3 ∷ 3 ∷ []
+  -- a read of which nothing remains
+  pub emptied : codes (patternOf asked (asBytes "ACAG") (asBytes "AA")) ≡ []
   -- ACG with k 2 and w 1: AC and CG
-  pub longer-read : codes (patternOf longer (asBytes "ACG")) ≡ 1 ∷ 6 ∷ []
+  pub longer-read : codes (patternOf longer (asBytes "TACG") (asBytes "ACG")) ≡ 1 ∷ 6 ∷ []
   -- TACG: TA, AC and CG
   pub longer-text : codes (textOf longer (asBytes "TACG")) ≡ 12 ∷ 1 ∷ 6 ∷ []
 
 pub request-examples : RequestExamples
 unfolding strike-computes textOf patternOf taskOf
-request-examples = record { task = refl; text-positions = refl; longer-read = refl; longer-text = refl }
+request-examples =
+    record {
+      task = refl;
+      milder-task = refl;
+      text-positions = refl;
+      read-positions = refl;
+      repeated = refl;
+      emptied = refl;
+      longer-read = refl;
+      longer-text = refl;
+    }
