@@ -11,7 +11,7 @@ use Rattle.base.specs.Limits.{kLimit, wLimit, letterLimit, outside, textLimit, 
 use Rattle.kmers.specs.Kmers.{Entry, entries}
 use Rattle.minimizers.specs.Sketch.{sketch}
 use Rattle.sketch.specs.Replies.{checkedLetters, roomFor, sketchReply}
-use Rattle.strike.specs.Strike.{struck, strikeReply}
+use Rattle.strike.specs.Strike.{strike, strikeReply}
 use Rattle.store.specs.Save.{stored, storable, saveReply}
 use Rattle.store.specs.Words.{isHeader, headerK}
 use Rattle.store.specs.Load.{Judged, good, bad, withEntry, judgeFrom, judge, storeK, storeW, loadRoom, judgedReply, loadReply}
@@ -44,13 +44,13 @@ sketch-tells k w letters codeRoom positionRoom =
     (past (ltb letterLimit (length letters)) 2 []
     (room-tells (length (sketch k w letters)) codeRoom positionRoom)))
 
-pub strike-tells : (cs ps : List ℕ) (c codeRoom positionRoom : ℕ) → Tells (strikeReply cs ps c codeRoom positionRoom)
+pub strike-tells : (deciding cs ps : List ℕ) (c codeRoom positionRoom : ℕ) → Tells (strikeReply deciding cs ps c codeRoom positionRoom)
 unfolding strikeReply
-strike-tells cs ps c codeRoom positionRoom =
+strike-tells deciding cs ps c codeRoom positionRoom =
     past (not (eqb (length cs) (length ps))) 4 []
-    (past (ltb textLimit (length cs)) 7 []
+    (past (ltb textLimit (length deciding)) 7 []
     (past (outside 1 textLimit c) 5 []
-    (room-tells (length (struck c (entries cs ps))) codeRoom positionRoom)))
+    (room-tells (length (strike deciding c (entries cs ps))) codeRoom positionRoom)))
 
 pub save-tells : (k w : ℕ) (cs ps : List ℕ) (room : ℕ) → Tells (saveReply k w cs ps room)
 unfolding saveReply

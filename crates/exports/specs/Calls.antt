@@ -23,11 +23,12 @@ pub record SketchCall (k w : ℕ) (letters codes₀ positions₀ : List ℕ) (re
   pub codes-after : codes′ ≡ sketchCodes k w letters codes₀ positions₀
   pub positions-after : positions′ ≡ sketchPositions k w letters codes₀ positions₀
 
-pub record StrikeCall (codes positions : List ℕ) (c : ℕ) (codes₀ positions₀ : List ℕ) (result number : ℕ) (codes′ positions′ : List ℕ) :
+-- the codes that decide; the codes and positions to strike
+pub record StrikeCall (deciding codes positions : List ℕ) (c : ℕ) (codes₀ positions₀ : List ℕ) (result number : ℕ) (codes′ positions′ : List ℕ) :
     Type 0 where
-  pub tells : Tells (strikeReply codes positions c (length codes₀) (length positions₀)) result number
-  pub codes-after : codes′ ≡ strikeCodes codes positions c codes₀ positions₀
-  pub positions-after : positions′ ≡ strikePositions codes positions c codes₀ positions₀
+  pub tells : Tells (strikeReply deciding codes positions c (length codes₀) (length positions₀)) result number
+  pub codes-after : codes′ ≡ strikeCodes deciding codes positions c codes₀ positions₀
+  pub positions-after : positions′ ≡ strikePositions deciding codes positions c codes₀ positions₀
 
 pub record SaveCall (k w : ℕ) (codes positions words₀ : List ℕ) (result number : ℕ) (words′ : List ℕ) : Type 0 where
   pub tells : Tells (saveReply k w codes positions (length words₀)) result number

@@ -60,10 +60,35 @@ pub extern "C" fn huddlewool_strike(
     positions_out: &mut [u32],
     number: &mut u32,
 ) -> usize
-    ensures { λ r. ⌜ StrikeCall (now (codes .entry)) (now (positions .entry)) c (now («codes_out» .entry)) (now («positions_out» .entry))
-        r (now (number .exit)) (now («codes_out» .exit)) (now («positions_out» .exit)) ⌝ }
+    ensures { λ r. ⌜ StrikeCall (now (codes .entry)) (now (codes .entry)) (now (positions .entry)) c (now («codes_out» .entry))
+        (now («positions_out» .entry)) r (now (number .exit)) (now («codes_out» .exit)) (now («positions_out» .exit)) ⌝ }
 {
     let answer = of_strike(strike::strike(codes, positions, c, codes_out, positions_out));
+    *number = answer.0;
+    answer.1
+}
+
+#[no_mangle]
+pub extern "C" fn huddlewool_strike_read(
+    text: &[u32],
+    codes: &[u32],
+    positions: &[u32],
+    c: u32,
+    codes_out: &mut [u32],
+    positions_out: &mut [u32],
+    number: &mut u32,
+) -> usize
+    ensures { λ r. ⌜ StrikeCall (now (text .entry)) (now (codes .entry)) (now (positions .entry)) c (now («codes_out» .entry))
+        (now («positions_out» .entry)) r (now (number .exit)) (now («codes_out» .exit)) (now («positions_out» .exit)) ⌝ }
+{
+    let answer = of_strike(strike::strike_read(
+        text,
+        codes,
+        positions,
+        c,
+        codes_out,
+        positions_out,
+    ));
     *number = answer.0;
     answer.1
 }
