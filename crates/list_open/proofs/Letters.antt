@@ -12,7 +12,7 @@ use Rattle.sketch.specs.Replies.{sketchReply, sketchCodes, sketchPositions}
 use Rattle.sketch.specs.Answers.{replyOf, Sketches}
 use Rattle.sketch.specs.declared.Sketched.{Sketched}
 use Rattle.kmers.proofs.Entries.{entries-same, length-codes, length-positions}
-use Rattle.strike.specs.Strike.{strikeReply}
+use Rattle.strike.specs.Strike.{struck}
 use Rattle.sketch.proofs.Accepted.{Held, sketch-held}
 use Rattle.session_start.specs.Start.{startReply, startWords}
 use Rattle.requests.specs.declared.Settings.{Settings}
@@ -20,11 +20,11 @@ use Rattle.requests.specs.Requests.{textOf, patternOf, taskOf}
 use Rattle.list_input.specs.Input.{given}
 use Rattle.answers.specs.Numbers.{numberOf, valueOf}
 use Rattle.answers.proofs.Accepted.{sketch-tells}
-use Rattle.list_open.specs.Calls.{andThen, sketchesReply, strikingReply, callsReply}
+use Rattle.list_open.specs.Calls.{andThen, strikingOf, sketchesReply, strikingReply, patternReply, callsReply}
 use Rattle.list_open.specs.Opening.{openedOf, positionsAfter, workAfter, Opens, OpensSketches}
 use Rattle.list_open.specs.declared.calls.Opened.{Opened}
 use Rattle.list_open.specs.declared.calls.Opened.the-variants.{Refused}
-use Rattle.list_open.proofs.Replies.{refused-opened, refused-after, refused-where, front-over}
+use Rattle.list_open.proofs.Replies.{and-refused, refused-opened, refused-after, refused-where, front-over}
 
 -- ---- one sketch in two buffers of 4,096 words, and its answer as numbers
 
@@ -68,10 +68,6 @@ module _ (k w : ℕ) (letters codes₀ places₀ codes₁ places₁ : List ℕ) 
 
 -- ---- the calls one after the other
 
-and-refused : (first next : Reply) → numberOf first ≢ 0 → andThen first next ≡ first
-and-refused (accepted values) next h = absurd (h refl)
-and-refused (refused number values) next h = refl
-
 module _ (s : Settings) (text read places work : List ℕ) where
   abbrev of-text : Reply
   of-text = sketchReply (s .k) (s .w) text lineLimit lineLimit
@@ -79,67 +75,69 @@ module _ (s : Settings) (text read places work : List ℕ) where
   abbrev of-read : Reply
   of-read = sketchReply (s .k) (s .w) read lineLimit lineLimit
 
-  -- a call before start refuses
-  before-start : (n : ℕ) → n ≡ numberOf (strikingReply s text read (length places)) → n ≢ 0
+  abbrev text-sketch : List Entry
+  text-sketch = sketch (s .k) (s .w) text
+
+  abbrev read-sketch : List Entry
+  read-sketch = sketch (s .k) (s .w) read
+
+  -- what the strike of the text answers by itself, and that of the read
+  abbrev text-strike : Reply
+  text-strike = strikingOf text-sketch text-sketch (s .c) (length places)
+
+  abbrev read-strike : Reply
+  read-strike = strikingOf text-sketch read-sketch (s .c) lineLimit
+
+  -- a sketch refuses, and so do all calls
+  sketch-refused : (n : ℕ) (reply : Reply) → sketchesReply s text read ≡ reply → n ≡ numberOf reply → n ≢ 0
       → Opens (given s text read) places work (Refused n) places work
-  unfolding openedOf positionsAfter workAfter callsReply
-  before-start n e h =
-      let calls = strikingReply s text read (length places) in
-      let not-zero : numberOf calls ≢ 0 = λ z. h (e ∙ z) in
+  unfolding openedOf positionsAfter workAfter callsReply patternReply strikingReply
+  sketch-refused n reply e f h =
+      let not-zero : numberOf reply ≢ 0 = λ z. h (f ∙ z) in
+      let struck : andThen (sketchesReply s text read) text-strike ≡ reply =
+      ap (λ (a : Reply). andThen a text-strike) e ∙ and-refused reply text-strike not-zero in
+      let calls : andThen (andThen (sketchesReply s text read) text-strike) read-strike ≡ reply =
+      ap (λ (a : Reply). andThen a read-strike) struck ∙ and-refused reply read-strike not-zero in
       record {
-        answer = ap Refused e ∙ refused-opened calls (startReply (taskOf s text read) (length work)) (s .k) (length (patternOf s read)) not-zero;
-        positions-after = refused-after calls (positions (textOf s text)) places not-zero;
-        work-after = refused-where calls (startWords (taskOf s text read) work) work not-zero;
+        answer = rw calls (ap Refused f
+            ∙ refused-opened reply (startReply (taskOf s text read) (length work)) (s .k) (length (patternOf s text read)) not-zero);
+        positions-after = rw struck (refused-after reply (positions (textOf s text)) places not-zero);
+        work-after = rw calls (refused-where reply (startWords (taskOf s text read) work) work not-zero);
       }
 
   pub text-refused : (n : ℕ) → n ≡ numberOf of-text → n ≢ 0 → Opens (given s text read) places work (Refused n) places work
-  unfolding strikingReply sketchesReply
-  text-refused n e h =
-      let not-zero : numberOf of-text ≢ 0 = λ z. h (e ∙ z) in
-      let first : andThen of-text of-read ≡ of-text = and-refused of-text of-read not-zero in
-      let strikes = strikeReply (codes (sketch (s .k) (s .w) text)) (positions (sketch (s .k) (s .w) text)) (s .c) lineLimit (length places) in
-      before-start n (e ∙ ap numberOf (sym (ap (λ (a : Reply). andThen a strikes) first ∙ and-refused of-text strikes not-zero))) h
+  unfolding sketchesReply
+  text-refused n e h = sketch-refused n of-text (and-refused of-text of-read (λ z. h (e ∙ z))) e h
 
   module _ (i : ℕ) (text-accepts : of-text ≡ accepted (i ∷ [])) where
     pub read-refused : (n : ℕ) → n ≡ numberOf of-read → n ≢ 0 → Opens (given s text read) places work (Refused n) places work
-    unfolding strikingReply sketchesReply
-    read-refused n e h =
-        let not-zero : numberOf of-read ≢ 0 = λ z. h (e ∙ z) in
-        let first : andThen of-text of-read ≡ of-read = ap (λ (a : Reply). andThen a of-read) text-accepts in
-        let strikes = strikeReply (codes (sketch (s .k) (s .w) text)) (positions (sketch (s .k) (s .w) text)) (s .c) lineLimit (length places) in
-        before-start n (e ∙ ap numberOf (sym (ap (λ (a : Reply). andThen a strikes) first ∙ and-refused of-read strikes not-zero))) h
+    unfolding sketchesReply
+    read-refused n e h = sketch-refused n of-read (ap (λ (a : Reply). andThen a of-read) text-accepts) e h
 
     module _ (j : ℕ) (read-accepts : of-read ≡ accepted (j ∷ [])) where
-      striking : (room : ℕ)
-          → strikingReply s text read room ≡ strikeReply (codes (sketch (s .k) (s .w) text)) (positions (sketch (s .k) (s .w) text)) (s .c) lineLimit room
+      striking : (room : ℕ) → strikingReply s text read room ≡ strikingOf text-sketch text-sketch (s .c) room
       unfolding strikingReply sketchesReply
       striking room =
-          ap (λ (a : Reply). andThen (andThen a of-read)
-          (strikeReply (codes (sketch (s .k) (s .w) text)) (positions (sketch (s .k) (s .w) text)) (s .c) lineLimit room)) text-accepts
-          ∙ ap (λ (a : Reply). andThen a (strikeReply (codes (sketch (s .k) (s .w) text)) (positions (sketch (s .k) (s .w) text)) (s .c) lineLimit room))
-          read-accepts
+          ap (λ (a : Reply). andThen (andThen a of-read) (strikingOf text-sketch text-sketch (s .c) room)) text-accepts
+          ∙ ap (λ (a : Reply). andThen a (strikingOf text-sketch text-sketch (s .c) room)) read-accepts
 
-      -- both sketches are accepted: the rest is strike's and start's
+      -- both sketches are accepted: the rest is the strikes' and start's
       opens-sketches : (r : Opened) (places′ work′ : List ℕ)
-          → OpensSketches (codes (sketch (s .k) (s .w) text)) (positions (sketch (s .k) (s .w) text)) (codes (sketch (s .k) (s .w) read)) s places work r
-          places′ work′
+          → OpensSketches (codes text-sketch) (positions text-sketch) (codes read-sketch) (positions read-sketch) s places work r places′ work′
           → Opens (given s text read) places work r places′ work′
-      unfolding openedOf positionsAfter workAfter callsReply taskOf textOf patternOf
+      unfolding openedOf positionsAfter workAfter callsReply patternReply taskOf textOf patternOf struck
       opens-sketches r places′ work′ o =
-          let es : List Entry = sketch (s .k) (s .w) text in
-          let cs : List ℕ = codes es in
-          let ps : List ℕ = positions es in
-          let same : entries cs ps ≡ es = entries-same es in
-          let size : length (codes (sketch (s .k) (s .w) read)) ≡ length (sketch (s .k) (s .w) read) = length-codes (sketch (s .k) (s .w) read) in
-          let calls : strikingReply s text read (length places) ≡ strikeReply cs ps (s .c) lineLimit (length places) = striking (length places) in
+          let texts : entries (codes text-sketch) (positions text-sketch) ≡ text-sketch = entries-same text-sketch in
+          let reads : entries (codes read-sketch) (positions read-sketch) ≡ read-sketch = entries-same read-sketch in
+          let calls : strikingReply s text read (length places) ≡ text-strike = striking (length places) in
           record {
-            answer = rw (calls, ← size) (rw same at (o .answer));
-            positions-after = rw calls (rw same at (o .positions-after));
-            work-after = rw calls (rw same at (o .work-after));
+            answer = rw calls (rw (texts, reads) at (o .answer));
+            positions-after = rw calls (rw texts at (o .positions-after));
+            work-after = rw calls (rw (texts, reads) at (o .work-after));
           }
 
-      pub opens-fronts : (cs ps pattern : List ℕ) → cs ≡ codes (sketch (s .k) (s .w) text) → ps ≡ positions (sketch (s .k) (s .w) text)
-          → pattern ≡ codes (sketch (s .k) (s .w) read) → (r : Opened) (places′ work′ : List ℕ)
-          → OpensSketches cs ps pattern s places work r places′ work′
+      pub opens-fronts : (cs ps rcs rps : List ℕ) → cs ≡ codes text-sketch → ps ≡ positions text-sketch → rcs ≡ codes read-sketch
+          → rps ≡ positions read-sketch → (r : Opened) (places′ work′ : List ℕ)
+          → OpensSketches cs ps rcs rps s places work r places′ work′
           → Opens (given s text read) places work r places′ work′
-      opens-fronts cs ps pattern e f g r places′ work′ o = opens-sketches r places′ work′ (rw (e, f, g) at o)
+      opens-fronts cs ps rcs rps e f g h r places′ work′ o = opens-sketches r places′ work′ (rw (e, f, g, h) at o)

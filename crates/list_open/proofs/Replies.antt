@@ -11,6 +11,11 @@ use Rattle.list_open.specs.Calls.{andThen}
 use Rattle.list_open.specs.Opening.{openedBy, whereAccepted}
 use Rattle.list_open.specs.declared.calls.Opened.the-variants.{Refused}
 
+-- a refusal is the answer, whatever the next call would say
+pub and-refused : (first next : Reply) → numberOf first ≢ 0 → andThen first next ≡ first
+and-refused (accepted values) next h = absurd (h refl)
+and-refused (refused number values) next h = refl
+
 pub refused-opened : (reply next : Reply) (k size : ℕ) → numberOf reply ≢ 0 → Refused (numberOf reply) ≡ openedBy (andThen reply next) k size
 refused-opened (accepted values) next k size h = absurd (h refl)
 refused-opened (refused number values) next k size h = refl

@@ -1,4 +1,4 @@
--- From the two sketches to the session: what strike and start, one after the other, answer and leave.
+-- From the two sketches to the session: what the two strikes and start, one after the other, answer and leave.
 use Prim.Native.Nat.{ℕ, _≤_}
 use mathlib.Core.Path.{_≡_, sym, ap, _∙_}
 use mathlib.Core.Logic.{_≢_}
@@ -9,7 +9,7 @@ use Rattle.base.specs.Replies.{Reply, accepted, over, after}
 use Rattle.kmers.specs.Kmers.{codes, positions, entries}
 use Rattle.kmers.proofs.Entries.{length-codes}
 use Rattle.requests.specs.declared.Settings.{Settings}
-use Rattle.strike.specs.Strike.{struck, strikeReply, strikeCodes, strikePositions}
+use Rattle.strike.specs.Strike.{strike, strikeReply, strikeCodes, strikePositions}
 use Rattle.strike.specs.Answers.{replyOf as struckReply}
 use Rattle.strike.specs.declared.Struck.{Struck}
 use Rattle.sketch.proofs.Accepted.{Held}
@@ -21,97 +21,148 @@ use Rattle.session_start.specs.declared.Started.{Started}
 use Rattle.answers.specs.Numbers.{numberOf, valueOf}
 use Rattle.answers.proofs.Accepted.{strike-tells, start-tells}
 use Rattle.list_open.specs.Calls.{andThen}
-use Rattle.list_open.specs.Opening.{openedBy, whereAccepted, OpensSketches}
+use Rattle.list_open.specs.Opening.{openedBy, whereAccepted, patternTask, struckTask, OpensSketches, OpensPattern}
+use Rattle.list_open.specs.declared.calls.Opened.{Opened}
 use Rattle.list_open.specs.declared.calls.Opened.the-variants.{Refused, Session}
-use Rattle.list_open.proofs.Replies.{refused-opened, refused-only, refused-where, front-over}
+use Rattle.list_open.proofs.Replies.{and-refused, refused-opened, refused-only, refused-where, front-over}
 
-module _ (cs ps pattern places room : List ℕ) (settings : Settings) (work : List ℕ) (long : length room ≡ lineLimit) where
-  abbrev k : ℕ
-  k = settings .k
+-- ---- one strike into a buffer of 4,096 codes and one for positions, and its answer as numbers
 
-  abbrev c : ℕ
-  c = settings .c
+pub record StrikeMade (deciding cs ps : List ℕ) (c : ℕ) (codes₀ places₀ : List ℕ) (r : Struck) (codes₁ places₁ : List ℕ) (n m : ℕ) :
+    Type 0 where
+  pub answer : struckReply r ≡ strikeReply deciding cs ps c (length codes₀) (length places₀)
+  pub codes-after : codes₁ ≡ strikeCodes deciding cs ps c codes₀ places₀
+  pub positions-after : places₁ ≡ strikePositions deciding cs ps c codes₀ places₀
+  pub number : n ≡ numberOf (struckReply r)
+  pub count : m ≡ valueOf (struckReply r)
 
+module _ (deciding cs ps : List ℕ) (c : ℕ) (codes₀ places₀ : List ℕ) (r : Struck) (codes₁ places₁ : List ℕ) (n m : ℕ)
+    (made : StrikeMade deciding cs ps c codes₀ places₀ r codes₁ places₁ n m) (long : length codes₀ ≡ lineLimit) where
   abbrev reply : Reply
-  reply = strikeReply cs ps c lineLimit (length places)
+  reply = strikeReply deciding cs ps c lineLimit (length places₀)
+
+  replied : struckReply r ≡ reply
+  replied = rw long at (made .answer)
+
+  pub strike-number : n ≡ numberOf reply
+  strike-number = made .number ∙ ap numberOf replied
+
+  pub positions-left : places₁ ≡ after reply (positions (strike deciding c (entries cs ps))) places₀
+  unfolding strikePositions
+  positions-left = rw long at (made .positions-after)
+
+  module _ (zero : n ≡ 0) where
+    pub strike-accepts : reply ≡ accepted (m ∷ [])
+    strike-accepts =
+        strike-tells deciding cs ps c lineLimit (length places₀) .tells (sym strike-number ∙ zero)
+        ∙ ap (λ (i : ℕ). accepted (i ∷ [])) (sym (made .count ∙ ap valueOf replied))
+
+    held : Held (length (strike deciding c (entries cs ps))) lineLimit (length places₀) m
+    held = strike-held deciding cs ps c lineLimit (length places₀) m strike-accepts
+
+    pub strike-counts : m ≡ length (strike deciding c (entries cs ps))
+    strike-counts = held .number
+
+    -- the entries kept lie within their buffer
+    pub strike-inside : m ≤ lineLimit
+    strike-inside = held .in-codes
+
+    pub strike-front : take m codes₁ ≡ codes (strike deciding c (entries cs ps))
+    unfolding strikeCodes
+    strike-front =
+        let e : codes₁ ≡ after reply (codes (strike deciding c (entries cs ps))) codes₀ = rw long at (made .codes-after) in
+        ap (take m) (e ∙ ap (λ (a : Reply). after a (codes (strike deciding c (entries cs ps))) codes₀) strike-accepts)
+        ∙ front-over (codes (strike deciding c (entries cs ps))) codes₀ m (held .number ∙ sym (length-codes (strike deciding c (entries cs ps))))
+
+-- ---- from the strike of the read on
+
+module _ (cs text rcs rps : List ℕ) (s : Settings) (work : List ℕ) where
+  abbrev read-reply : Reply
+  read-reply = strikeReply cs rcs rps (s .c) lineLimit lineLimit
 
   abbrev task : Task
-  task = taskWith (codes (struck c (entries cs ps))) pattern (settings .u) (settings .v) (settings .threshold)
+  task = patternTask cs text rcs rps s
 
-  module _ (r : Struck) (answer : struckReply r ≡ strikeReply cs ps c (length room) (length places)) (written places′ : List ℕ)
-      (codes-are : written ≡ strikeCodes cs ps c room places) (positions-are : places′ ≡ strikePositions cs ps c room places) (n m : ℕ)
-      (number : n ≡ numberOf (struckReply r)) (count : m ≡ valueOf (struckReply r)) where
-    replied : struckReply r ≡ reply
-    replied = rw long at answer
+  abbrev size : ℕ
+  size = length (strike cs (s .c) (entries rcs rps))
 
-    numbered : n ≡ numberOf reply
-    numbered = number ∙ ap numberOf replied
+  pub pattern-refused : (n : ℕ) → n ≡ numberOf read-reply → n ≢ 0 → OpensPattern cs text rcs rps s work (Refused n) work
+  pattern-refused n e h =
+      let not-zero : numberOf read-reply ≢ 0 = λ z. h (e ∙ z) in
+      record {
+        answer = ap Refused e ∙ refused-opened read-reply (startReply task (length work)) (s .k) size not-zero;
+        work-after = refused-where read-reply (startWords task work) work not-zero;
+      }
 
-    left : places′ ≡ after reply (positions (struck c (entries cs ps))) places
-    unfolding strikePositions
-    left = rw long at positions-are
+  module _ (m : ℕ) (accepts : read-reply ≡ accepted (m ∷ [])) (pattern : List ℕ) (front : pattern ≡ codes (strike cs (s .c) (entries rcs rps)))
+      (r : Started) (work′ : List ℕ) (started : startedReply r ≡ startReply (taskWith text pattern (s .u) (s .v) (s .threshold)) (length work))
+      (words : work′ ≡ startWords (taskWith text pattern (s .u) (s .v) (s .threshold)) work) (n : ℕ) (number : n ≡ numberOf (startedReply r)) where
+    starts : startedReply r ≡ startReply task (length work)
+    starts = started ∙ ap (λ (l : List ℕ). startReply (taskWith text l (s .u) (s .v) (s .threshold)) (length work)) front
 
-    pub strike-refused : n ≢ 0 → OpensSketches cs ps pattern settings places work (Refused n) places′ work
-    strike-refused h =
-        let not-zero : numberOf reply ≢ 0 = λ e. h (numbered ∙ e) in
+    work-is : work′ ≡ whereAccepted read-reply (startWords task work) work
+    work-is =
+        words ∙ ap (λ (l : List ℕ). startWords (taskWith text l (s .u) (s .v) (s .threshold)) work) front
+        ∙ sym (ap (λ (a : Reply). whereAccepted a (startWords task work) work) accepts)
+
+    opened : openedBy (startReply task (length work)) (s .k) size ≡ openedBy (andThen read-reply (startReply task (length work))) (s .k) size
+    opened = sym (ap (λ (a : Reply). openedBy (andThen a (startReply task (length work))) (s .k) size) accepts)
+
+    pub start-refused : n ≢ 0 → OpensPattern cs text rcs rps s work (Refused n) work′
+    start-refused h =
+        let e : n ≡ numberOf (startReply task (length work)) = number ∙ ap numberOf starts in
         record {
-          answer = ap Refused numbered ∙ refused-opened reply (startReply task (length work)) k (length pattern) not-zero;
-          positions-after = left;
-          work-after = refused-where reply (startWords task work) work not-zero;
+          answer = ap Refused e ∙ refused-only (startReply task (length work)) (s .k) size (λ z. h (e ∙ z)) ∙ opened;
+          work-after = work-is;
         }
 
-    module _ (zero : n ≡ 0) where
-      accepts : reply ≡ accepted (m ∷ [])
-      accepts =
-          strike-tells cs ps c lineLimit (length places) .tells (sym numbered ∙ zero)
-          ∙ ap (λ (i : ℕ). accepted (i ∷ [])) (sym (count ∙ ap valueOf replied))
+    pub start-accepted : n ≡ 0 → (i : ℕ) → i ≡ size → OpensPattern cs text rcs rps s work (Session (s .k) i) work′
+    start-accepted z i counted =
+        let e : startReply task (length work) ≡ accepted (valueOf (startReply task (length work)) ∷ []) =
+        start-tells task (length work) .tells (sym (number ∙ ap numberOf starts) ∙ z) in
+        record {
+          answer = ap (Session (s .k)) counted ∙ sym (ap (λ (a : Reply). openedBy a (s .k) size) e) ∙ opened;
+          work-after = work-is;
+        }
 
-      held : Held (length (struck c (entries cs ps))) lineLimit (length places) m
-      held = strike-held cs ps c lineLimit (length places) m accepts
+-- ---- from the strike of the text on
 
-      written-is : written ≡ over (codes (struck c (entries cs ps))) room
-      unfolding strikeCodes
-      written-is =
-          let e : written ≡ after reply (codes (struck c (entries cs ps))) room = rw long at codes-are in e
-          ∙ ap (λ (a : Reply). after a (codes (struck c (entries cs ps))) room) accepts
+module _ (cs ps rcs rps : List ℕ) (s : Settings) (places work places′ : List ℕ)
+    (left : places′ ≡ after (strikeReply cs cs ps (s .c) lineLimit (length places)) (positions (strike cs (s .c) (entries cs ps))) places) where
+  abbrev text-reply : Reply
+  text-reply = strikeReply cs cs ps (s .c) lineLimit (length places)
 
-      front : take m written ≡ codes (struck c (entries cs ps))
-      front = ap (take m) written-is ∙ front-over (codes (struck c (entries cs ps))) room m (held .number ∙ sym (length-codes (struck c (entries cs ps))))
+  abbrev next-reply : Reply
+  next-reply = strikeReply cs rcs rps (s .c) lineLimit lineLimit
 
-      -- the struck codes lie within their buffer
-      pub inside : m ≤ lineLimit
-      inside = held .in-codes
+  abbrev struck-task : Task
+  struck-task = struckTask cs ps rcs rps s
 
-      module _ (s : Started) (work′ : List ℕ)
-          (started : startedReply s ≡ startReply (taskWith (take m written) pattern (settings .u) (settings .v) (settings .threshold)) (length work))
-          (words : work′ ≡ startWords (taskWith (take m written) pattern (settings .u) (settings .v) (settings .threshold)) work) (n′ : ℕ)
-          (number′ : n′ ≡ numberOf (startedReply s)) where
-        starts : startedReply s ≡ startReply task (length work)
-        starts = started ∙ ap (λ (l : List ℕ). startReply (taskWith l pattern (settings .u) (settings .v) (settings .threshold)) (length work)) front
+  abbrev pattern-size : ℕ
+  pattern-size = length (strike cs (s .c) (entries rcs rps))
 
-        work-is : work′ ≡ whereAccepted reply (startWords task work) work
-        work-is =
-            words ∙ ap (λ (l : List ℕ). startWords (taskWith l pattern (settings .u) (settings .v) (settings .threshold)) work) front
-            ∙ sym (ap (λ (a : Reply). whereAccepted a (startWords task work) work) accepts)
+  -- what is left once the answer of both strikes is known
+  opens-both : (both : Reply) → andThen text-reply next-reply ≡ both → (r : Opened) (work′ : List ℕ)
+      → r ≡ openedBy (andThen both (startReply struck-task (length work))) (s .k) pattern-size
+      → work′ ≡ whereAccepted both (startWords struck-task work) work
+      → OpensSketches cs ps rcs rps s places work r places′ work′
+  opens-both both e r work′ f g =
+      record {
+        answer = f ∙ sym (ap (λ (a : Reply). openedBy (andThen a (startReply struck-task (length work))) (s .k) pattern-size) e);
+        positions-after = left;
+        work-after = g ∙ sym (ap (λ (a : Reply). whereAccepted a (startWords struck-task work) work) e);
+      }
 
-        opened : openedBy (startReply task (length work)) k (length pattern) ≡ openedBy (andThen reply (startReply task (length work))) k (length pattern)
-        opened = sym (ap (λ (a : Reply). openedBy (andThen a (startReply task (length work))) k (length pattern)) accepts)
+  pub text-struck-refused : (n : ℕ) → n ≡ numberOf text-reply → n ≢ 0 → OpensSketches cs ps rcs rps s places work (Refused n) places′ work
+  text-struck-refused n e h =
+      let not-zero : numberOf text-reply ≢ 0 = λ z. h (e ∙ z) in
+      opens-both text-reply (and-refused text-reply next-reply not-zero) (Refused n) work
+      (ap Refused e ∙ refused-opened text-reply (startReply struck-task (length work)) (s .k) pattern-size not-zero)
+      (refused-where text-reply (startWords struck-task work) work not-zero)
 
-        pub start-refused : n′ ≢ 0 → OpensSketches cs ps pattern settings places work (Refused n′) places′ work′
-        start-refused h =
-            let e : n′ ≡ numberOf (startReply task (length work)) = number′ ∙ ap numberOf starts in
-            record {
-              answer = ap Refused e ∙ refused-only (startReply task (length work)) k (length pattern) (λ z. h (e ∙ z)) ∙ opened;
-              positions-after = left;
-              work-after = work-is;
-            }
-
-        pub start-accepted : n′ ≡ 0 → OpensSketches cs ps pattern settings places work (Session k (length pattern)) places′ work′
-        start-accepted z =
-            let e : startReply task (length work) ≡ accepted (valueOf (startReply task (length work)) ∷ []) =
-            start-tells task (length work) .tells (sym (number′ ∙ ap numberOf starts) ∙ z) in
-            record {
-              answer = sym (ap (λ (a : Reply). openedBy a k (length pattern)) e) ∙ opened;
-              positions-after = left;
-              work-after = work-is;
-            }
+  pub text-struck : (m : ℕ) → text-reply ≡ accepted (m ∷ []) → (text : List ℕ) → text ≡ codes (strike cs (s .c) (entries cs ps))
+      → (r : Opened) (work′ : List ℕ) → OpensPattern cs text rcs rps s work r work′
+      → OpensSketches cs ps rcs rps s places work r places′ work′
+  text-struck m accepts text front r work′ o =
+      let own : OpensPattern cs (codes (strike cs (s .c) (entries cs ps))) rcs rps s work r work′ = rw front at o in
+      opens-both next-reply (ap (λ (a : Reply). andThen a next-reply) accepts) r work′ (own .answer) (own .work-after)

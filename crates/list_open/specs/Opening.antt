@@ -3,16 +3,16 @@ use Prim.Native.Nat.{ℕ}
 use mathlib.Core.Path.{_≡_}
 use mathlib.Core.List.{List}
 use lib.ListN.{length}
-use Rattle.mappings.specs.Score.{taskWith}
+use Rattle.mappings.specs.Score.{Task, taskWith}
 use Rattle.base.specs.Replies.{Reply, accepted, refused, after}
 use Rattle.kmers.specs.Kmers.{codes, positions, entries}
-use Rattle.strike.specs.Strike.{struck, strikeReply}
+use Rattle.strike.specs.Strike.{strike, strikeReply}
 use Rattle.session_start.specs.Start.{startReply, startWords}
 use Rattle.requests.specs.declared.Settings.{Settings}
 use Rattle.requests.specs.Requests.{textOf, patternOf, taskOf}
 use Rattle.base.specs.Limits.{lineLimit}
 use Rattle.list_input.specs.Input.{Input, malformed, given}
-use Rattle.list_open.specs.Calls.{andThen, strikingReply, callsReply}
+use Rattle.list_open.specs.Calls.{andThen, strikingReply, patternReply, callsReply}
 use Rattle.list_open.specs.declared.calls.Opened.{Opened}
 use Rattle.list_open.specs.declared.calls.Opened.the-variants.{Malformed, Refused, Session}
 
@@ -21,9 +21,17 @@ abbrev pub openedBy : Reply → ℕ → ℕ → Opened
 openedBy (accepted values) k size = Session k size
 openedBy (refused number values) k size = Refused number
 
+-- the task of a struck text's codes and of a read's sketch, given the codes that decide
+abbrev pub patternTask : List ℕ → List ℕ → List ℕ → List ℕ → Settings → Task
+patternTask cs text rcs rps s = taskWith text (codes (strike cs (s .c) (entries rcs rps))) (s .u) (s .v) (s .threshold)
+
+-- the task of two sketches, both struck
+abbrev pub struckTask : List ℕ → List ℕ → List ℕ → List ℕ → Settings → Task
+struckTask cs ps rcs rps s = patternTask cs (codes (strike cs (s .c) (entries cs ps))) rcs rps s
+
 unfoldable pub openedOf : Input → ℕ → ℕ → Opened
 openedOf malformed room lent = Malformed
-openedOf (given s text read) room lent = openedBy (callsReply s text read room lent) (s .k) (length (patternOf s read))
+openedOf (given s text read) room lent = openedBy (callsReply s text read room lent) (s .k) (length (patternOf s text read))
 
 -- the lent positions afterwards: those of the struck text, where the calls up to strike accept
 unfoldable pub positionsAfter : Input → List ℕ → List ℕ
@@ -34,10 +42,10 @@ abbrev pub whereAccepted : Reply → List ℕ → List ℕ → List ℕ
 whereAccepted (accepted values) new old = new
 whereAccepted (refused number values) new old = old
 
--- the work words afterwards: as start leaves them, where the calls up to strike accept
+-- the work words afterwards: as start leaves them, where the calls up to the strike of the read accept
 unfoldable pub workAfter : Input → ℕ → List ℕ → List ℕ
 workAfter malformed room work = work
-workAfter (given s text read) room work = whereAccepted (strikingReply s text read room) (startWords (taskOf s text read) work) work
+workAfter (given s text read) room work = whereAccepted (patternReply s text read room) (startWords (taskOf s text read) work) work
 
 -- what the calls answer and leave for an input, given the lent positions and work words
 pub record Opens (input : Input) (places work : List ℕ) (r : Opened) (places′ work′ : List ℕ) : Type 0 where
@@ -45,12 +53,20 @@ pub record Opens (input : Input) (places work : List ℕ) (r : Opened) (places�
   pub positions-after : places′ ≡ positionsAfter input places
   pub work-after : work′ ≡ workAfter input (length places) work
 
--- the same from strike on, given the sketches
-pub record OpensSketches (cs ps pattern : List ℕ) (s : Settings) (places work : List ℕ) (r : Opened) (places′ work′ : List ℕ) : Type 0 where
+-- the same from strike on, given the sketches of text and read
+pub record OpensSketches (cs ps rcs rps : List ℕ) (s : Settings) (places work : List ℕ) (r : Opened) (places′ work′ : List ℕ) : Type 0 where
   pub answer : r ≡ openedBy
-      (andThen (strikeReply cs ps (s .c) lineLimit (length places))
-      (startReply (taskWith (codes (struck (s .c) (entries cs ps))) pattern (s .u) (s .v) (s .threshold)) (length work))) (s .k) (length pattern)
-  pub positions-after : places′ ≡ after (strikeReply cs ps (s .c) lineLimit (length places)) (positions (struck (s .c) (entries cs ps))) places
+      (andThen (andThen (strikeReply cs cs ps (s .c) lineLimit (length places)) (strikeReply cs rcs rps (s .c) lineLimit lineLimit))
+      (startReply (struckTask cs ps rcs rps s) (length work))) (s .k) (length (strike cs (s .c) (entries rcs rps)))
+  pub positions-after : places′
+      ≡ after (strikeReply cs cs ps (s .c) lineLimit (length places)) (positions (strike cs (s .c) (entries cs ps))) places
   pub work-after : work′
-      ≡ whereAccepted (strikeReply cs ps (s .c) lineLimit (length places))
-      (startWords (taskWith (codes (struck (s .c) (entries cs ps))) pattern (s .u) (s .v) (s .threshold)) work) work
+      ≡ whereAccepted (andThen (strikeReply cs cs ps (s .c) lineLimit (length places)) (strikeReply cs rcs rps (s .c) lineLimit lineLimit))
+      (startWords (struckTask cs ps rcs rps s) work) work
+
+-- the same from the strike of the read on, given the codes that decide and those of the struck text
+pub record OpensPattern (cs text rcs rps : List ℕ) (s : Settings) (work : List ℕ) (r : Opened) (work′ : List ℕ) : Type 0 where
+  pub answer : r ≡ openedBy
+      (andThen (strikeReply cs rcs rps (s .c) lineLimit lineLimit) (startReply (patternTask cs text rcs rps s) (length work))) (s .k)
+      (length (strike cs (s .c) (entries rcs rps)))
+  pub work-after : work′ ≡ whereAccepted (strikeReply cs rcs rps (s .c) lineLimit lineLimit) (startWords (patternTask cs text rcs rps s) work) work

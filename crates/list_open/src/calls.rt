@@ -11,9 +11,9 @@ ghost use lib.ListN.{length};
 ghost use Rattle.base.specs.Limits.{lineLimit};
 ghost use Rattle.base.specs.Zeros.{zeros};
 ghost use Rattle.list_input.specs.Input.{given, inputOf};
-ghost use Rattle.list_open.specs.Opening.{Opens, OpensSketches};
+ghost use Rattle.list_open.specs.Opening.{Opens, OpensSketches, OpensPattern};
 
-// A session in the work words, with k and the number of entries of the read's sketch; or why there is none: what is malformed, or
+// A session in the work words, with k and the number of entries of the pattern; or why there is none: what is malformed, or
 // the number of the first call that refuses.
 pub enum Opened {
     Malformed,
@@ -27,27 +27,35 @@ fn line_zeros() -> [u32; PATTERN_LIMIT]
     [0u32; PATTERN_LIMIT]
 }
 
-// Strikes the text's sketch and starts the session. The struck text's positions stay in `positions`.
-fn open_sketches(
+// Strikes the read's sketch by the counts of the text's codes, which decide, and starts the session.
+fn open_pattern(
+    deciding: &[u32],
+    text: &[u32],
     codes: &[u32],
     places: &[u32],
-    pattern: &[u32],
     settings: Settings,
-    positions: &mut [u32],
     work: &mut [u32],
 ) -> Opened
     ensures { λ r.
-        ⌜ OpensSketches (now (codes .entry)) (now (places .entry)) (now (pattern .entry)) settings (now (positions .entry)) (now (work .entry)) r
-        (now (positions .exit)) (now (work .exit)) ⌝ }
+        ⌜ OpensPattern (now (deciding .entry)) (now (text .entry)) (now (codes .entry)) (now (places .entry)) settings (now (work .entry)) r
+        (now (work .exit)) ⌝ }
 {
-    let mut text = line_zeros();
-    let struck = of_strike(strike::strike(codes, places, settings.c, &mut text, positions));
+    let mut pattern = line_zeros();
+    let mut unused = line_zeros();
+    let struck = of_strike(strike::strike_read(
+        deciding,
+        codes,
+        places,
+        settings.c,
+        &mut pattern,
+        &mut unused,
+    ));
     if struck.0 != 0 {
         return Opened::Refused(struck.0);
     }
     let started = of_start(session_start::start(
-        &text[..struck.1],
-        pattern,
+        text,
+        &pattern[..struck.1],
         settings.u,
         settings.v,
         settings.threshold,
@@ -58,8 +66,37 @@ fn open_sketches(
     }
     Opened::Session {
         k: settings.k,
-        size: pattern.len(),
+        size: struck.1,
     }
+}
+
+// Strikes the text's sketch, and goes on with the read's. The struck text's positions stay in `positions`.
+fn open_sketches(
+    codes: &[u32],
+    places: &[u32],
+    read_codes: &[u32],
+    read_places: &[u32],
+    settings: Settings,
+    positions: &mut [u32],
+    work: &mut [u32],
+) -> Opened
+    ensures { λ r.
+        ⌜ OpensSketches (now (codes .entry)) (now (places .entry)) (now («read_codes» .entry)) (now («read_places» .entry)) settings
+        (now (positions .entry)) (now (work .entry)) r (now (positions .exit)) (now (work .exit)) ⌝ }
+{
+    let mut text = line_zeros();
+    let struck = of_strike(strike::strike(codes, places, settings.c, &mut text, positions));
+    if struck.0 != 0 {
+        return Opened::Refused(struck.0);
+    }
+    open_pattern(
+        codes,
+        &text[..struck.1],
+        read_codes,
+        read_places,
+        settings,
+        work,
+    )
 }
 
 // Sketches the text and the read, and goes on with the sketches.
@@ -80,14 +117,14 @@ fn open_lines(
     if of_text.0 != 0 {
         return Opened::Refused(of_text.0);
     }
-    let mut pattern = line_zeros();
-    let mut unused = line_zeros();
+    let mut read_codes = line_zeros();
+    let mut read_places = line_zeros();
     let of_read = of_sketch(sketch::sketch(
         read,
         settings.k,
         settings.w,
-        &mut pattern,
-        &mut unused,
+        &mut read_codes,
+        &mut read_places,
     ));
     if of_read.0 != 0 {
         return Opened::Refused(of_read.0);
@@ -95,7 +132,8 @@ fn open_lines(
     open_sketches(
         &codes[..of_text.1],
         &places[..of_text.1],
-        &pattern[..of_read.1],
+        &read_codes[..of_read.1],
+        &read_places[..of_read.1],
         settings,
         positions,
         work,

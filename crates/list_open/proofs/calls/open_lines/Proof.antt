@@ -45,11 +45,11 @@ else2 c = c .before .before
 abbrev at-of-sketch2 : tie.After-places3 → tie.After-of-sketch2
 at-of-sketch2 c = else2 c .before .before
 
-abbrev at-pattern3 : tie.After-open-sketches → tie.After-pattern3
-at-pattern3 c = c .before .before .before
+abbrev else2-read-places3 : tie.After-read-places3 → tie.Else2
+else2-read-places3 c = else2 (c .before .before)
 
-abbrev at-places3 : tie.After-open-sketches → tie.After-places3
-at-places3 c = at-pattern3 c .before
+abbrev else2-open-sketches : tie.After-open-sketches → tie.Else2
+else2-open-sketches c = else2-read-places3 (c .before .before .before)
 
 abbrev at-positions : tie.After-slice-known4 → tie.After-positions
 at-positions c = c .before .before .before
@@ -115,6 +115,9 @@ module _ (c : tie.After-of-sketch2) where
   abbrev read-codes : List ℕ
   read-codes = at-read .sketch2 .last .1 .1 .1 .0
 
+  abbrev read-places : List ℕ
+  read-places = at-read .sketch2 .last .1 .1 .1 .1 .0
+
   abbrev read-room : List ℕ
   read-room = at-line-zeros3 at-read .line-zeros3 .result
 
@@ -137,41 +140,36 @@ module _ (c : tie.After-of-sketch2) where
   m′ = c .of-sketch2 .result .1
 
   module _ (zero : n′ ≡ 0) where
-    read-hold : m′ ≤ length read-codes
-    read-hold =
+    read-few : m′ ≤ lineLimit
+    read-few =
         let args = at-start text-call .args in
-        let few : m′ ≤ lineLimit =
-        sketch-inside (args .settings .k) (args .settings .w) (args .read .now) read-room read-room′ read-codes (at-read .sketch2 .last .1 .1 .1 .1 .0)
+        sketch-inside (args .settings .k) (args .settings .w) (args .read .now) read-room read-room′ read-codes read-places
         (at-read .sketch2 .result) (at-read .sketch2 .ensures) read-long read-long′ n′ m′ (c .of-sketch2 .ensures .0) (c .of-sketch2 .ensures .1) zero
-        in
-        let l : length read-codes ≡ length read-room = at-read .sketch2 .kept .1 .1 .1 .0 in
-        omega (arith, read-long)
 
--- src/calls.rt:80:21
+    read-codes-hold : m′ ≤ length read-codes
+    read-codes-hold = let l : length read-codes ≡ length read-room = at-read .sketch2 .kept .1 .1 .1 .0 in omega (arith, read-few, read-long)
+
+    read-places-hold : m′ ≤ length read-places
+    read-places-hold = let l : length read-places ≡ length read-room′ = at-read .sketch2 .kept .1 .1 .1 .1 .0 in omega (arith, read-few, read-long′)
+
 line-zeros-requires : tie.Need-line-zeros-requires
 line-zeros-requires c κs = search needs
 
--- src/calls.rt:81:22
 line-zeros-requires-2 : tie.Need-line-zeros-requires-2
 line-zeros-requires-2 c κs = search needs
 
--- src/calls.rt:82:58
 slice-aggregate-sketch : tie.Need-slice-aggregate-sketch
 slice-aggregate-sketch c = search needs
 
--- src/calls.rt:82:70
 slice-aggregate-sketch-2 : tie.Need-slice-aggregate-sketch-2
 slice-aggregate-sketch-2 c = search needs
 
--- src/calls.rt:82:31
 sketch-requires : tie.Need-sketch-requires
 sketch-requires c κs = search needs
 
--- src/calls.rt:82:9
 of-sketch-requires : tie.Need-of-sketch-requires
 of-sketch-requires c κs = search needs
 
--- src/calls.rt:84:9
 returns : tie.Need-returns
 returns c =
     let call = c .before .before in
@@ -181,31 +179,24 @@ returns c =
     (at-text call .sketch .result) (at-text call .sketch .ensures) (text-long call) (text-long′ call) (n call) (m call) (call .of-sketch .ensures .0)
     (call .of-sketch .ensures .1)) (c .if1 .taken)
 
--- src/calls.rt:86:23
 line-zeros-requires-3 : tie.Need-line-zeros-requires-3
 line-zeros-requires-3 c κs = search needs
 
--- src/calls.rt:87:22
 line-zeros-requires-4 : tie.Need-line-zeros-requires-4
 line-zeros-requires-4 c κs = search needs
 
--- src/calls.rt:88:58
 slice-aggregate-sketch-3 : tie.Need-slice-aggregate-sketch-3
 slice-aggregate-sketch-3 c = search needs
 
--- src/calls.rt:88:72
 slice-aggregate-sketch-4 : tie.Need-slice-aggregate-sketch-4
 slice-aggregate-sketch-4 c = search needs
 
--- src/calls.rt:88:31
 sketch-requires-2 : tie.Need-sketch-requires-2
 sketch-requires-2 c κs = search needs
 
--- src/calls.rt:88:9
 of-sketch-requires-2 : tie.Need-of-sketch-requires-2
 of-sketch-requires-2 c κs = search needs
 
--- src/calls.rt:90:9
 returns-2 : tie.Need-returns-2
 returns-2 c =
     let c2 = c .before .before in
@@ -217,55 +208,55 @@ returns-2 c =
     (call .of-sketch .ensures .1) (text-zero c2) in
     read-refused (given-settings call) (args .text .now) (args .read .now) (args .positions .now) (args .work .now) (m call) t (n′ c2)
     (sketch-number (args .settings .k) (args .settings .w) (args .read .now) (read-room c2) (read-room′ c2) (read-codes c2)
-    (at-read c2 .sketch2 .last .1 .1 .1 .1 .0)
+    (read-places c2)
     (at-read c2 .sketch2 .result) (at-read c2 .sketch2 .ensures) (read-long c2) (read-long′ c2) (n′ c2) (m′ c2) (c2 .of-sketch2 .ensures .0)
     (c2 .of-sketch2 .ensures .1)) (c .if2 .taken)
 
--- src/calls.rt:93:9
 array-share-prefix-codes : tie.Need-array-share-prefix-codes
 array-share-prefix-codes c = let c2 = c .before .before in codes-hold (text-call c2) (text-zero c2)
 
--- src/calls.rt:93:9
 slice-aggregate-open-sketches : tie.Need-slice-aggregate-open-sketches
 slice-aggregate-open-sketches c =
     let c2 = c .before .before .before in let call = text-call c2 in sym (length-take-le (m call) (text-codes call) (codes-hold call (text-zero c2)))
 
--- src/calls.rt:94:9
 array-share-prefix-places : tie.Need-array-share-prefix-places
 array-share-prefix-places c = let c2 = c .before .before .before in places-hold (text-call c2) (text-zero c2)
 
--- src/calls.rt:94:9
 slice-aggregate-open-sketches-2 : tie.Need-slice-aggregate-open-sketches-2
 slice-aggregate-open-sketches-2 c =
     let c2 = at-of-sketch2 c in let call = text-call c2 in sym (length-take-le (m call) (text-places call) (places-hold call (text-zero c2)))
 
--- src/calls.rt:95:9
-array-share-prefix-pattern : tie.Need-array-share-prefix-pattern
-array-share-prefix-pattern c = let at-else = c .before .before in read-hold (at-else .before .before) (at-else .if2 .left)
+array-share-prefix-read-codes : tie.Need-array-share-prefix-read-codes
+array-share-prefix-read-codes c = let at-else = c .before .before in read-codes-hold (at-else .before .before) (at-else .if2 .left)
 
--- src/calls.rt:95:9
 slice-aggregate-open-sketches-3 : tie.Need-slice-aggregate-open-sketches-3
 slice-aggregate-open-sketches-3 c =
-    let at-else = c .before .before .before in let c2 = at-else .before .before in sym
-    (length-take-le (m′ c2) (read-codes c2) (read-hold c2 (at-else .if2 .left)))
+    let at-else = c .before .before .before in
+    let c2 = at-else .before .before in
+    sym (length-take-le (m′ c2) (read-codes c2) (read-codes-hold c2 (at-else .if2 .left)))
 
--- src/calls.rt:92:5
+array-share-prefix-read-places : tie.Need-array-share-prefix-read-places
+array-share-prefix-read-places c = let at-else = c .before .before .before in read-places-hold (at-else .before .before) (at-else .if2 .left)
+
+slice-aggregate-open-sketches-4 : tie.Need-slice-aggregate-open-sketches-4
+slice-aggregate-open-sketches-4 c =
+    let at-else = else2-read-places3 c in
+    let c2 = at-else .before .before in
+    sym (length-take-le (m′ c2) (read-places c2) (read-places-hold c2 (at-else .if2 .left)))
+
 open-sketches-requires : tie.Need-open-sketches-requires
 open-sketches-requires c κs = search needs
 
--- src/calls.rt:66:1
 same-length : tie.Need-same-length
 same-length c = search needs
 
--- src/calls.rt:66:1
 same-length-2 : tie.Need-same-length-2
 same-length-2 c = search needs
 
--- src/calls.rt:66:1
 returns-3 : tie.Need-returns-3
 returns-3 c =
     let opened = at-open-sketches c in
-    let at-else = else2 (at-places3 opened) in
+    let at-else = else2-open-sketches opened in
     let c2 = at-else .before .before in
     let call = text-call c2 in
     let args = at-start call .args in
@@ -275,16 +266,16 @@ returns-3 c =
     (call .of-sketch .ensures .1) (text-zero c2) in
     let r =
     sketch-accepts (args .settings .k) (args .settings .w) (args .read .now) (read-room c2) (read-room′ c2) (read-codes c2)
-    (at-read c2 .sketch2 .last .1 .1 .1 .1 .0)
+    (read-places c2)
     (at-read c2 .sketch2 .result) (at-read c2 .sketch2 .ensures) (read-long c2) (read-long′ c2) (n′ c2) (m′ c2) (c2 .of-sketch2 .ensures .0)
     (c2 .of-sketch2 .ensures .1) (at-else .if2 .left) in
-    let places′ = opened .open-sketches .last .1 .1 .1 .1 .0 in
-    let work′ = opened .open-sketches .last .1 .1 .1 .1 .1 .0 in
-    let o : OpensSketches (take (m call) (text-codes call)) (take (m call) (text-places call)) (take (m′ c2) (read-codes c2)) (args .settings)
-    (args .positions .now) (args .work .now) (opened .open-sketches .result) places′ work′ =
+    let places′ = opened .open-sketches .last .1 .1 .1 .1 .1 .0 in
+    let work′ = opened .open-sketches .last .1 .1 .1 .1 .1 .1 .0 in
+    let o : OpensSketches (take (m call) (text-codes call)) (take (m call) (text-places call)) (take (m′ c2) (read-codes c2))
+    (take (m′ c2) (read-places c2)) (args .settings) (args .positions .now) (args .work .now) (opened .open-sketches .result) places′ work′ =
     opened .open-sketches .ensures in
     opens-fronts (given-settings call) (args .text .now) (args .read .now) (args .positions .now) (args .work .now) (m call) t (m′ c2) r
-    (take (m call) (text-codes call)) (take (m call) (text-places call)) (take (m′ c2) (read-codes c2))
+    (take (m call) (text-codes call)) (take (m call) (text-places call)) (take (m′ c2) (read-codes c2)) (take (m′ c2) (read-places c2))
     (codes-front (args .settings .k) (args .settings .w) (args .text .now) (text-room call) (text-room′ call) (text-codes call) (text-places call)
     (at-text call .sketch .result) (at-text call .sketch .ensures) (text-long call) (text-long′ call) (n call) (m call) (call .of-sketch .ensures .0)
     (call .of-sketch .ensures .1) (text-zero c2))
@@ -292,7 +283,11 @@ returns-3 c =
     (at-text call .sketch .result) (at-text call .sketch .ensures) (text-long call) (text-long′ call) (n call) (m call) (call .of-sketch .ensures .0)
     (call .of-sketch .ensures .1) (text-zero c2))
     (codes-front (args .settings .k) (args .settings .w) (args .read .now) (read-room c2) (read-room′ c2) (read-codes c2)
-    (at-read c2 .sketch2 .last .1 .1 .1 .1 .0)
+    (read-places c2)
+    (at-read c2 .sketch2 .result) (at-read c2 .sketch2 .ensures) (read-long c2) (read-long′ c2) (n′ c2) (m′ c2) (c2 .of-sketch2 .ensures .0)
+    (c2 .of-sketch2 .ensures .1) (at-else .if2 .left))
+    (positions-front (args .settings .k) (args .settings .w) (args .read .now) (read-room c2) (read-room′ c2) (read-codes c2)
+    (read-places c2)
     (at-read c2 .sketch2 .result) (at-read c2 .sketch2 .ensures) (read-long c2) (read-long′ c2) (n′ c2) (m′ c2) (c2 .of-sketch2 .ensures .0)
     (c2 .of-sketch2 .ensures .1) (at-else .if2 .left)) (opened .open-sketches .result) places′ work′ o
 
@@ -318,8 +313,10 @@ open-lines-spec =
     slice-aggregate-open-sketches
     array-share-prefix-places
     slice-aggregate-open-sketches-2
-    array-share-prefix-pattern
+    array-share-prefix-read-codes
     slice-aggregate-open-sketches-3
+    array-share-prefix-read-places
+    slice-aggregate-open-sketches-4
     open-sketches-requires
     same-length
     same-length-2
