@@ -1,5 +1,5 @@
--- Document 01's nine cases as one theorem about the definitions, from letters on, and an example that only a struck text meets: all are
--- computed.
+-- Document 01's nine cases as one theorem about the definitions, from letters on, and an example that only a struck text and a struck
+-- read meet: all are computed.
 use Prim.Native.Nat.{ℕ}
 use mathlib.Core.Path.{_≡_, refl}
 use mathlib.Core.List.{List, [], _∷_}
@@ -17,7 +17,7 @@ use Rattle.mappings.proofs.Compute.{mappings-compute}
 use Rattle.mappings.proofs.Cases.{mapping, step, figure1}
 use Rattle.requests.specs.Requests.{textOf, patternOf, taskOf}
 
--- the task of text and read letters with k 1, w 1 and u = v = 1, the text struck with c
+-- the task of text and read letters with k 1, w 1 and u = v = 1, both struck with c
 abbrev struckTask : ℕ → List ℕ → List ℕ → ℤ → Task
 struckTask c text read threshold = taskOf (record { k = 1; w = 1; c = c; u = 1; v = 1; threshold = threshold }) text read
 
@@ -65,8 +65,8 @@ nine-cases =
       case9 = refl;
     }
 
--- ACAG struck with c 1 is CG, so the list is another than in case 6
-pub struck-text : answers (struckTask 1 (asBytes "ACAG") (asBytes "ACG") (pos 1)) 0 (step 9 ∷ step 9 ∷ [])
-    ≡ found (mapping 0 1 (pos 1) 2) 1 ∷ finished 2 ∷ []
+-- with c 1, A leaves ACAG and ACG: both are CG then, and the list is another than in case 6. Were the read not struck, its score would be 1
+pub struck-both : answers (struckTask 1 (asBytes "ACAG") (asBytes "ACG") (pos 1)) 0 (step 9 ∷ step 9 ∷ [])
+    ≡ found (mapping 0 1 (pos 2) 2) 1 ∷ finished 2 ∷ []
 unfolding strike-computes mappings-compute textOf patternOf taskOf
-struck-text = refl
+struck-both = refl

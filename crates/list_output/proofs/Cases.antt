@@ -10,12 +10,22 @@ pub example : outputOf (asBytes "1 1 100 1 1 1\nACAG\nACG\n") ≡ asBytes "first
 unfolding list-output-computes
 example = refl
 
--- it is another with the text not struck, with the pattern struck, with u and v or k and w exchanged, and with a last letter that is the
--- k-mer's first
+-- it is another with the text or the read not struck, with u and v or k and w exchanged, and with a last letter that is the k-mer's first
 pub second : outputOf (asBytes "3 2 1 2 1 -3\nCCTACGAGGTAC\nTTACTAC\n")
-    ≡ asBytes "first last score shared permille\n1 3 0 1 333\nfound 1 cells 1\n"
+    ≡ asBytes "first last score shared permille\n1 3 2 1 1000\nfound 1 cells 1\n"
 unfolding list-output-computes
 second = refl
+
+-- A occurs three times in the text: with c 2 it leaves text and read, and C and G of the read are found. Were it to stay in the read, or
+-- to leave it by the read's own counts, nothing would be. With c 3 it stays in both
+pub record Striking : Type 0 where
+  pub struck : outputOf (asBytes "1 1 2 1 1 1\nACAGA\nAACG\n") ≡ asBytes "first last score shared permille\n1 3 2 2 1000\nfound 1 cells 3\n"
+  pub kept : outputOf (asBytes "1 1 3 1 1 1\nACAGA\nAACG\n")
+      ≡ asBytes "first last score shared permille\n1 4 4 4 1000\n0 3 4 4 1000\nfound 2 cells 15\n"
+
+pub striking : Striking
+unfolding list-output-computes
+striking = record { struck = refl; kept = refl }
 
 -- one of 16 k-mers and three of 16: 62.5 and 187.5, each printed as the even number beside it
 pub record Halves : Type 0 where
@@ -39,9 +49,21 @@ pub record Refusals : Type 0 where
   pub c-bad : outputOf (asBytes "1 1 0 0 1 1\nA\n\n") ≡ asBytes "refused 6\n"
   pub u-bad : outputOf (asBytes "1 1 1 0 1 1\nA\n\n") ≡ asBytes "refused 7\n"
   pub read-empty : outputOf (asBytes "1 1 1 1 1 1\nA\n\n") ≡ asBytes "refused 9\n"
+  -- a read of which nothing remains: A occurs more often in the text than c allows
+  pub read-emptied : outputOf (asBytes "1 1 1 1 1 1\nAA\nA\n") ≡ asBytes "refused 9\n"
   -- without the second value
   pub number-alone : unlessRefused (refused 11 (2049 ∷ [])) [] ≡ asBytes "refused 11\n"
 
 pub refusals : Refusals
 unfolding list-output-computes
-refusals = record { no-line = refl; k-bad = refl; w-bad = refl; c-bad = refl; u-bad = refl; read-empty = refl; number-alone = refl }
+refusals =
+    record {
+      no-line = refl;
+      k-bad = refl;
+      w-bad = refl;
+      c-bad = refl;
+      u-bad = refl;
+      read-empty = refl;
+      read-emptied = refl;
+      number-alone = refl;
+    }

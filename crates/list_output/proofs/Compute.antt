@@ -5,11 +5,11 @@ use Rattle.list_line.proofs.Compute.{list-line-computes}
 use Rattle.requests.specs.Requests.{textOf, patternOf, taskOf}
 use Rattle.list_input.proofs.Compute.{list-input-computes}
 use Rattle.session_start.specs.Start.{badWeights, startReply}
-use Rattle.list_open.specs.Calls.{sketchesReply, strikingReply, callsReply}
+use Rattle.list_open.specs.Calls.{sketchesReply, strikingReply, patternReply, callsReply}
 use Rattle.list_output.specs.Output.{mappingLine, finalCells, lastLine, listOf, outputOf}
 
 unfoldable pub list-output-computes : Unit {0}
 unfolding strike-computes mappings-compute list-line-computes list-input-computes badWeights startReply textOf patternOf taskOf sketchesReply strikingReply
-    callsReply
+    patternReply callsReply
     mappingLine finalCells lastLine listOf outputOf
 list-output-computes = tt

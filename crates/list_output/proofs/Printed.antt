@@ -26,7 +26,7 @@ unfolding outputOf listOf finalCells cellsOf
 prints-finals bytes s text read values input accepts =
     let task : Task = taskOf s text read in
     let finals : List Cell = finalCells task in
-    let lines = mappingLines (positions (textOf s text)) (s .k) (length (patternOf s read)) (finalsOf task (cellsOf task)) in
+    let lines = mappingLines (positions (textOf s text)) (s .k) (length (patternOf s text read)) (finalsOf task (cellsOf task)) in
     let found : length finals ≡ length (finalsOf task (cellsOf task)) = sym (length-map (finalCells task) (mappingOf task)) in
     record {
       mappings = finalsOf task (cellsOf task);
@@ -44,6 +44,6 @@ pub prints-one : (s : Settings) (text read one other : List ℕ) → PrintsFinal
 prints-one s text read one other p q =
     let same : p .mappings ≡ q .mappings = finals-list (taskOf s text read) (p .exact) ∙ sym (finals-list (taskOf s text read) (q .exact)) in
     p .bytes
-    ∙ ap (λ (l : List Mapping). headerLine ++ mappingLines (positions (textOf s text)) (s .k) (length (patternOf s read)) l ++ lastLine (length l)
+    ∙ ap (λ (l : List Mapping). headerLine ++ mappingLines (positions (textOf s text)) (s .k) (length (patternOf s text read)) l ++ lastLine (length l)
     (total (taskOf s text read))) same
     ∙ sym (q .bytes)

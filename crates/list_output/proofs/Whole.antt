@@ -51,7 +51,7 @@ module _ (bytes places work out : List ℕ) (room : length places ≡ lineLimit)
 
     opened : (s : Settings) (text read : List ℕ) → inputOf bytes ≡ given s text read → (reply : Reply)
         → callsReply s text read (length places) (length work) ≡ reply
-        → BeginsWith (openedBy reply (s .k) (length (patternOf s read))) (workAfter (given s text read) (length places) work) out r out′
+        → BeginsWith (openedBy reply (s .k) (length (patternOf s text read))) (workAfter (given s text read) (length places) work) out r out′
         → After bytes (positionsAfter (given s text read) places) (workAfter (given s text read) (length places) work) (r .k) (r .size) 0 (r .left)
         (take (r .written) out′)
     unfolding outputOf taskOf
@@ -65,7 +65,7 @@ module _ (bytes places work out : List ℕ) (room : length places ≡ lineLimit)
     opened s text read input (accepted values) e b =
         let calls : callsReply s text read lineLimit workWords ≡ accepted values = rw (room, lent) at e in
         let task : Task = taskOf s text read in
-        let size : ℕ = length (patternOf s read) in
+        let size : ℕ = length (patternOf s text read) in
         let places′ : List ℕ = positionsAfter (given s text read) places in
         let work′ : List ℕ = workAfter (given s text read) (length places) work in
         let accepts : Accepts task work =

@@ -59,7 +59,7 @@ lastLine found cells = asBytes "found " ++ decimal found ++ asBytes " cells " ++
 unfoldable pub listOf : Settings → List ℕ → List ℕ → List ℕ
 listOf s text read =
     headerLine
-    ++ mappingLines (positions (textOf s text)) (s .k) (length (patternOf s read)) (map (mappingOf (taskOf s text read)) (finalCells (taskOf s text read)))
+    ++ mappingLines (positions (textOf s text)) (s .k) (length (patternOf s text read)) (map (mappingOf (taskOf s text read)) (finalCells (taskOf s text read)))
     ++ lastLine (length (finalCells (taskOf s text read))) (length (cellsOf (taskOf s text read)))
 
 -- for an input: the calls in their order, each with a place for each letter, and 16,384 work words; then the list

@@ -21,5 +21,5 @@ pub record PrintsFinals (s : Settings) (text read output : List ℕ) : Type 0 wh
   pub once : EachOnce mappings
   pub bytes : output
       ≡ headerLine
-      ++ mappingLines (positions (textOf s text)) (s .k) (length (patternOf s read)) mappings
+      ++ mappingLines (positions (textOf s text)) (s .k) (length (patternOf s text read)) mappings
       ++ lastLine (length mappings) (cellCount (hitCount (taskOf s text read)))

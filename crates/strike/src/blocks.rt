@@ -1,4 +1,4 @@
-// Striking a block of entries after the other. A block has a mark on the stack for each entry, so that a read may be of any length.
+// Striking a block of entries after the other: there are marks for one block alone, and a read may be of any length.
 use crate::copying::copy_marked;
 use crate::copying::count_marked;
 use base::TEXT_LIMIT;
@@ -16,7 +16,7 @@ ghost use Rattle.strike.specs.Marked.{markedWords};
 // A block has as many entries as may decide: counting those anew for each block then costs no more than the blocks themselves.
 const BLOCK: usize = TEXT_LIMIT;
 
-fn block_zeros() -> [u8; BLOCK]
+pub(crate) fn block_zeros() -> [u8; BLOCK]
     ensures { λ r. ⌜ (textLimit ≡ length r) × (r ≡ zeros textLimit) ⌝ }
 {
     [0u8; BLOCK]
@@ -32,25 +32,17 @@ fn mark_block(deciding: &[u32], codes: &[u32], c: u32, marks: &mut [u8]) -> usiz
     count_marked(marks)
 }
 
-fn count_block(deciding: &[u32], codes: &[u32], c: u32) -> usize
-    requires { ⌜ (length (now deciding) ≤ textLimit) × (length (now codes) ≤ textLimit) ⌝ }
-    ensures { λ r. ⌜ r ≡ sum (marksOf (now (deciding .entry)) c (now (codes .entry))) ⌝ }
-{
-    let n = codes.len();
-    let mut block = block_zeros();
-    mark_block(deciding, codes, c, &mut block[..n])
-}
-
-// The number of entries kept.
-pub(crate) fn count_kept(deciding: &[u32], codes: &[u32], c: u32) -> usize
-    requires { ⌜ length (now deciding) ≤ textLimit ⌝ }
+// The number of entries kept. `marks` is room for those of a block.
+pub(crate) fn count_kept(deciding: &[u32], codes: &[u32], c: u32, marks: &mut [u8]) -> usize
+    requires { ⌜ (length (now deciding) ≤ textLimit) × (length (now marks) ≡ textLimit) ⌝ }
     ensures { λ r. ⌜ r ≡ sum (marksOf (now (deciding .entry)) c (now (codes .entry))) ⌝ }
 {
     let mut kept = 0;
     let mut from = 0;
     while from < codes.len() {
-        let to = from + smaller(codes.len() - from, BLOCK);
-        kept += count_block(deciding, &codes[from..to], c);
+        let n = smaller(codes.len() - from, BLOCK);
+        let to = from + n;
+        kept += mark_block(deciding, &codes[from..to], c, &mut marks[..n]);
         from = to;
     }
     kept
@@ -61,10 +53,12 @@ fn copy_block(
     codes: &[u32],
     positions: &[u32],
     c: u32,
+    marks: &mut [u8],
     codes_out: &mut [u32],
     positions_out: &mut [u32],
 ) -> usize
     requires { ⌜ (length (now deciding) ≤ textLimit) × (length (now codes) ≤ textLimit) × (length (now codes) ≡ length (now positions)) ⌝ }
+    requires { ⌜ length (now marks) ≡ length (now codes) ⌝ }
     requires { ⌜ (sum (marksOf (now deciding) c (now codes)) ≤ length (now «codes_out»))
         × (sum (marksOf (now deciding) c (now codes)) ≤ length (now «positions_out»)) ⌝ }
     ensures { λ r. ⌜ r ≡ sum (marksOf (now (deciding .entry)) c (now (codes .entry))) ⌝ }
@@ -75,9 +69,6 @@ fn copy_block(
         ⌜ now («positions_out» .exit)
         ≡ over (markedWords (marksOf (now (deciding .entry)) c (now (codes .entry))) (now (positions .entry))) (now («positions_out» .entry)) ⌝ }
 {
-    let n = codes.len();
-    let mut block = block_zeros();
-    let marks = &mut block[..n];
     let kept = mark_block(deciding, codes, c, marks);
     copy_marked(codes, marks, kept, codes_out);
     copy_marked(positions, marks, kept, positions_out);
@@ -90,10 +81,11 @@ pub(crate) fn copy_kept(
     codes: &[u32],
     positions: &[u32],
     c: u32,
+    marks: &mut [u8],
     codes_out: &mut [u32],
     positions_out: &mut [u32],
 ) -> usize
-    requires { ⌜ (length (now deciding) ≤ textLimit) × (length (now codes) ≡ length (now positions)) ⌝ }
+    requires { ⌜ (length (now deciding) ≤ textLimit) × (length (now marks) ≡ textLimit) × (length (now codes) ≡ length (now positions)) ⌝ }
     requires { ⌜ (sum (marksOf (now deciding) c (now codes)) ≤ length (now «codes_out»))
         × (sum (marksOf (now deciding) c (now codes)) ≤ length (now «positions_out»)) ⌝ }
     ensures { λ r. ⌜ r ≡ sum (marksOf (now (deciding .entry)) c (now (codes .entry))) ⌝ }
@@ -107,12 +99,14 @@ pub(crate) fn copy_kept(
     let mut at = 0;
     let mut from = 0;
     while from < codes.len() {
-        let to = from + smaller(codes.len() - from, BLOCK);
+        let n = smaller(codes.len() - from, BLOCK);
+        let to = from + n;
         at += copy_block(
             deciding,
             &codes[from..to],
             &positions[from..to],
             c,
+            &mut marks[..n],
             &mut codes_out[at..],
             &mut positions_out[at..],
         );

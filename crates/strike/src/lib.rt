@@ -2,6 +2,7 @@
 mod blocks;
 mod copying;
 
+use crate::blocks::block_zeros;
 use base::TEXT_LIMIT;
 use base::smaller;
 ghost use mathlib.Core.Path.{_≡_};
@@ -22,14 +23,14 @@ pub enum Struck {
 }
 
 // The entries kept where they are more than there is room for, else 0. Where all entries have room none need be counted.
-fn lacking(deciding: &[u32], codes: &[u32], c: u32, room: usize) -> usize
-    requires { ⌜ length (now deciding) ≤ textLimit ⌝ }
+fn lacking(deciding: &[u32], codes: &[u32], c: u32, room: usize, marks: &mut [u8]) -> usize
+    requires { ⌜ (length (now deciding) ≤ textLimit) × (length (now marks) ≡ textLimit) ⌝ }
     ensures { λ r. ⌜ r ≡ lacking (now (deciding .entry)) (now (codes .entry)) c room ⌝ }
 {
     if codes.len() <= room {
         return 0;
     }
-    let kept = blocks::count_kept(deciding, codes, c);
+    let kept = blocks::count_kept(deciding, codes, c, marks);
     if room < kept { kept } else { 0 }
 }
 
@@ -53,6 +54,7 @@ pub fn strike_read(
         ⌜ now («positions_out» .exit)
         ≡ strikePositions (now (text .entry)) (now (codes .entry)) (now (positions .entry)) c (now («codes_out» .entry)) (now («positions_out» .entry)) ⌝ }
 {
+    let mut marks = block_zeros();
     if codes.len() != positions.len() {
         return Struck::NotPaired;
     }
@@ -65,16 +67,20 @@ pub fn strike_read(
     if TEXT_LIMIT < c as usize {
         return Struck::BadLimit;
     }
-    let needed = lacking(
-        text,
-        codes,
-        c,
-        smaller(codes_out.len(), positions_out.len()),
-    );
+    let room = smaller(codes_out.len(), positions_out.len());
+    let needed = lacking(text, codes, c, room, &mut marks);
     if needed != 0 {
         return Struck::TooShort(needed);
     }
-    Struck::Entries(blocks::copy_kept(text, codes, positions, c, codes_out, positions_out))
+    Struck::Entries(blocks::copy_kept(
+        text,
+        codes,
+        positions,
+        c,
+        &mut marks,
+        codes_out,
+        positions_out,
+    ))
 }
 
 // The same of a text's sketch, whose own codes decide.
