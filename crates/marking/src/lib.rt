@@ -1,51 +1,32 @@
-// Marking the words of a list that are rare among the words that decide.
+// Marking the words of a list that are rare among the words that decide. It needs no heap: what counts them lies on the stack, some
+// 0.8 MiB.
+mod frequent;
+mod lookup;
+mod slots;
+
 use base::TEXT_LIMIT;
 ghost use mathlib.Core.Path.{_≡_};
 ghost use Prim.Native.Nat.{_≤_};
-ghost use lib.Dec.{leb, eqb};
 ghost use lib.ListN.{length};
-ghost use Rattle.base.specs.Lists.{bit};
-ghost use Rattle.base.specs.Counts.{occ};
 ghost use Rattle.base.specs.Limits.{textLimit};
-ghost use Rattle.marking.specs.Marks.{markable, marked, markOf, marksOf};
+ghost use Rattle.base.specs.Zeros.{zeros};
+ghost use Rattle.marking.specs.Marks.{markable, marked, marksOf};
 
-fn one(x: u32, y: u32) -> usize
-    ensures { λ r. ⌜ (r ≡ bit (eqb x y)) × (r ≤ 1) ⌝ }
+// As many zeros as words may decide.
+fn text_zeros() -> [u32; TEXT_LIMIT]
+    ensures { λ r. ⌜ (textLimit ≡ length r) × (r ≡ zeros textLimit) ⌝ }
 {
-    if x == y { 1 } else { 0 }
+    [0u32; TEXT_LIMIT]
 }
 
-fn times(words: &[u32], x: u32) -> usize
-    ensures { λ r. ⌜ r ≡ occ x (now (words .entry)) ⌝ }
-{
-    let mut n: usize = 0;
-    let mut i = 0;
-    while i < words.len() {
-        n += one(x, words[i]);
-        i += 1;
-    }
-    n
-}
-
-fn mark(deciding: &[u32], x: u32, limit: u32) -> u8
-    ensures { λ r. ⌜ r ≡ markOf (now (deciding .entry)) limit x ⌝ }
-{
-    if times(deciding, x) <= limit as usize {
-        1
-    } else {
-        0
-    }
-}
-
+// The words that occur too often are listed once, and each word is then looked up among them.
 fn mark_words(deciding: &[u32], words: &[u32], limit: u32, marks: &mut [u8])
-    requires { ⌜ (length (now marks) ≡ length (now words)) ⌝ }
+    requires { ⌜ (length (now deciding) ≤ textLimit) × (length (now marks) ≡ length (now words)) ⌝ }
     ensures { λ _. ⌜ now (marks .exit) ≡ marksOf (now (deciding .entry)) limit (now (words .entry)) ⌝ }
 {
-    let mut i = 0;
-    while i < words.len() {
-        marks[i] = mark(deciding, words[i], limit);
-        i += 1;
-    }
+    let mut list = text_zeros();
+    let n = frequent::list_frequent(deciding, limit, &mut list);
+    lookup::mark_by_list(&list[..n], words, marks);
 }
 
 // Marks each word by 1 where it occurs at most `limit` times among those that decide, else by 0. It answers false, and changes

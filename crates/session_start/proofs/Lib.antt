@@ -4,7 +4,6 @@ pub mod Tables
 mod Storing
 mod Ring
 mod Reaching
-mod Searching
 mod Noting
 mod Linking
 pub mod WorkWords

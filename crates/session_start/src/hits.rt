@@ -1,6 +1,6 @@
 // Hits of the text: one pass over it that searches each entry among the pattern's words in order.
-use crate::search::lower_bound;
 use session_words::wide;
+use sorting::search::lower_bound;
 ghost use mathlib.Core.Path.{_≡_};
 ghost use Prim.Native.Nat.{_≤_};
 ghost use lib.ListN.{length, set};

@@ -2,7 +2,6 @@
 mod blocks;
 mod hits;
 mod per_hit;
-mod search;
 mod threshold;
 
 use crate::blocks::fill;

@@ -1,7 +1,8 @@
--- Laws of sorted copies and of marks, which the crates above cite.
-pub mod Buckets
-pub mod Keys
+-- Laws of sorted copies and of searching words in order, which the crates above cite.
 pub mod Sorting
-pub mod Marks
-pub mod Passes
+pub mod Searching
 pub mod Room
+-- how the code sorts: digits, passes, and the counts that a pass makes
+pub mod Buckets
+pub mod Digits
+pub mod Passes

@@ -1,4 +1,6 @@
--- What sorting words and marking the rare ones mean.
+-- What sorting words and searching words in order mean.
 pub mod Sorting
-pub mod Keys
-pub mod Marks
+-- the search as the code makes it; `proofs.Searching` has what it finds
+pub mod Searching
+-- the sort as the code makes it
+pub mod Digits

@@ -7,9 +7,9 @@ use borrow.Author.Needs.{needs}
 use Rattle.marking.proofs.mark_rare.Statement.{statement}
 use Rattle.marking.proofs.mark_rare.Tie as tie
 
--- places, each named for where it leads and from where
-abbrev else2-mark-words-arg : tie.After-mark-words-arg → tie.Else2
-else2-mark-words-arg c = c .before
+-- the tests before the words are marked
+abbrev tested : tie.After-mark-words → tie.Else2
+tested c = c .before .before
 
 returns : tie.Need-returns
 returns c = mark-many _ _ _ _ (c .if1 .taken)
@@ -24,15 +24,15 @@ slice-aggregate-mark-words : tie.Need-slice-aggregate-mark-words
 slice-aggregate-mark-words c = sym (length-take-le _ _ (omega arith))
 
 mark-words-requires : tie.Need-mark-words-requires
-mark-words-requires c κs = length-take-le _ _ (omega arith)
+mark-words-requires c κs = (c .before .before .if1 .left, length-take-le _ _ (omega arith))
 
 same-length : tie.Need-same-length
 same-length c = search needs
 
 returns-3 : tie.Need-returns-3
 returns-3 c =
-    mark-enough _ _ _ _ _ (else2-mark-words-arg (c .before .before .before) .before .if1 .left) (else2-mark-words-arg (c .before .before .before) .if2 .left)
-    (c .before .before .mark-words .ensures)
+    let marked = c .before .before in
+    mark-enough _ _ _ _ _ (tested marked .before .if1 .left) (tested marked .if2 .left) (marked .mark-words .ensures)
 
 pub mark-rare-spec : {M : Type 1} → statement M
 mark-rare-spec =

@@ -1,79 +1,68 @@
--- interim
+-- `mark_words` meets its contract: the words that are not listed have the mark 1.
 use native.Mathlib.Omega.{arith}
-use Prim.Native.Nat.{_≤_, _-_}
-use mathlib.Core.Path.{_≡_, refl, sym, _∙_}
-use lib.ListN.{length, length-set, length-map}
-use Rattle.marking.specs.Marks.{markOf, marksOf}
-use Rattle.base.proofs.Lists.{getD-map}
-use Rattle.base.proofs.Writing.{Written, written-more, written-all}
+use mathlib.Core.Path.{_≡_, sym}
+use lib.ListN.{length, take}
+use lib.Seq.{length-take-le}
+use Rattle.marking.proofs.Heads.{marks-same}
 use borrow.Author.Needs.{needs}
 use Rattle.marking.proofs.mark_words.Statement.{statement}
 use Rattle.marking.proofs.mark_words.Tie as tie
 
-abbrev Inv-loop : tie.InvT-loop
-Inv-loop deciding words limit marks₀ i₀ marks i =
-    (i ≤ length words) × (length marks ≡ length marks₀) × Written (marksOf deciding limit words) marks₀ i marks
+-- the places behind the list, and the entry of the function
+abbrev lent : tie.After-mark-by-list → tie.After-list2
+lent c = c .before .before .before
 
-abbrev μ-loop : tie.MeasureT-loop
-μ-loop deciding words limit marks₀ i₀ marks i = length words - i
+abbrev listed : tie.After-mark-by-list → tie.After-list-frequent
+listed c = lent c .before
 
-loop-holds : tie.Need-loop-holds Inv-loop μ-loop
-loop-holds c = (omega arith, refl, refl)
+abbrev made : tie.After-list-frequent → tie.After-slice-known
+made c = c .before .before .before
 
-mul-mark : tie.Need-mul-mark Inv-loop μ-loop
-mul-mark c = search needs
+abbrev entry : tie.After-list-frequent → tie.Start
+entry c = made c .before .before .before
 
-shared-slice-read-mark : tie.Need-shared-slice-read-mark Inv-loop μ-loop
-shared-slice-read-mark c = search needs
+-- the list is as long as was answered
+long : (c : tie.After-list-frequent) → length (take (c .list-frequent .result) (c .list-frequent .last .1 .1 .0)) ≡ c .list-frequent .result
+long c = length-take-le _ _ (omega arith)
 
-mark-requires : tie.Need-mark-requires Inv-loop μ-loop
-mark-requires c κs = search needs
+text-zeros-requires : tie.Need-text-zeros-requires
+text-zeros-requires c κs = search needs
 
-slice-write-marks : tie.Need-slice-write-marks Inv-loop μ-loop
-slice-write-marks c = omega arith
+slice-aggregate-list-frequent : tie.Need-slice-aggregate-list-frequent
+slice-aggregate-list-frequent c = search needs
 
-add-i : tie.Need-add-i Inv-loop μ-loop
-add-i c = search needs
+list-frequent-requires : tie.Need-list-frequent-requires
+list-frequent-requires c κs = search needs
 
-loop-less : tie.Need-loop-less Inv-loop μ-loop
-loop-less c = search needs
+array-share-prefix-list : tie.Need-array-share-prefix-list
+array-share-prefix-list c = search needs
 
-loop-again : tie.Need-loop-again Inv-loop μ-loop
-loop-again c =
-    let turn = c .before .before .before in
-    let args = turn .before .before .before .before .args in (
-      omega arith,
-      simp length-set (turn .loop .inv .1),
-      written-more (marksOf (args .deciding .now) (args .limit) (args .words .now)) (args .marks .now) (turn .loop .i) (turn .loop .marks) (c .mark .result)
-          (turn .loop .inv .2) (rw (length-map (args .words .now) (markOf (args .deciding .now) (args .limit))) (c .before .before .loop-test .taken))
-          (rw (length-map (args .words .now) (markOf (args .deciding .now) (args .limit))) (omega (arith, turn .before .before .before .before .pre)))
-          (c .mark .ensures ∙ sym (getD-map (markOf (args .deciding .now) (args .limit)) (args .words .now) (turn .loop .i) (c .before .before .loop-test .taken))),
-    )
+slice-aggregate-mark-by-list : tie.Need-slice-aggregate-mark-by-list
+slice-aggregate-mark-by-list c = sym (long (c .before .before))
 
-same-length : tie.Need-same-length Inv-loop μ-loop
-same-length c = c .before .loop .inv .1
+mark-by-list-requires : tie.Need-mark-by-list-requires
+mark-by-list-requires c κs =
+    let listed = c .before .before .before in
+    (listed .list-frequent .ensures .1 .in-order, omega (arith, long listed), search needs)
 
-returns : tie.Need-returns Inv-loop μ-loop
+same-length : tie.Need-same-length
+same-length c = search needs
+
+returns : tie.Need-returns
 returns c =
-    let start = c .before .before .before .before .before in
-    let args = start .args in
-    written-all (marksOf (args .deciding .now) (args .limit) (args .words .now)) (args .marks .now) (c .before .loop .i) (c .before .loop .marks)
-    (c .before .loop .inv .2) (rw (length-map (args .words .now) (markOf (args .deciding .now) (args .limit))) (c .loop-test .left))
-    (omega (arith, start .pre))
+    let marked = c .before .before in
+    let start = entry (listed marked) in
+    marks-same _ (start .args .limit) _ (start .args .words .now) _ (listed marked .list-frequent .ensures .1) (marked .mark-by-list .ensures)
 
 pub mark-words-spec : {M : Type 1} → statement M
 mark-words-spec =
     tie.close
     (tie.spec
-    Inv-loop
-    μ-loop
-    loop-holds
-    mul-mark
-    shared-slice-read-mark
-    mark-requires
-    slice-write-marks
-    add-i
-    loop-less
-    loop-again
+    text-zeros-requires
+    slice-aggregate-list-frequent
+    list-frequent-requires
+    array-share-prefix-list
+    slice-aggregate-mark-by-list
+    mark-by-list-requires
     same-length
     returns)

@@ -4,6 +4,7 @@ use mathlib.Core.List.{List}
 use lib.ListN.{getD, set, length-set}
 use mathlib.Core.Path.{ap, _∙_}
 use Rattle.sorting.specs.Sorting.{Sorted, LowerBound}
+use Rattle.sorting.proofs.Searching.{answer-bound}
 use Rattle.session_start.specs.Noting.{oneAt}
 use Rattle.session_start.proofs.Noting.{Noting, noting-none, noting-more, noting-all}
 use lib.ListN.{length}
@@ -14,7 +15,6 @@ use Rattle.session_start.proofs.hits.collect.Statement.{statement}
 use Rattle.session_start.proofs.hits.collect.Tie as tie
 use Rattle.session_start.proofs.hits.collect.Reads as reads
 use Rattle.session_start.proofs.hits.collect.Lts as lts
-use Rattle.session_start.proofs.search.lower_bound.Reads as lower-bound-reads
 use Rattle.session_start.proofs.hits.note.Reads as note-reads
 use Rattle.session_start.proofs.hits.one_at.Reads as one-at-reads
 use Rattle.session_words.proofs.wide.Reads as wide-reads
@@ -39,23 +39,28 @@ slot-noted c = slots-known c .before .before
 abbrev index-known : tie.After-wide Inv-loop μ-loop → tie.After-slice-known3 Inv-loop μ-loop
 index-known c = slot-noted c .before .before
 
-abbrev index-noted : tie.After-wide Inv-loop μ-loop → tie.After-note Inv-loop μ-loop
-index-noted c = index-known c .before .before
+abbrev index-noted : tie.After-slice-known3 Inv-loop μ-loop → tie.After-note Inv-loop μ-loop
+index-noted c = c .before .before
 
-abbrev searched : tie.After-wide Inv-loop μ-loop → tie.After-lower-bound Inv-loop μ-loop
+abbrev searched : tie.After-slice-known3 Inv-loop μ-loop → tie.After-lower-bound Inv-loop μ-loop
 searched c = index-noted c .before .before
 
-abbrev tested : tie.After-wide Inv-loop μ-loop → tie.In-loop Inv-loop μ-loop
-tested c = searched c .before .before
+abbrev tested : tie.After-lower-bound Inv-loop μ-loop → tie.In-loop Inv-loop μ-loop
+tested c = c .before .before
 
-abbrev turn : tie.After-wide Inv-loop μ-loop → tie.At-loop Inv-loop μ-loop
+abbrev turn : tie.After-lower-bound Inv-loop μ-loop → tie.At-loop Inv-loop μ-loop
 turn c = tested c .before
 
-abbrev known : tie.After-wide Inv-loop μ-loop → tie.After-shared-slice-known2 Inv-loop μ-loop
+abbrev known : tie.After-lower-bound Inv-loop μ-loop → tie.After-shared-slice-known2 Inv-loop μ-loop
 known c = turn c .before .before .before
 
-abbrev entry : tie.After-wide Inv-loop μ-loop → tie.Start Inv-loop μ-loop
+abbrev entry : tie.After-lower-bound Inv-loop μ-loop → tie.Start Inv-loop μ-loop
 entry c = known c .before .before
+
+-- the slot of an entry
+bound : (c : tie.After-lower-bound Inv-loop μ-loop)
+    → LowerBound (entry c .args .sorted .now) (getD (entry c .args .text .now) (turn c .loop .i) 0) (c .lower-bound .result)
+bound c = answer-bound _ _ _ (c .lower-bound .ensures) (entry c .pre .2)
 
 loop-holds : tie.Need-loop-holds Inv-loop μ-loop
 loop-holds c = (zero-le, refl, refl, noting-none _ _ _ _)
@@ -76,7 +81,7 @@ note-requires : tie.Need-note-requires Inv-loop μ-loop
 note-requires c κs = search needs
 
 cast-note-2 : tie.Need-cast-note-2 Inv-loop μ-loop
-cast-note-2 c = search needs
+cast-note-2 c = omega (arith, bound (searched c) .within)
 
 note-requires-2 : tie.Need-note-requires-2 Inv-loop μ-loop
 note-requires-2 c κs = search needs
@@ -111,16 +116,17 @@ noted text sorted index slots index′ slots′ h i slot one n in-order now insi
 
 loop-again : tie.Need-loop-again Inv-loop μ-loop
 loop-again c =
-    let at = turn c .loop in
-    let args = entry c .args in
-    let bound = searched c .lower-bound in
-    let indices = index-noted c .note .ensures in
+    let found = searched (index-known c) in
+    let at = turn found .loop in
+    let args = entry found .args in
+    let slot = found .lower-bound .result in
+    let indices = index-noted (index-known c) .note .ensures in
     let lowers = slot-noted c .note2 .ensures in (
       omega arith,
       ap length indices ∙ length-set (at .index) (at .h) (at .i) ∙ at .inv .1,
-      ap length lowers ∙ length-set (at .slots) (at .h) (bound .result) ∙ at .inv .2,
-      noted (args .text .now) (args .sorted .now) (at .index) (at .slots) _ _ (at .h) (at .i) (bound .result) _ _ (entry c .pre .2) (at .inv .3)
-          (tested c .loop-test .taken) (bound .ensures) indices lowers (c .wide .ensures .0) (compared c .one-at .ensures .0),
+      ap length lowers ∙ length-set (at .slots) (at .h) slot ∙ at .inv .2,
+      noted (args .text .now) (args .sorted .now) (at .index) (at .slots) _ _ (at .h) (at .i) slot _ _ (entry found .pre .2) (at .inv .3)
+          (tested found .loop-test .taken) (bound found) indices lowers (c .wide .ensures .0) (compared c .one-at .ensures .0),
     )
 
 same-length : tie.Need-same-length Inv-loop μ-loop
