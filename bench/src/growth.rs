@@ -4,11 +4,11 @@
 use host::calls;
 use host::reference::store;
 
-use crate::jobs::{self, K, LETTERS, TEXT};
+use crate::jobs::{self, K, LETTERS, READ, TEXT};
 use crate::made::Made;
 use crate::ours;
 use crate::plain::{sketch, start, step, strike};
-use crate::runs::{BEFORE, as_they_are, count_run, sketch_run, start_run, strike_run};
+use crate::runs::{BEFORE, as_they_are, count_run, sketch_run, start_run, strike_read_run, strike_run};
 use crate::sessions::{HITS, PATTERN, Session, random_hits};
 use crate::steps::{Layout, step_run};
 use crate::table::{each, milliseconds, ratio};
@@ -83,6 +83,27 @@ fn strike_rows() {
     }
 }
 
+/// A strike of the read whose cost is counted in these items.
+fn read_strikes<'a>(items: usize, text: &'a [u32], read: &'a [u32], positions: &'a [u32]) -> Job<'a> {
+    let positions = &positions[..read.len()];
+    let both = [ours::strike_read, strike::strike_read];
+    beside_plain(items, both.map(|strike_read| strike_read_run(strike_read, text, read, positions)))
+}
+
+/// Ten times the text entries, and ten times a read that is as long as a text may be: it is then taken in ten blocks.
+fn read_strike_rows() {
+    let long = 10 * TEXT;
+    let positions: Vec<u32> = (0..long as u32).collect();
+    let (few, text) = (jobs::repeats(TEXT / 10), jobs::repeats(TEXT));
+    let (short_read, read, long_read) = (jobs::stretch(&few, READ), jobs::stretch(&text, READ), jobs::read_of_repeats(long));
+    let (few_text, many_text) =
+        (read_strikes(few.len(), &few, &short_read, &positions), read_strikes(text.len(), &text, &read, &positions));
+    print("strike of the read, repeats, text entries", few_text, many_text);
+    let one_block = read_strikes(TEXT, &text, &long_read[..TEXT], &positions);
+    let ten_blocks = read_strikes(long, &text, &long_read, &positions);
+    print("strike of the read, repeats, read entries", one_block, ten_blocks);
+}
+
 /// A save of this many entries, and a load of what it wrote. All words and all entries are summed.
 fn stores(entries: usize) -> (Job<'static>, Job<'static>) {
     let positions: Vec<u32> = (0..entries as u32).collect();
@@ -149,6 +170,7 @@ pub fn print_all() {
     print_head();
     letters_rows();
     strike_rows();
+    read_strike_rows();
     store_rows();
     start_rows();
     step_rows();

@@ -7,6 +7,9 @@ use host::reference::sketch::rank;
 pub const LETTERS: usize = 1_048_576;
 pub const TEXT: usize = 65_535;
 
+/// The entries of a read, as many as a session takes.
+pub const READ: usize = 4_096;
+
 /// The k of all sketches here.
 pub const K: u32 = 15;
 
@@ -91,6 +94,21 @@ pub fn all_the_same(number: usize) -> Vec<u32> {
 
 /// Entries with codes that each occur some 16 times, in no order.
 pub fn repeats(number: usize) -> Vec<u32> {
-    let mut random = Random::new(2);
-    (0..number).map(|_| spread(random.below(number / 16))).collect()
+    drawn(2, number, number / 16)
+}
+
+/// A read of so many entries with the codes that the repeats of a whole text have, in another order.
+pub fn read_of_repeats(number: usize) -> Vec<u32> {
+    drawn(7, number, TEXT / 16)
+}
+
+/// Random entries with so many different codes.
+fn drawn(seed: u64, number: usize, kinds: usize) -> Vec<u32> {
+    let mut random = Random::new(seed);
+    (0..number).map(|_| spread(random.below(kinds))).collect()
+}
+
+/// A read of so many entries: a stretch from the middle of the text.
+pub fn stretch(text: &[u32], number: usize) -> Vec<u32> {
+    text[(text.len() - number) / 2..][..number].to_vec()
 }

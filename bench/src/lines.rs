@@ -3,9 +3,9 @@
 use crate::jobs::K;
 use crate::ours;
 use crate::plain::{fastest_sketch, fastest_start, fastest_step, fastest_work, sketch, start, step, strike};
-use crate::runs::{as_they_are, count_run, sketch_run, start_run, strike_run};
+use crate::runs::{as_they_are, count_run, sketch_run, start_run, strike_read_run, strike_run};
 use crate::sessions::Session;
-use crate::signatures::{Shared, Start, Strike};
+use crate::signatures::{Shared, Start, Strike, StrikeRead};
 use crate::steps::{Layout, counted, step_run};
 use crate::table::Line;
 use crate::timing::{ROUNDS, Run, ask_agreement, best_times};
@@ -31,6 +31,14 @@ pub fn strike_line(kind: &str, codes: &[u32], fastest: Strike) -> Line {
     let positions: Vec<u32> = (0..codes.len() as u32).collect();
     let runs = [ours::strike, strike::strike, fastest].map(|strike| strike_run(strike, codes, &positions));
     line(format!("strike, {} entries, {kind}", codes.len()), codes.len(), Some(1.5), runs)
+}
+
+pub fn strike_read_line(kind: &str, text: &[u32], read: &[u32], fastest: StrikeRead) -> Line {
+    let positions: Vec<u32> = (0..read.len() as u32).collect();
+    let strikes = [ours::strike_read, strike::strike_read, fastest];
+    let runs = strikes.map(|strike_read| strike_read_run(strike_read, text, read, &positions));
+    let job = format!("strike of the read, {} text and {} read entries, {kind}", text.len(), read.len());
+    line(job, text.len() + read.len(), Some(1.5), runs)
 }
 
 pub fn start_line(session: &Session) -> Line {

@@ -1,7 +1,7 @@
 //! Times the speed table's jobs and prints the table, a second one that says how costs grow, and the goals that are missed.
 
-use bench::jobs::{self, LETTERS, TEXT};
-use bench::lines::{count_line, sketch_line, start_line, step_lines, strike_line};
+use bench::jobs::{self, LETTERS, READ, TEXT};
+use bench::lines::{count_line, sketch_line, start_line, step_lines, strike_line, strike_read_line};
 use bench::plain::{fastest_strike, hash_strike};
 use bench::sessions::{HITS, PATTERN, cluster, random_hits};
 use bench::table::Table;
@@ -43,6 +43,9 @@ fn print_sketches(table: &mut Table) {
     }
 }
 
+/// What stands behind the kind of a row whose fastest is the hash map.
+const BY_MAP: &str = "; 'fastest' is std's HashMap";
+
 fn print_strikes(table: &mut Table) {
     let texts = [
         ("all different", jobs::all_different(TEXT)),
@@ -51,7 +54,13 @@ fn print_strikes(table: &mut Table) {
     ];
     for (kind, codes) in &texts {
         table.print(&strike_line(kind, codes, fastest_strike::strike));
-        table.print(&strike_line(&format!("{kind}; 'fastest' is std's HashMap"), codes, hash_strike::strike));
+        table.print(&strike_line(&format!("{kind}{BY_MAP}"), codes, hash_strike::strike));
+    }
+    let [.., (repeats, text)] = &texts;
+    let short = texts.iter().map(|(kind, text)| (*kind, text, jobs::stretch(text, READ)));
+    for (kind, text, read) in short.chain([(*repeats, text, jobs::read_of_repeats(TEXT))]) {
+        table.print(&strike_read_line(kind, text, &read, fastest_strike::strike_read));
+        table.print(&strike_read_line(&format!("{kind}{BY_MAP}"), text, &read, hash_strike::strike_read));
     }
 }
 

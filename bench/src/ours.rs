@@ -24,6 +24,17 @@ pub fn strike(codes: &[u32], positions: &[u32], c: u32, codes_out: &mut [u32], p
     signed(calls::strike(codes, positions, c, codes_out, positions_out))
 }
 
+pub fn strike_read(
+    text: &[u32],
+    codes: &[u32],
+    positions: &[u32],
+    c: u32,
+    codes_out: &mut [u32],
+    positions_out: &mut [u32],
+) -> i32 {
+    signed(calls::strike_read(text, codes, positions, c, codes_out, positions_out))
+}
+
 pub fn start(text: &[u32], pattern: &[u32], u: u32, v: u32, threshold: i32, work: &mut [u32]) -> i32 {
     signed(calls::start(text, pattern, u, v, threshold, work))
 }

@@ -3,7 +3,7 @@
 
 use crate::made::Made;
 use crate::plain::work::WORK_WORDS;
-use crate::signatures::{Count, Shared, Sketch, Start, Strike};
+use crate::signatures::{Count, Shared, Sketch, Start, Strike, StrikeRead};
 use crate::timing::{Run, timed};
 
 const C: u32 = 16;
@@ -38,6 +38,14 @@ pub fn strike_run<'a>(strike: Strike, codes: &'a [u32], positions: &'a [u32]) ->
     let (mut out_codes, mut out_positions) = (vec![BEFORE; codes.len()], vec![BEFORE; codes.len()]);
     Box::new(move || {
         let (time, number) = timed(|| strike(codes, positions, C, &mut out_codes, &mut out_positions));
+        (time, made(number, &out_codes, &out_positions))
+    })
+}
+
+pub fn strike_read_run<'a>(strike_read: StrikeRead, text: &'a [u32], codes: &'a [u32], positions: &'a [u32]) -> Run<'a> {
+    let (mut out_codes, mut out_positions) = (vec![BEFORE; codes.len()], vec![BEFORE; codes.len()]);
+    Box::new(move || {
+        let (time, number) = timed(|| strike_read(text, codes, positions, C, &mut out_codes, &mut out_positions));
         (time, made(number, &out_codes, &out_positions))
     })
 }

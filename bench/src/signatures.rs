@@ -11,6 +11,9 @@ pub type Sketch = fn(&[u8], u32, u32, &mut [u32], &mut [u32]) -> i32;
 /// Codes, positions, c, and codes and positions that stay; their number, or the refusal number negated.
 pub type Strike = fn(&[u32], &[u32], u32, &mut [u32], &mut [u32]) -> i32;
 
+/// Codes of the text, codes and positions of the read, c, and codes and positions that stay; their number, or the refusal number negated.
+pub type StrikeRead = fn(&[u32], &[u32], &[u32], u32, &mut [u32], &mut [u32]) -> i32;
+
 /// Codes of the text and of the pattern, u, v, threshold and work words; h, or the refusal number negated.
 pub type Start = fn(&[u32], &[u32], u32, u32, i32, &mut [u32]) -> i32;
 

@@ -1,4 +1,4 @@
-//! The six calls with answers as a Rust program wants them: a result, or a refusal.
+//! The seven calls with answers as a Rust program wants them: a result, or a refusal.
 
 use crate::exported::{self, StepWords};
 use crate::reference::refusal::{Refusal, refused, refused_with};
@@ -29,6 +29,20 @@ pub fn strike(
 ) -> Result<usize, Refusal> {
     let mut number = 0;
     let value = exported::strike(codes, positions, c, codes_out, positions_out, &mut number);
+    answered(number, value)
+}
+
+/// The number of the read's entries written, those that the text's codes do not strike.
+pub fn strike_read(
+    text: &[u32],
+    codes: &[u32],
+    positions: &[u32],
+    c: u32,
+    codes_out: &mut [u32],
+    positions_out: &mut [u32],
+) -> Result<usize, Refusal> {
+    let mut number = 0;
+    let value = exported::strike_read(text, codes, positions, c, codes_out, positions_out, &mut number);
     answered(number, value)
 }
 

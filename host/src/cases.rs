@@ -61,6 +61,28 @@ pub fn cluster(random: &mut Random, longest: usize) -> (Vec<u8>, Vec<u8>) {
     (text, read)
 }
 
+/// A text in which a repeat stands alone some times and within each copy of a gene, and a read of such a copy, which crosses the repeat;
+/// now and then the read is of the repeat alone.
+pub fn through_a_repeat(random: &mut Random, longest: usize) -> (Vec<u8>, Vec<u8>) {
+    let alphabet = random.one_of(&ALPHABETS);
+    let part = |random: &mut Random| {
+        let size = random.between(1 + longest / 40, 1 + longest / 12);
+        letters(random, size, alphabet)
+    };
+    let (repeat, left, right) = (part(random), part(random), part(random));
+    let gene = [left.as_slice(), &repeat.repeat(random.between(1, 2)), &right].concat();
+    let rate = random.one_of(&[10, 30, 1000]);
+    let mut text = Vec::new();
+    for _ in 0..random.between(1, 8) {
+        text.extend(part(random));
+        let piece = if random.once_in(3) { &gene } else { &repeat };
+        text.extend(near_copy(random, piece, rate, alphabet));
+    }
+    text.truncate(longest);
+    let read = if random.once_in(8) { &repeat } else { &gene };
+    (text, near_copy(random, read, rate, alphabet))
+}
+
 /// Settings that are mostly accepted, with a k and w that mostly suit a text of this length. The threshold is one of a few that
 /// stand out.
 pub fn settings(random: &mut Random, longest: usize) -> Settings {

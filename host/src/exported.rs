@@ -1,4 +1,4 @@
-//! The six calls of the proved library `exports`, with slices in place of pointers and lengths: `number` becomes 0 where the call is
+//! The seven calls of the proved library `exports`, with slices in place of pointers and lengths: `number` becomes 0 where the call is
 //! accepted, else the refusal number, and the result is the value answered, or the second value.
 //! Assumes that the declarations below are those of the library: the linker compares names and nothing else.
 
@@ -15,6 +15,20 @@ unsafe extern "C" {
         number: *mut u32,
     ) -> usize;
     fn huddlewool_strike(
+        codes: *const u32,
+        codes_length: usize,
+        positions: *const u32,
+        positions_length: usize,
+        c: u32,
+        codes_out: *mut u32,
+        codes_out_length: usize,
+        positions_out: *mut u32,
+        positions_out_length: usize,
+        number: *mut u32,
+    ) -> usize;
+    fn huddlewool_strike_read(
+        text: *const u32,
+        text_length: usize,
         codes: *const u32,
         codes_length: usize,
         positions: *const u32,
@@ -92,6 +106,33 @@ pub fn strike(
 ) -> usize {
     unsafe {
         huddlewool_strike(
+            codes.as_ptr(),
+            codes.len(),
+            positions.as_ptr(),
+            positions.len(),
+            c,
+            codes_out.as_mut_ptr(),
+            codes_out.len(),
+            positions_out.as_mut_ptr(),
+            positions_out.len(),
+            number,
+        )
+    }
+}
+
+pub fn strike_read(
+    text: &[u32],
+    codes: &[u32],
+    positions: &[u32],
+    c: u32,
+    codes_out: &mut [u32],
+    positions_out: &mut [u32],
+    number: &mut u32,
+) -> usize {
+    unsafe {
+        huddlewool_strike_read(
+            text.as_ptr(),
+            text.len(),
             codes.as_ptr(),
             codes.len(),
             positions.as_ptr(),

@@ -1,4 +1,4 @@
-//! The host's calls of the two functions with bytes and numbers only, those of the six with buffers, and beside them a reference
+//! The host's calls of the two functions with bytes and numbers only, those of the seven with buffers, and beside them a reference
 //! of document 01.
 //! Assumes that the declarations below are those of the proved library `exports`: the linker compares names and nothing else.
 
@@ -10,6 +10,7 @@ pub mod held;
 pub mod program;
 pub mod random;
 pub mod reference;
+pub mod words;
 
 unsafe extern "C" {
     fn huddlewool_count(letters: *const u8, length: usize, k: u32, w: u32) -> i32;

@@ -11,7 +11,8 @@ use std::io::Write;
 use std::process::{Command, ExitCode, Stdio};
 use std::thread;
 
-const CALLS: [&str; 9] = ["nothing", "sketch", "count", "strike", "save", "load", "start", "step", "per mille"];
+const CALLS: [&str; 10] =
+    ["nothing", "sketch", "count", "strike", "strike of the read", "save", "load", "start", "step", "per mille"];
 
 /// In KiB: a page, the least stack that a thread is given, and the most that a call may need.
 const PAGE: usize = 4;
@@ -21,12 +22,21 @@ const MOST: usize = 1536;
 const LETTERS: usize = 1_048_576;
 const ENTRIES: usize = 65_535;
 
+/// A read's entries: the read has no limit of its own, and is taken in blocks of as many entries as a text may have.
+const READ: usize = 200_000;
+
 /// A call with its arguments. It tells whether it answered as it should.
 type Call = Box<dyn FnOnce() -> bool + Send>;
 
 fn letters(n: usize) -> Vec<u8> {
     let mut random = Random::new(1);
     (0..n).map(|_| random.one_of(b"ACGT")).collect()
+}
+
+/// So many words that fall, each of them twice but for the ends. With c = 1 they are sorted, nearly all are found to be frequent, and
+/// each is looked up among these. Buffers without room for all of them have the entries counted before they are written.
+fn twice_each(n: usize) -> Vec<u32> {
+    (1..=n as u32).rev().map(|word| word / 2).collect()
 }
 
 /// Text, pattern and work words for a start with all that it accepts: 2,048 hits, and a pattern that falls, so that it is sorted.
@@ -50,11 +60,19 @@ fn call(name: &str) -> Call {
             Box::new(move || host::count(&letters, 15, 64) > 0)
         }
         "strike" => {
-            // Codes that fall, so that they are sorted.
-            let codes: Vec<u32> = (0..ENTRIES as u32).rev().collect();
-            let (positions, mut codes_out, mut positions_out) = (codes.clone(), codes.clone(), codes.clone());
+            let codes = twice_each(ENTRIES);
+            let (positions, mut codes_out, mut positions_out) = (codes.clone(), vec![0; 1], vec![0; 1]);
             Box::new(move || {
-                exported::strike(&codes, &positions, 1, &mut codes_out, &mut positions_out, &mut number) == ENTRIES && number == 0
+                exported::strike(&codes, &positions, 1, &mut codes_out, &mut positions_out, &mut number) == 1 && number == 0
+            })
+        }
+        "strike of the read" => {
+            let (text, codes) = (twice_each(ENTRIES), twice_each(READ));
+            let rest = READ - ENTRIES + 1;
+            let (positions, mut codes_out, mut positions_out) = (codes.clone(), vec![0; rest], vec![0; rest]);
+            Box::new(move || {
+                let n = exported::strike_read(&text, &codes, &positions, 1, &mut codes_out, &mut positions_out, &mut number);
+                n == rest && number == 0
             })
         }
         "save" | "load" => {
@@ -129,7 +147,7 @@ fn least(fits: impl Fn(usize) -> bool) -> Option<usize> {
 
 /// Prints a row of the table, and tells whether the need is within the limit.
 fn row(name: &str, need: Option<usize>) -> bool {
-    println!("{name:10} {}", need.map_or(format!("over {MOST} KiB, or it fails"), |kib| format!("{kib:5} KiB")));
+    println!("{name:18} {}", need.map_or(format!("over {MOST} KiB, or it fails"), |kib| format!("{kib:5} KiB")));
     need.is_some()
 }
 

@@ -1,4 +1,4 @@
-//! Tasks from letters to the list: sketch of text and read, strike, start and steps, beside all intervals of Definition 1.
+//! Tasks from letters to the list: sketch of text and read, strike of both, start and steps, beside all intervals of Definition 1.
 
 use super::numbers::Least;
 use super::tally::{Met, Tally};
@@ -10,10 +10,10 @@ use crate::random::Random;
 use crate::reference::refusal::Refusal;
 use crate::reference::score::Task;
 use crate::reference::sketch::{Entry, codes, positions, sketch_call};
-use crate::reference::strike::strike_call;
+use crate::reference::strike::{strike_call, strike_read_call};
 
-const CASES: u64 = 20_000;
-const LEAST: Least = Least { lists: 18_000, medium: 7_300, mappings: 75_000 };
+const CASES: u64 = 25_000;
+const LEAST: Least = Least { lists: 19_900, medium: 8_500, mappings: 75_000 };
 
 /// The fewest and the most entries that a random text is to have, and the most of its read. Half of the texts are to have 9 to 24.
 const LENGTHS: [(usize, usize, usize); 4] = [(0, 8, 5), (9, 24, 8), (9, 24, 16), (25, 50, 20)];
@@ -48,7 +48,7 @@ fn made(random: &mut Random) -> Made {
     let w = if random.once_in(10) { random.between(0, 65) } else { random.between(1, 4) } as u32;
     let c = match random.below(20) {
         0 => random.one_of(&[0, 65_536]),
-        1..6 => random.between(1, 12) as u32,
+        1..10 => random.between(1, 12) as u32,
         _ => random.one_of(&[100, 65_535]),
     };
     let (text, read) = letters_for(random, k, w);
@@ -58,8 +58,15 @@ fn made(random: &mut Random) -> Made {
 /// Codes and positions.
 type Sketch = (Vec<u32>, Vec<u32>);
 
-/// The codes of a text and of a pattern.
-type Codes = (Vec<u32>, Vec<u32>);
+/// The codes of a text and of a pattern, and how many the read lost.
+type Codes = (Vec<u32>, Vec<u32>, usize);
+
+/// How many tasks there were whose read lost entries, but not all of them, and whose read lost all.
+#[derive(Default)]
+struct Struck {
+    some: usize,
+    all: usize,
+}
 
 /// Asks that what a proved call answered and wrote are the expected entries, and gives what it wrote.
 fn agreed(
@@ -92,7 +99,16 @@ fn proved_strike((codes, positions): &Sketch, c: u32) -> Held<Sketch> {
     agreed("strike", given, (codes_out, positions_out), strike_call(codes, positions, c, room, room))
 }
 
-/// The codes of the struck text and of the read, by the proved functions, each held to the reference; none where a call is refused.
+/// By the text's codes before they are struck.
+fn proved_strike_read(text: &Sketch, (codes, positions): &Sketch, c: u32) -> Held<Sketch> {
+    let room = codes.len();
+    let (mut codes_out, mut positions_out) = (vec![0; room], vec![0; room]);
+    let given = calls::strike_read(&text.0, codes, positions, c, &mut codes_out, &mut positions_out);
+    let expected = strike_read_call(&text.0, codes, positions, c, room, room);
+    agreed("strike of the read", given, (codes_out, positions_out), expected)
+}
+
+/// The codes of struck text and read, by the proved functions, each held to the reference; none where a call is refused.
 fn proved_codes(made: &Made, met: &mut Met) -> Result<Option<Codes>, Difference> {
     let mut accepted = |call: &'static str, held: Held<Sketch>| -> Result<Option<Sketch>, Difference> {
         Ok(held?.map_err(|refusal| met.no_list(call, refusal)).ok())
@@ -100,14 +116,18 @@ fn proved_codes(made: &Made, met: &mut Met) -> Result<Option<Codes>, Difference>
     let Some(text) = accepted("sketch", proved_sketch(&made.text, made.k, made.w))? else { return Ok(None) };
     let Some(read) = accepted("sketch", proved_sketch(&made.read, made.k, made.w))? else { return Ok(None) };
     let Some(struck) = accepted("strike", proved_strike(&text, made.c))? else { return Ok(None) };
-    Ok(Some((struck.0, read.0)))
+    let Some(rest) = accepted("strike of the read", proved_strike_read(&text, &read, made.c))? else { return Ok(None) };
+    let lost = read.0.len() - rest.0.len();
+    Ok(Some((struck.0, rest.0, lost)))
 }
 
-fn hold(random: &mut Random, met: &mut Met) -> Result<(), Difference> {
+fn hold(random: &mut Random, met: &mut Met, struck: &mut Struck) -> Result<(), Difference> {
     let made = made(random);
-    let Some((text, pattern)) = proved_codes(&made, met)? else {
+    let Some((text, pattern, lost)) = proved_codes(&made, met)? else {
         return Ok(());
     };
+    struck.some += usize::from(lost > 0 && !pattern.is_empty());
+    struck.all += usize::from(lost > 0 && pattern.is_empty());
     let (u, v) = made.weights;
     let task = Task { text, pattern, u, v, threshold: 0 };
     let task = Task { threshold: threshold(random, &task), ..task };
@@ -115,8 +135,11 @@ fn hold(random: &mut Random, met: &mut Met) -> Result<(), Difference> {
 }
 
 pub fn random(tally: &mut Tally) {
+    let mut struck = Struck::default();
     for seed in 0..CASES {
-        tally.compare(|| format!("seed {seed}"), |met| hold(&mut Random::new(seed), met));
+        tally.compare(|| format!("seed {seed}"), |met| hold(&mut Random::new(seed), met, &mut struck));
     }
-    tally.end_lists("lists from letters, by sketch, strike, start and step", &LEAST);
+    tally.ask("tasks whose read lost some entries", struck.some, 2_000);
+    tally.ask("tasks whose read lost all entries", struck.all, 2_700);
+    tally.end_lists("lists from letters, by sketch, strike of text and read, start and step", &LEAST);
 }

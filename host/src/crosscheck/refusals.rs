@@ -1,4 +1,4 @@
-//! Document 01's table of refusals, and how often each number was met by which call.
+//! Document 01's table of refusals, with the strike of the read of document 02, and how often each number was met by which call.
 
 use std::collections::BTreeMap;
 
@@ -7,11 +7,11 @@ const TABLE: [(u32, &[&str]); 16] = [
     (1, &["count", "save", "sketch"]),
     (2, &["count", "save", "sketch"]),
     (3, &["count", "sketch"]),
-    (4, &["load", "save", "sketch", "strike"]),
-    (5, &["save", "strike"]),
-    (6, &["strike"]),
+    (4, &["load", "save", "sketch", "strike", "strike of the read"]),
+    (5, &["save", "strike", "strike of the read"]),
+    (6, &["strike", "strike of the read"]),
     (7, &["start"]),
-    (8, &["start", "strike"]),
+    (8, &["start", "strike", "strike of the read"]),
     (9, &["start"]),
     (10, &["start", "step"]),
     (11, &["start"]),
@@ -42,7 +42,7 @@ impl Refusals {
         let met: Vec<(u32, Vec<&str>)> =
             self.met.iter().map(|(&number, calls)| (number, calls.keys().copied().collect())).collect();
         let all = met.iter().map(|(number, calls)| (*number, calls.as_slice())).eq(TABLE);
-        println!("  {}", if all { "all of document 01's table, by each call" } else { "NOT THE WHOLE TABLE" });
+        println!("  {}", if all { "all of the table, by each call" } else { "NOT THE WHOLE TABLE" });
         all
     }
 }

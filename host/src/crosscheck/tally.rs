@@ -81,6 +81,13 @@ impl Tally {
         self.end_part(name);
     }
 
+    /// Asks that a part met so many cases of a kind, so that it can't pass without them.
+    pub fn ask(&mut self, kind: &str, met: usize, least: usize) {
+        if met < least {
+            self.missed.push(format!("{kind}: {met}, asked for {least}"));
+        }
+    }
+
     /// Prints the refusals met, the least numbers missed and the sums. Whether nothing differs, no least number is missed and the
     /// whole table of refusals was met.
     pub fn print_end(&self) -> bool {

@@ -10,16 +10,17 @@ use super::refusal::Refusal;
 use super::score::Task;
 use super::sketch::{Entry, codes, positions, sketch_call};
 use super::start::{WORK_WORDS, start_call};
-use super::strike::strike_call;
+use super::strike::{strike_call, strike_read_call};
 
-/// The task of an input, the struck text's positions and h, by the calls in their order: "sketch of the text, sketch of the
-/// read, strike, start". Each buffer has a place for every letter.
+/// The task of an input, the struck text's positions and h, by the calls in their order: sketch of the text, sketch of the read,
+/// strike, strike of the read by the text's codes before they are struck, start. Each buffer has a place for every letter.
 pub fn prepared(input: &Input) -> Result<(Task, Vec<u32>, usize), Refusal> {
     let Settings { k, w, c, u, v, threshold } = input.settings;
-    let sketched: Vec<Entry> = sketch_call(&input.text, k, w, MAX_LINE, MAX_LINE)?;
-    let pattern = codes(&sketch_call(&input.read, k, w, MAX_LINE, MAX_LINE)?);
-    let struck = strike_call(&codes(&sketched), &positions(&sketched), c, MAX_LINE, MAX_LINE)?;
-    let task = Task { text: codes(&struck), pattern, u, v, threshold };
+    let text: Vec<Entry> = sketch_call(&input.text, k, w, MAX_LINE, MAX_LINE)?;
+    let read: Vec<Entry> = sketch_call(&input.read, k, w, MAX_LINE, MAX_LINE)?;
+    let struck = strike_call(&codes(&text), &positions(&text), c, MAX_LINE, MAX_LINE)?;
+    let pattern = strike_read_call(&codes(&text), &codes(&read), &positions(&read), c, MAX_LINE, MAX_LINE)?;
+    let task = Task { text: codes(&struck), pattern: codes(&pattern), u, v, threshold };
     let h = start_call(&task, WORK_WORDS)?;
     Ok((task, positions(&struck), h))
 }

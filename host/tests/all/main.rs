@@ -8,6 +8,7 @@ mod definition1;
 mod maplist_inputs;
 mod maplist_large;
 mod maplist_random;
+mod maplist_repeats;
 mod maplist_vectors;
 mod per_mille;
 mod proved_vectors;

@@ -30,10 +30,39 @@ fn as_many_hits_as_are_allowed() {
         }
     }
     assert_eq!(hold("4,096 hits", "1 1 65535 1 1 0", &with_hits(4096), b"A"), b"refused 11\n");
-    assert_eq!(
-        hold("4,096 hits struck", "1 1 4095 1 1 0", &with_hits(4096), b"A"),
-        b"first last score shared permille\nfound 0 cells 0\n"
-    );
+}
+
+/// A pattern that is struck has no hits to be too many: what is left of it decides.
+#[test]
+fn hits_that_are_struck() {
+    let nothing = b"first last score shared permille\nfound 0 cells 0\n";
+    for hits in [2049, 4096] {
+        let text = with_hits(hits);
+        let (all, fewer) = (format!("1 1 {hits} 1 1 0"), format!("1 1 {} 1 1 0", hits - 1));
+        assert_eq!(hold("not struck", &all, &text, b"A"), b"refused 11\n");
+        assert_eq!(hold("struck", &fewer, &text, b"A"), b"refused 9\n");
+        assert_eq!(hold("struck, a full read", &fewer, &text, &[b'A'; 4096]), b"refused 9\n");
+        assert_eq!(hold("struck but for one letter", &fewer, &text, b"AAG"), nothing);
+    }
+}
+
+/// Reads of 4,096 entries that lose some of them: A is struck, and C, G and T are 1,996 hits.
+#[test]
+fn full_patterns_that_are_struck() {
+    let mut random = Random::new(2200);
+    for letter in [b'A', b'c', b'G', b'T'] {
+        let mut text = [[b'A'; 2100].as_slice(), &[b'C'; 900], &[b'G'; 96], &[b'T'; 1000]].concat();
+        for at in 0..text.len() {
+            text.swap(at, random.between(at, 4095));
+        }
+        let mut read = letters(&mut random, 4096, b"ACGT");
+        read[..2000].fill(letter);
+        for (c, threshold) in [(2099, i32::MIN), (1500, -500), (1000, 0)] {
+            let printed = hold("a full read", &format!("1 1 {c} 1 1 {threshold}"), &text, &read);
+            assert!(printed.ends_with(b" cells 1993006\n"), "{}", printed.escape_ascii());
+        }
+        assert_eq!(hold("a full read", "1 1 2100 1 1 0", &text, &read), b"refused 11\n");
+    }
 }
 
 #[test]

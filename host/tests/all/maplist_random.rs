@@ -58,9 +58,9 @@ fn sweep(seeds: std::ops::Range<u64>, longest: usize) -> Met {
     met
 }
 
-/// Sweeps 1,000 cases, and asks that enough of each kind were met.
-fn sweep_thousand(first: u64, longest: usize) {
-    let met = sweep(first..first + 1000, longest);
+/// Sweeps so many cases, and asks that enough of each kind were met.
+fn sweep_many(seeds: std::ops::Range<u64>, longest: usize) {
+    let met = sweep(seeds, longest);
     assert!(met.mapped > 400, "cases with a mapping: {}", met.mapped);
     assert!(met.several > 200, "cases with several mappings: {}", met.several);
     assert!(met.ties > 100, "cases with equal scores: {}", met.ties);
@@ -70,22 +70,23 @@ fn sweep_thousand(first: u64, longest: usize) {
 
 #[test]
 fn tiny_clusters() {
-    sweep_thousand(10_000, 20);
+    // short reads are often struck whole
+    sweep_many(10_000..12_000, 20);
 }
 
 #[test]
 fn small_clusters() {
-    sweep_thousand(20_000, 60);
+    sweep_many(20_000..21_000, 60);
 }
 
 #[test]
 fn clusters() {
-    sweep_thousand(30_000, 150);
+    sweep_many(30_000..31_000, 150);
 }
 
 #[test]
 fn longer_clusters() {
-    sweep_thousand(40_000, 300);
+    sweep_many(40_000..41_000, 300);
 }
 
 #[test]

@@ -11,12 +11,17 @@ use host::reference::sketch::Entry;
 use host::reference::steps::Step;
 
 use crate::on_small_stack;
-use crate::vector_files::{Vector, entries, lines, session, sketch_of, store, written};
+use crate::vector_files::{Vector, entries, lines, session, sketch_of, store, strikes, struck, written};
+
+/// The first n entries of two buffers.
+fn first(codes: &[u32], positions: &[u32], n: usize) -> Vec<Entry> {
+    let pairs = codes.iter().zip(positions).take(n);
+    pairs.map(|(&code, &position)| Entry { code, position }).collect()
+}
 
 /// The first n entries of two buffers, as the vectors write them.
 fn shown(codes: &[u32], positions: &[u32], n: usize) -> String {
-    let pairs = codes.iter().zip(positions).take(n);
-    entries(&pairs.map(|(&code, &position)| Entry { code, position }).collect::<Vec<_>>())
+    entries(&first(codes, positions, n))
 }
 
 /// What was held. Panics where something differs.
@@ -41,6 +46,30 @@ fn sketches() {
             }
         }
     }
+}
+
+#[test]
+fn strikes_of_text_and_read() {
+    on_small_stack(|| {
+        let mut random = Random::new(3050);
+        for (at, vector) in strikes().into_iter().enumerate() {
+            let (codes, positions, c, rooms) = (&vector.codes, &vector.positions, vector.c, vector.rooms);
+            let (mut codes_out, mut positions_out) = (vec![7; rooms.0], vec![9; rooms.1]);
+            let (answer, held) = match &vector.text {
+                Some(text) => (
+                    calls::strike_read(text, codes, positions, c, &mut codes_out, &mut positions_out),
+                    held::strike::strike_read(&mut random, text, codes, positions, c, rooms),
+                ),
+                None => (
+                    calls::strike(codes, positions, c, &mut codes_out, &mut positions_out),
+                    held::strike::strike(&mut random, codes, positions, c, rooms),
+                ),
+            };
+            let given = struck(&answer.map(|n| first(&codes_out, &positions_out, n)));
+            assert_eq!(given, vector.expected, "strike {at}, c {c}, rooms {rooms:?}");
+            assert_eq!(held, Ok(answer), "strike {at}, c {c}, rooms {rooms:?}");
+        }
+    });
 }
 
 #[test]

@@ -1,4 +1,4 @@
-//! The sample in data/sample: what its README says of it, by the reference and by the program; and the script that lists it.
+//! The samples in data/sample: what data/README.md says of them, by the reference and by the program; and the script that lists them.
 //! Assumes that the folder and the script stand at their places in the repository, and that the program has been built.
 
 use std::fs;
@@ -11,14 +11,17 @@ use host::reference::definition1::{Mapping, mapping_of};
 use host::reference::faster::finals;
 use host::reference::input::{Input, input};
 use host::reference::output::{output, prepared};
-use host::reference::score::Task;
+use host::reference::score::{Task, times};
+use host::reference::sketch::{codes, sketch};
+
+const SAMPLES: [&str; 2] = ["two_copies", "through_a_repeat"];
 
 fn file(name: &str) -> Vec<u8> {
     fs::read(Path::new(env!("CARGO_MANIFEST_DIR")).join("../data/sample").join(name)).expect("a file of the sample")
 }
 
-fn sample() -> Input {
-    input(&file("two_copies.in")).expect("three lines")
+fn sample(name: &str) -> Input {
+    input(&file(&format!("{name}.in"))).expect("three lines")
 }
 
 /// Calls the script on a file of data/, and gives its status, its list, and whether it went as far as the proofs.
@@ -30,46 +33,86 @@ fn listed(name: &str) -> (Option<i32>, Vec<u8>, bool) {
     (ended.status.code(), ended.stdout, String::from_utf8_lossy(&ended.stderr).contains("proving"))
 }
 
-/// The first and last letter of a mapping.
-fn letters(positions: &[u32], mapping: &Mapping) -> (u32, u32) {
-    (positions[mapping.a], positions[mapping.b] + 6)
+/// The first letter, the last letter and the score of each mapping of a task, by the definition's faster form.
+fn mapped(task: &Task, positions: &[u32], k: u32) -> Vec<(u32, u32, i64)> {
+    let letters = |mapping: &Mapping| (positions[mapping.a], positions[mapping.b] + k - 1, mapping.score);
+    finals(task).iter().map(letters).collect()
+}
+
+/// How many letters of two sequences of one length differ.
+fn differences(one: &[u8], other: &[u8]) -> usize {
+    assert_eq!(one.len(), other.len());
+    one.iter().zip(other).filter(|(a, b)| a != b).count()
+}
+
+/// Where a sequence stands in another.
+fn places(text: &[u8], part: &[u8]) -> Vec<usize> {
+    (0..text.len()).filter(|&at| text[at..].starts_with(part)).collect()
 }
 
 #[test]
-fn printed_list() {
-    let bytes = file("two_copies.in");
-    assert_eq!(output(&bytes), file("two_copies.out"));
-    expect("the sample", &bytes, &run_on(&bytes), &file("two_copies.out"));
+fn printed_lists() {
+    for name in SAMPLES {
+        let (bytes, expected) = (file(&format!("{name}.in")), file(&format!("{name}.out")));
+        assert_eq!(output(&bytes), expected, "{name}");
+        expect(name, &bytes, &run_on(&bytes), &expected);
+    }
 }
 
 #[test]
 fn copies_of_the_gene() {
-    let input = sample();
-    let differences =
-        |start: usize, other: &[u8]| input.text[start..start + 80].iter().zip(other).filter(|(a, b)| a != b).count();
+    let input = sample("two_copies");
+    let copy = |start: usize| &input.text[start..start + 80];
     assert_eq!(input.text.len(), 440);
-    assert_eq!([41, 184, 322].map(|start| differences(start, &input.text[41..121])), [0, 1, 3]);
-    assert_eq!(differences(41, &input.read), 1);
-    let repeats = input.text[41..121].windows(21).filter(|part| part == b"TCAAAAGGAATTACTGCTTAT").count();
-    assert_eq!(repeats, 2);
+    assert_eq!([41, 184, 322].map(|start| differences(copy(start), copy(41))), [0, 1, 3]);
+    assert_eq!(differences(copy(41), &input.read), 1);
+    assert_eq!(places(copy(41), b"TCAAAAGGAATTACTGCTTAT").len(), 2);
 }
 
 #[test]
 fn each_copy_once() {
-    let (task, positions, h) = prepared(&sample()).expect("an accepted sample");
-    let found: Vec<(u32, u32)> = finals(&task).iter().map(|mapping| letters(&positions, mapping)).collect();
-    assert_eq!(found, [(186, 261), (43, 118)]);
-    assert!(finals(&task).iter().all(|mapping| mapping.score == 22));
+    let (task, positions, h) = prepared(&sample("two_copies")).expect("an accepted sample");
+    assert_eq!(mapped(&task, &positions, 7), [(186, 261, 22), (43, 118, 22)]);
     assert_eq!(h * (h + 1) / 2, 4278);
     assert_eq!(cells(&task).iter().filter(|&&(a, b)| mapping_of(&task, a, b).score >= 10).count(), 58);
-    let third = &finals(&Task { threshold: 1, ..task })[0];
-    assert_eq!((letters(&positions, third), third.score), ((329, 399), 1));
+    assert_eq!(mapped(&Task { threshold: 1, ..task }, &positions, 7)[0], (329, 399, 1));
+}
+
+#[test]
+fn copies_through_a_repeat() {
+    let input = sample("through_a_repeat");
+    let copy = |start: usize| &input.text[start..start + 110];
+    assert_eq!(input.text.len(), 512);
+    assert_eq!(differences(copy(78), copy(323)), 1);
+    assert_eq!(differences(copy(78), &input.read), 1);
+    let repeat = b"agtccgaggagagggtgcttcagagtatgt";
+    assert_eq!(places(&input.text, repeat), [25, 78 + 40, 215, 271, 323 + 40, 457]);
+    assert_eq!(places(&input.read, repeat), [40]);
+    // nothing else is in lower case
+    assert_eq!(input.text.iter().filter(|letter| letter.is_ascii_lowercase()).count(), 6 * repeat.len());
+}
+
+/// With the read's sketch as it was before it was struck, the list at the same threshold lacks the second copy.
+#[test]
+fn copy_that_is_listed_since_the_read_is_struck() {
+    let input = sample("through_a_repeat");
+    let (task, positions, _) = prepared(&input).expect("an accepted sample");
+    let whole = Task { pattern: codes(&sketch(&input.read, input.settings.k, input.settings.w)), ..task.clone() };
+    assert_eq!((whole.pattern.len(), task.pattern.len()), (49, 39));
+    let text = codes(&sketch(&input.text, input.settings.k, input.settings.w));
+    let lost = whole.pattern.iter().filter(|code| !task.pattern.contains(code));
+    assert!(lost.map(|&code| times(code, &text)).eq([6; 10]), "each of the ten entries lost stands in the repeat");
+    assert_eq!(mapped(&task, &positions, 9), [(324, 431, 14), (79, 186, 26)]);
+    assert_eq!(mapped(&whole, &positions, 9), [(79, 186, 16)]);
+    assert_eq!(mapped(&Task { threshold: 4, ..whole }, &positions, 9), [(324, 431, 4), (79, 186, 16)]);
 }
 
 // One test, since two runs of the prover in one folder disturb each other.
 #[test]
 fn status_of_the_script() {
-    assert_eq!(listed("sample/two_copies.in"), (Some(0), file("two_copies.out"), true));
+    for name in SAMPLES {
+        assert_eq!(listed(&format!("sample/{name}.in")), (Some(0), file(&format!("{name}.out")), true));
+    }
     assert_eq!(listed("README.md"), (Some(1), b"refused input\n".to_vec(), true));
     assert_eq!(listed("no such file"), (Some(1), Vec::new(), false));
 }

@@ -6,12 +6,13 @@ use host::reference::sketch::{codes, positions, sketch};
 use host::reference::start::WORK_WORDS;
 use host::reference::steps::{Answer, Step, answers};
 use host::reference::store::save;
-use host::reference::strike::strike;
+use host::reference::strike::{strike, strike_read};
 
 /// The task of text and read letters with k 1, w 1, c 100 and u = v = 1.
 fn task(text: &[u8], read: &[u8], threshold: i32) -> Task {
-    let text = codes(&strike(&sketch(text, 1, 1), 100));
-    Task { text, pattern: codes(&sketch(read, 1, 1)), u: 1, v: 1, threshold }
+    let (text, read) = (sketch(text, 1, 1), sketch(read, 1, 1));
+    let pattern = codes(&strike_read(&codes(&text), &read, 100));
+    Task { text: codes(&strike(&text, 100)), pattern, u: 1, v: 1, threshold }
 }
 
 /// The ends and scores of the final mappings.

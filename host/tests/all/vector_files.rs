@@ -2,8 +2,10 @@
 //! Assumes that the folder stands at its place in the repository.
 
 use std::fs;
+use std::iter::repeat_n;
 use std::path::{Path, PathBuf};
 
+use host::reference::refusal::Refusal;
 use host::reference::score::Task;
 use host::reference::sketch::Entry;
 use host::reference::steps::{Answer, Step};
@@ -35,8 +37,13 @@ fn items(list: &str, between: char) -> impl Iterator<Item = &str> {
     list.split(between).filter(|item| !item.is_empty() && *item != "-")
 }
 
+/// The words of a list, in which `7*65536` is 65,536 times 7.
 fn numbers(list: &str) -> Vec<u32> {
-    items(list, ',').map(|number| number.parse().expect("a number")).collect()
+    let words = |item: &str| {
+        let (word, times) = item.split_once('*').unwrap_or((item, "1"));
+        repeat_n(word.parse().expect("a word"), times.parse().expect("a number of times"))
+    };
+    items(list, ',').flat_map(words).collect()
 }
 
 fn bytes(hexadecimal: &str) -> Vec<u8> {
@@ -58,6 +65,64 @@ pub fn per_milles() -> Vec<(u32, u32, u32, i32)> {
         (number(m), number(len), number(size), expected.parse().expect("an answer"))
     };
     lines("permille.tsv", 150).into_iter().map(vector).collect()
+}
+
+/// A call of a strike: of a read where there is a text, and else of a text.
+#[derive(Debug)]
+pub struct Strike {
+    pub text: Option<Vec<u32>>,
+    pub codes: Vec<u32>,
+    pub positions: Vec<u32>,
+    pub c: u32,
+    pub rooms: (usize, usize),
+    pub expected: String,
+}
+
+/// A line of strike_read.tsv.
+fn read_strike(line: Vec<String>) -> Strike {
+    let [text, codes, positions, c, codes_room, positions_room, expected] = line.as_slice() else {
+        panic!("seven columns: {line:?}")
+    };
+    Strike {
+        text: Some(numbers(text)),
+        codes: numbers(codes),
+        positions: numbers(positions),
+        c: c.parse().expect("c"),
+        rooms: (codes_room.parse().expect("room"), positions_room.parse().expect("room")),
+        expected: expected.clone(),
+    }
+}
+
+/// A line of limits.tsv about a strike, with the answer that holds before texts may be longer. Where it names no c, any will do.
+fn limit_of_strike(line: &[String]) -> Option<Strike> {
+    let [call, expected, _] = line else { panic!("three columns: {line:?}") };
+    let said: Vec<u32> = call.split(|c: char| !c.is_ascii_digit()).filter_map(|number| number.parse().ok()).collect();
+    let (text, codes, positions, c) = match (call.split(" of ").collect::<Vec<_>>().as_slice(), said.as_slice()) {
+        (["strike", rest], &[code, position, c]) if rest.starts_with("entry ") => (None, vec![code], vec![position], c),
+        (["strike", _], &[times, code, c]) => (None, vec![code; times as usize], vec![0; times as usize], c),
+        (["strike", _], &[code, position, times, word]) => (Some(vec![word; times as usize]), vec![code], vec![position], 1),
+        _ => return None,
+    };
+    let rooms = (codes.len(), codes.len());
+    Some(Strike { text, codes, positions, c, rooms, expected: expected.clone() })
+}
+
+/// The strikes of strike_read.tsv and of limits.tsv.
+pub fn strikes() -> Vec<Strike> {
+    let limits: Vec<Strike> = lines("limits.tsv", 31).iter().filter_map(|line| limit_of_strike(line)).collect();
+    assert_eq!(limits.len(), 12, "lines of limits.tsv about strikes");
+    assert_eq!(limits.iter().filter(|strike| strike.text.is_some()).count(), 4, "of these, lines about the strike of a read");
+    lines("strike_read.tsv", 150).into_iter().map(read_strike).chain(limits).collect()
+}
+
+/// What a strike answered, as the vectors write it: the entries kept or the refusal.
+pub fn struck(answer: &Result<Vec<Entry>, Refusal>) -> String {
+    match answer {
+        Ok(rest) if rest.is_empty() => "-".to_string(),
+        Ok(rest) => entries(rest),
+        Err(Refusal { number, value: None }) => format!("refused {number}"),
+        Err(Refusal { number, value: Some(value) }) => format!("refused {number} {value}"),
+    }
 }
 
 /// A line of sketch.tsv: k, w, the letters, and the entries as text.

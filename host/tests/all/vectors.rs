@@ -7,14 +7,27 @@ use host::reference::sketch::sketch;
 use host::reference::start::{WORK_WORDS, start_call};
 use host::reference::steps::answers;
 use host::reference::store::load;
+use host::reference::strike::{strike_call, strike_read_call};
 
-use crate::vector_files::{Vector, entries, lines, lists, session, sketch_of, store, written};
+use crate::vector_files::{Vector, entries, lines, lists, session, sketch_of, store, strikes, struck, written};
 
 #[test]
 fn sketches() {
     for line in lines("sketch.tsv", 200) {
         let (k, w, letters, expected) = sketch_of(&line);
         assert_eq!(entries(&sketch(&letters, k, w)), expected, "{line:?}");
+    }
+}
+
+#[test]
+fn strikes_of_text_and_read() {
+    for (at, vector) in strikes().into_iter().enumerate() {
+        let (codes, positions, c, rooms) = (&vector.codes, &vector.positions, vector.c, vector.rooms);
+        let answer = match &vector.text {
+            Some(text) => strike_read_call(text, codes, positions, c, rooms.0, rooms.1),
+            None => strike_call(codes, positions, c, rooms.0, rooms.1),
+        };
+        assert_eq!(struck(&answer), vector.expected, "strike {at}, c {c}, rooms {rooms:?}");
     }
 }
 
