@@ -21,4 +21,5 @@ fn main() {
         exit(1);
     }
     println!("cargo:rustc-link-lib=static=exports");
+    println!("cargo:rustc-env=HUDDLEWOOL_ARCHIVE={}", library.display());
 }

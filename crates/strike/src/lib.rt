@@ -54,6 +54,7 @@ pub fn strike_read(
         ⌜ now («positions_out» .exit)
         ≡ strikePositions (now (text .entry)) (now (codes .entry)) (now (positions .entry)) c (now («codes_out» .entry)) (now («positions_out» .entry)) ⌝ }
 {
+    // Made before the checks, so that the compiler does not probe this room behind them: docs/DECISIONS.md says why.
     let mut marks = block_zeros();
     if codes.len() != positions.len() {
         return Struck::NotPaired;

@@ -5,6 +5,7 @@ use std::thread;
 
 mod count;
 mod definition1;
+mod frames;
 mod maplist_inputs;
 mod maplist_large;
 mod maplist_random;
