@@ -24,8 +24,8 @@ pub record SketchCall (k w : ℕ) (letters codes₀ positions₀ : List ℕ) (re
   pub positions-after : positions′ ≡ sketchPositions k w letters codes₀ positions₀
 
 -- the codes that decide; the codes and positions to strike
-pub record StrikeCall (deciding codes positions : List ℕ) (c : ℕ) (codes₀ positions₀ : List ℕ) (result number : ℕ) (codes′ positions′ : List ℕ) :
-    Type 0 where
+pub record StrikeCall (deciding codes positions : List ℕ) (c : ℕ) (codes₀ positions₀ : List ℕ) (result number : ℕ)
+    (codes′ positions′ : List ℕ) : Type 0 where
   pub tells : Tells (strikeReply deciding codes positions c (length codes₀) (length positions₀)) result number
   pub codes-after : codes′ ≡ strikeCodes deciding codes positions c codes₀ positions₀
   pub positions-after : positions′ ≡ strikePositions deciding codes positions c codes₀ positions₀

@@ -1,11 +1,11 @@
 -- From the two lines to the session: what the two sketches answer and leave, and what strike and start make of them.
 use Prim.Native.Nat.{ℕ, _≤_}
-use mathlib.Core.Path.{_≡_, refl, sym, ap, _∙_}
+use mathlib.Core.Path.{_≡_, sym, ap, _∙_}
 use mathlib.Core.Logic.{_≢_}
 use mathlib.Core.List.{List, [], _∷_}
 use lib.ListN.{length, take}
 use Rattle.base.specs.Limits.{lineLimit}
-use Rattle.base.specs.Replies.{Reply, accepted, refused, after}
+use Rattle.base.specs.Replies.{Reply, accepted, after}
 use Rattle.kmers.specs.Kmers.{Entry, codes, positions, entries}
 use Rattle.minimizers.specs.Sketch.{sketch}
 use Rattle.sketch.specs.Replies.{sketchReply, sketchCodes, sketchPositions}

@@ -5,7 +5,7 @@ use mathlib.Core.Logic.{_≢_}
 use mathlib.Core.List.{List, [], _∷_}
 use lib.ListN.{length, take}
 use Rattle.base.specs.Limits.{lineLimit}
-use Rattle.base.specs.Replies.{Reply, accepted, over, after}
+use Rattle.base.specs.Replies.{Reply, accepted, after}
 use Rattle.kmers.specs.Kmers.{codes, positions, entries}
 use Rattle.kmers.proofs.Entries.{length-codes}
 use Rattle.requests.specs.declared.Settings.{Settings}

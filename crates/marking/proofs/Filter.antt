@@ -73,7 +73,8 @@ module _ (f : ℕ → Bool) (words : List ℕ) where
   collected-none out = record { within = zero-le; few = zero-le; kept = refl }
 
   -- one word more, of which the test is b
-  kept-more : (b : Bool) (i at : ℕ) (out : List ℕ) → f (getD words i 0) ≡ b → at < length out → i < length words → take at out ≡ keep f (take i words)
+  kept-more : (b : Bool) (i at : ℕ) (out : List ℕ) → f (getD words i 0) ≡ b → at < length out → i < length words
+      → take at out ≡ keep f (take i words)
       → take (at + bit b) (set out at (getD words i 0)) ≡ keep f (take (suc i) words)
   kept-more b i at out e h l k = rw (take-suc words i 0 l, keep-append f (take i words) (getD words i 0 ∷ []), e) (go b)
     where
@@ -95,7 +96,8 @@ module _ (f : ℕ → Bool) (words : List ℕ) where
             rw (add-one i, e) (kept-more (f (getD words i 0)) i at out refl (omega arith) h (c .kept));
       }
 
-  pub collected-all : (i at : ℕ) (out : List ℕ) → Collected f words i at out → length words ≤ i → (at ≤ length words) × (take at out ≡ keep f words)
+  pub collected-all : (i at : ℕ) (out : List ℕ) → Collected f words i at out → length words ≤ i
+      → (at ≤ length words) × (take at out ≡ keep f words)
   collected-all i at out c h =
       let few : at ≤ i = c .few in
       let inside : i ≤ length words = c .within in

@@ -114,7 +114,8 @@ module _ (list words : List ℕ) where
       let n : length (marksOf list 0 words) ≡ length words = length-map words (markOf list 0) in
       written-all (marksOf list 0 words) old i now w (omega arith) (omega arith)
 
-pub filled-all : (i : ℕ) (old now : List ℕ) → now ≡ replicate i 1 ++ drop i old → i ≤ length old → length old ≤ i → now ≡ replicate (length old) 1
+pub filled-all : (i : ℕ) (old now : List ℕ) → now ≡ replicate i 1 ++ drop i old → i ≤ length old → length old ≤ i
+    → now ≡ replicate (length old) 1
 filled-all i old now e h l =
     let n : i ≡ length old = omega arith in
     e ∙ ap (λ (r : List ℕ). replicate i 1 ++ r) (drop-of-length-le old l) ∙ append-nil (replicate i 1) ∙ ap (λ (k : ℕ). replicate k 1) n

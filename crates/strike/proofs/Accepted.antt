@@ -22,9 +22,11 @@ module _ (deciding cs ps : List ℕ) (c : ℕ) where
       room-held (length (strike deciding c (entries cs ps))) a b m (r .1)
 
   -- the entries kept stand in front of the two buffers
-  pub strike-wrote : (codes₀ positions₀ : List ℕ) (m : ℕ) → strikeReply deciding cs ps c (length codes₀) (length positions₀) ≡ accepted (m ∷ [])
-      → Wrote (strike deciding c (entries cs ps)) m (strikeCodes deciding cs ps c codes₀ positions₀) (strikePositions deciding cs ps c codes₀ positions₀)
+  pub strike-wrote : (codes₀ positions₀ : List ℕ) (m : ℕ)
+      → strikeReply deciding cs ps c (length codes₀) (length positions₀) ≡ accepted (m ∷ [])
+      → Wrote (strike deciding c (entries cs ps)) m (strikeCodes deciding cs ps c codes₀ positions₀)
+      (strikePositions deciding cs ps c codes₀ positions₀)
   unfolding strikeCodes strikePositions
   strike-wrote codes₀ positions₀ m e =
-      reply-wrote (strikeReply deciding cs ps c (length codes₀) (length positions₀)) (m ∷ []) (strike deciding c (entries cs ps)) codes₀ positions₀ m e
-      (strike-held (length codes₀) (length positions₀) m e .number)
+      reply-wrote (strikeReply deciding cs ps c (length codes₀) (length positions₀)) (m ∷ []) (strike deciding c (entries cs ps)) codes₀
+      positions₀ m e (strike-held (length codes₀) (length positions₀) m e .number)

@@ -241,7 +241,8 @@ sum-marks-le f (x ∷ xs) =
     omega arith
 
 -- what copying the marked words asks of the marks of codes
-pub copyable : (deciding cs words marks : List ℕ) (c n : ℕ) → length words ≡ length cs → marks ≡ marksOf deciding c cs → n ≡ sum (marksOf deciding c cs)
+pub copyable : (deciding cs words marks : List ℕ) (c n : ℕ) → length words ≡ length cs → marks ≡ marksOf deciding c cs
+    → n ≡ sum (marksOf deciding c cs)
     → (length words ≡ length marks) × ((k : ℕ) → getD marks k 0 ≤ 1) × (n ≡ sum marks)
 copyable deciding cs words marks c n paired e f = (
   paired ∙ sym (ap length e ∙ length-map cs (λ (x : ℕ). bit (leb (occ x deciding) c))),

@@ -52,7 +52,8 @@ pub fn strike_read(
         ≡ strikeCodes (now (text .entry)) (now (codes .entry)) (now (positions .entry)) c (now («codes_out» .entry)) (now («positions_out» .entry)) ⌝ }
     ensures { λ _.
         ⌜ now («positions_out» .exit)
-        ≡ strikePositions (now (text .entry)) (now (codes .entry)) (now (positions .entry)) c (now («codes_out» .entry)) (now («positions_out» .entry)) ⌝ }
+        ≡ strikePositions (now (text .entry)) (now (codes .entry)) (now (positions .entry)) c (now («codes_out» .entry))
+        (now («positions_out» .entry)) ⌝ }
 {
     // Made before the checks, so that the compiler does not probe this room behind them: docs/DECISIONS.md says why.
     let mut marks = block_zeros();
@@ -100,7 +101,8 @@ pub fn strike(
         ≡ strikeCodes (now (codes .entry)) (now (codes .entry)) (now (positions .entry)) c (now («codes_out» .entry)) (now («positions_out» .entry)) ⌝ }
     ensures { λ _.
         ⌜ now («positions_out» .exit)
-        ≡ strikePositions (now (codes .entry)) (now (codes .entry)) (now (positions .entry)) c (now («codes_out» .entry)) (now («positions_out» .entry)) ⌝ }
+        ≡ strikePositions (now (codes .entry)) (now (codes .entry)) (now (positions .entry)) c (now («codes_out» .entry))
+        (now («positions_out» .entry)) ⌝ }
 {
     strike_read(codes, codes, positions, c, codes_out, positions_out)
 }

@@ -13,11 +13,6 @@ use native.Mathlib.Omega.{arith}
 use Prim.Native.Nat.{ℕ, _+_, _-_, _≤_, _<_, zero-le}
 use Rattle.session_start.proofs.hits.collect.Statement.{statement}
 use Rattle.session_start.proofs.hits.collect.Tie as tie
-use Rattle.session_start.proofs.hits.collect.Reads as reads
-use Rattle.session_start.proofs.hits.collect.Lts as lts
-use Rattle.session_start.proofs.hits.note.Reads as note-reads
-use Rattle.session_start.proofs.hits.one_at.Reads as one-at-reads
-use Rattle.session_words.proofs.wide.Reads as wide-reads
 
 abbrev Inv-loop : tie.InvT-loop
 Inv-loop text sorted index₀ slots₀ h₀ i₀ index slots h i =

@@ -4,7 +4,8 @@ use Prim.Native.Nat.{_+_, _-_, _≤_}
 use mathlib.Core.Path.{_≡_, refl, sym, ap₂, _∙_}
 use lib.ListN.{length, take}
 use lib.Seq.{length-take-le, length-front}
-use Rattle.strike.proofs.Parts.{between, length-between, keptUpTo, kept-more, kept-all, room-for-block, block-fits, CopiedUpTo, copied-block, copied-whole}
+use Rattle.strike.proofs.Parts.{between, length-between, keptUpTo, kept-more, kept-all, room-for-block, block-fits}
+use Rattle.strike.proofs.Parts.{CopiedUpTo, copied-block, copied-whole}
 use borrow.Author.Needs.{needs}
 use Rattle.strike.proofs.blocks.copy_kept.Statement.{statement}
 use Rattle.strike.proofs.blocks.copy_kept.Tie as tie
