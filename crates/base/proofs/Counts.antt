@@ -1,14 +1,15 @@
--- Laws of counts: of a list and one more word at either end, of joined lists, and of the words that occur.
-use Prim.Native.Nat.{ℕ, suc, _+_, _-_, _≤_, _<_, zero-le}
+-- Laws of counts: of a list and one more word at either end, of joined lists, of the words that pass a test, and of those that occur.
+use Prim.Native.Nat.{ℕ, suc, _+_, _*_, _≤_, _<_, zero-le}
 use native.Mathlib.Omega.{arith}
 use mathlib.Core.Path.{_≡_, refl, sym, ap, _∙_}
-use mathlib.Core.Logic.{_⊎_, inl, inr}
+use mathlib.Core.Logic.{_⊎_, inl, inr, _≢_}
+use mathlib.Core.Bool.{Bool, true, false}
 use mathlib.Core.List.{List, [], _∷_, _++_, List·Memᴰ, List·Memᴰ·head, List·Memᴰ·tail, List·Memᴰ·not-nil, List·Memᴰ·cases-cons}
 use lib.Dec.{eqb}
 use lib.ListN.{length, getD, take, drop, take-append-drop}
 use lib.Seq.{take-suc}
 use borrow.Author.Tests.{eq-eqb, ne-eqb}
-use Rattle.base.specs.Lists.{bit}
+use Rattle.base.specs.Lists.{bit, addIf, keep}
 use Rattle.base.specs.Counts.{occ}
 use Rattle.base.proofs.Lists.{bit-le-one, eq-or-ne}
 
@@ -33,6 +34,22 @@ occ-le-length x (y ∷ ys) =
     let e : occ x ys ≤ length ys = occ-le-length x ys in
     let b : bit (eqb x y) ≤ 1 = bit-le-one (eqb x y) in
     omega arith
+
+-- a word occurs as often as before among those that pass a test, or not at all
+occ-addIf : (x : ℕ) (b : Bool) (y : ℕ) (l : List ℕ) → occ x (addIf b y l) ≡ bit b * bit (eqb x y) + occ x l
+occ-addIf x true y l = omega arith
+occ-addIf x false y l = omega arith
+
+pub occ-keep : (f : ℕ → Bool) (x : ℕ) (l : List ℕ) → occ x (keep f l) ≡ bit (f x) * occ x l
+occ-keep f x [] = omega arith
+occ-keep f x (y ∷ ys) =
+    let rest : occ x (keep f ys) ≡ bit (f x) * occ x ys = occ-keep f x ys in
+    let here : bit (f y) * bit (eqb x y) ≡ bit (f x) * bit (eqb x y) = same (eq-or-ne x y) in
+    occ-addIf x (f y) y (keep f ys) ∙ omega arith
+  where
+    same : (x ≡ y) ⊎ (x ≢ y) → bit (f y) * bit (eqb x y) ≡ bit (f x) * bit (eqb x y)
+    same (inl e) = rw e
+    same (inr n) = rw (bit-other x y n) (omega arith)
 
 -- counting up to an index, one word further
 pub occ-take-suc : (x i : ℕ) (l : List ℕ) → i < length l → occ x (take (suc i) l) ≡ occ x (take i l) + bit (eqb x (getD l i 0))

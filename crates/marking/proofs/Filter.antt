@@ -3,7 +3,6 @@ use Prim.Native.Nat.{ℕ, suc, _+_, _*_, _≤_, _<_, zero-le}
 use native.Mathlib.Omega.{arith}
 use native.Mathlib.Numerals.{add-one}
 use mathlib.Core.Path.{_≡_, refl, sym, ap, _∙_}
-use mathlib.Core.Logic.{_⊎_, inl, inr, _≢_}
 use mathlib.Core.Bool.{Bool, true, false}
 use mathlib.Core.List.{List, [], _∷_, _++_, append-nil}
 use lib.Dec.{eqb, leb}
@@ -12,28 +11,13 @@ use lib.Seq.{take-suc, take-all, take-set-le, take-suc-set}
 use borrow.Author.Tests.{eq-eqb, le-leb, ltb-false}
 use Rattle.base.specs.Lists.{bit, addIf, keep}
 use Rattle.base.specs.Counts.{occ}
-use Rattle.base.proofs.Lists.{keep-append, eq-or-ne}
-use Rattle.base.proofs.Counts.{bit-other, occ-le-length}
+use Rattle.base.proofs.Lists.{keep-append}
+use Rattle.base.proofs.Counts.{occ-le-length, occ-keep}
 use Rattle.sorting.specs.Digits.{having}
 use Rattle.marking.specs.Marks.{markOf}
 use Rattle.marking.specs.Slots.{slotOf, inSlot, crowds, suspectsOf}
 
--- ---- how often a word occurs among those that pass a test
-
-occ-addIf : (x : ℕ) (b : Bool) (y : ℕ) (l : List ℕ) → occ x (addIf b y l) ≡ bit b * bit (eqb x y) + occ x l
-occ-addIf x true y l = omega arith
-occ-addIf x false y l = omega arith
-
-occ-keep : (f : ℕ → Bool) (x : ℕ) (l : List ℕ) → occ x (keep f l) ≡ bit (f x) * occ x l
-occ-keep f x [] = omega arith
-occ-keep f x (y ∷ ys) =
-    let rest : occ x (keep f ys) ≡ bit (f x) * occ x ys = occ-keep f x ys in
-    let here : bit (f y) * bit (eqb x y) ≡ bit (f x) * bit (eqb x y) = same (eq-or-ne x y) in
-    occ-addIf x (f y) y (keep f ys) ∙ omega arith
-  where
-    same : (x ≡ y) ⊎ (x ≢ y) → bit (f y) * bit (eqb x y) ≡ bit (f x) * bit (eqb x y)
-    same (inl e) = rw e
-    same (inr n) = rw (bit-other x y n) (omega arith)
+-- ---- the marks of the words that it lets through
 
 -- a word occurs at most as often as its slot holds words
 occ-in-slot : (words : List ℕ) (x : ℕ) → occ x words ≤ inSlot words (slotOf x)

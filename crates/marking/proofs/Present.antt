@@ -35,8 +35,8 @@ mark-present l x h = sym (ap bit (lt-leb (occ x l) 0 h))
 pub mark-absent : (l : List ℕ) (x : ℕ) → (0 < occ x l → ⊥) → 1 ≡ markOf l 0 x
 mark-absent l x h = let none : occ x l < 1 = lt-of-not-le h in sym (ap bit (le-leb (occ x l) 0 (omega arith)))
 
-pub mark-many : (words : List ℕ) (limit x : ℕ) → 0 ≡ markOf words limit x → limit < occ x words
-mark-many words limit x e = go (leb (occ x words) limit) refl
+pub mark-too-often : (words : List ℕ) (limit x : ℕ) → 0 ≡ markOf words limit x → limit < occ x words
+mark-too-often words limit x e = go (leb (occ x words) limit) refl
   where
     go : (b : Bool) → leb (occ x words) limit ≡ b → limit < occ x words
     go true f = let one : markOf words limit x ≡ 1 = ap bit f in absurd (omega arith)

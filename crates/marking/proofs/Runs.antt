@@ -22,7 +22,7 @@ use Rattle.marking.specs.Marks.{markOf}
 use Rattle.marking.specs.Slots.{suspectsOf}
 use Rattle.marking.specs.Frequent.{Frequent, endingIn}
 use Rattle.marking.proofs.Filter.{suspects-mark}
-use Rattle.marking.proofs.Present.{occ-at, found, mark-present, mark-many}
+use Rattle.marking.proofs.Present.{occ-at, found, mark-present, mark-too-often}
 use Rattle.marking.proofs.Ending.{ending-occurs, ending-other, ending-sorted}
 
 -- ---- the runs of words in order
@@ -120,7 +120,7 @@ module _ (sorted : List ℕ) (rises : Sorted sorted) (limit i n : ℕ) (list : L
   top : (k : ℕ) → k < length (take n list) → getD (take n list) k 0 ≤ getD sorted i 0
   top k h =
       let x = getD (take n list) k 0 in
-      let many : limit < occ x (take i sorted) = mark-many (take i sorted) limit x (mark-present (take n list) x (occ-at (take n list) k h) ∙ l .same-mark x)
+      let many : limit < occ x (take i sorted) = mark-too-often (take i sorted) limit x (mark-present (take n list) x (occ-at (take n list) k h) ∙ l .same-mark x)
       in
       below-word sorted rises i inside x (omega arith)
 

@@ -1,18 +1,18 @@
 -- Laws of striking, over the codes that decide: what is kept keeps its order and positions, and is kept exactly where its code occurs at
 -- most c times among them. So a code leaves the read exactly where it leaves the text.
-use Prim.Native.Nat.{ℕ, zero, suc, _+_, _≤_, _<_}
+use Prim.Native.Nat.{ℕ, zero, suc, _*_, _≤_, _<_}
 use native.Mathlib.Omega.{arith}
 use mathlib.Core.Path.{_≡_, refl, ap, _∙_}
 use mathlib.Core.Bool.{Bool, true, false}
 use mathlib.Core.Logic.{_⊎_, inl, inr}
 use mathlib.Core.List.{List, [], _∷_, map, List·Memᴰ, Sublistᴰ, Sublistᴰ·slnil, Sublistᴰ·cons, Sublistᴰ·cons-cons}
-use lib.Dec.{eqb, leb}
+use lib.Dec.{leb}
 use lib.ListN.{length, getD}
 use borrow.Author.Tests.{leb-true, leb-false, le-leb, lt-leb}
 use Rattle.base.specs.Lists.{bit, addIf, keep}
 use Rattle.base.specs.Counts.{occ}
-use Rattle.base.proofs.Lists.{clash, keep-mem, mem-keep, length-keep}
-use Rattle.base.proofs.Counts.{bit-other}
+use Rattle.base.proofs.Lists.{keep-mem, mem-keep, length-keep}
+use Rattle.base.proofs.Counts.{occ-keep}
 use Rattle.kmers.specs.Kmers.{Entry, codes, positions}
 use Rattle.strike.specs.Strike.{strike, struck}
 
@@ -67,26 +67,6 @@ codes-keep f (e ∷ es) = go (f (e .code)) ∙ ap (addIf (f (e .code)) (e .code)
     go true = refl
     go false = refl
 
-occ-keep : (f : ℕ → Bool) (x : ℕ) (l : List ℕ) → f x ≡ true → occ x (keep f l) ≡ occ x l
-occ-keep f x [] h = refl
-occ-keep f x (y ∷ ys) h = go (f y) refl (occ-keep f x ys h)
-  where
-    go : (b : Bool) → f y ≡ b → occ x (keep f ys) ≡ occ x ys → occ x (addIf b y (keep f ys)) ≡ bit (eqb x y) + occ x ys
-    go true e r = ap (λ (n : ℕ). bit (eqb x y) + n) r
-    go false e r =
-        let z : bit (eqb x y) ≡ 0 = bit-other x y (λ q. clash h (ap f q ∙ e)) in
-        omega arith
-
-none-kept : (f : ℕ → Bool) (x : ℕ) (l : List ℕ) → f x ≡ false → occ x (keep f l) ≡ 0
-none-kept f x [] h = refl
-none-kept f x (y ∷ ys) h = go (f y) refl (none-kept f x ys h)
-  where
-    go : (b : Bool) → f y ≡ b → occ x (keep f ys) ≡ 0 → occ x (addIf b y (keep f ys)) ≡ 0
-    go true e r =
-        let z : bit (eqb x y) ≡ 0 = bit-other x y (λ q. clash (ap f q ∙ e) h) in
-        omega arith
-    go false e r = r
-
 -- ---- what a strike keeps, whichever codes decide
 
 module _ (deciding : List ℕ) (c : ℕ) (es : List Entry) where
@@ -127,12 +107,15 @@ module _ (deciding : List ℕ) (c : ℕ) (es : List Entry) where
   unfolding strike
   codes-kept = codes-keep (λ (x : ℕ). leb (occ x deciding) c) es
 
+  codes-occ : (x : ℕ) → occ x (codes (strike deciding c es)) ≡ bit (leb (occ x deciding) c) * occ x (codes es)
+  codes-occ x = ap (occ x) codes-kept ∙ occ-keep (λ (y : ℕ). leb (occ y deciding) c) x (codes es)
+
   -- a code that is kept occurs as often as before, and one that is struck no more
   pub kept-occ : (x : ℕ) → occ x deciding ≤ c → occ x (codes (strike deciding c es)) ≡ occ x (codes es)
-  kept-occ x h = ap (occ x) codes-kept ∙ occ-keep (λ (y : ℕ). leb (occ y deciding) c) x (codes es) (le-leb (occ x deciding) c h)
+  kept-occ x h = let one : bit (leb (occ x deciding) c) ≡ 1 = ap bit (le-leb (occ x deciding) c h) in codes-occ x ∙ rw one (omega arith)
 
   pub struck-occ : (x : ℕ) → c < occ x deciding → occ x (codes (strike deciding c es)) ≡ 0
-  struck-occ x h = ap (occ x) codes-kept ∙ none-kept (λ (y : ℕ). leb (occ y deciding) c) x (codes es) (lt-leb (occ x deciding) c h)
+  struck-occ x h = let none : bit (leb (occ x deciding) c) ≡ 0 = ap bit (lt-leb (occ x deciding) c h) in codes-occ x ∙ rw none (omega arith)
 
 -- ---- the read beside the text
 
