@@ -34,7 +34,7 @@ use Rattle.mapper.specs.declared.answer.Stepped.{Stepped}
 use Rattle.mapper.specs.Answers.{answerOf}
 use Rattle.mapper.specs.Step.{tooFewWords}
 use Rattle.mapper.specs.Promise.{Accepts, StepPromise}
-use Rattle.mapper.specs.Sessions.{Ran, none, then, wordsAfter, Lent, EntryCounts, AllAccept, FirstWords, Demand3}
+use Rattle.mapper.specs.Sessions.{Ran, none, then, wordsAfter, Lent, AllAccept, FirstWords, Demand3}
 use Rattle.mapper.specs.Sessions.{textCodes, textPositions, readCodes, readPositions, struckCodes, patternCodes, startTask}
 use Rattle.mapper.proofs.Accepted.{Admitted, admitted}
 
@@ -192,36 +192,36 @@ module _ (task : Task) (before : List ℕ) (a : Accepts task before) where
 
 -- ---- from letters: by the laws of sketch and strike, what they write is what start is given
 
-module _ (settings : Settings) (text read : List ℕ) (lent : Lent) (counts : EntryCounts) (h : ℕ) (all : AllAccept settings text read lent counts h) where
+module _ (settings : Settings) (text read : List ℕ) (lent : Lent) (n m s r : ℕ) (h : ℕ) (all : AllAccept settings text read lent n m s r h) where
   abbrev k : ℕ
   k = settings .k
 
   abbrev w : ℕ
   w = settings .w
 
-  of-text : Wrote (sketch k w text) (counts .text) (sketchCodes k w text (lent .text-codes) (lent .text-positions))
+  of-text : Wrote (sketch k w text) n (sketchCodes k w text (lent .text-codes) (lent .text-positions))
       (sketchPositions k w text (lent .text-codes) (lent .text-positions))
-  of-text = sketch-wrote k w text (lent .text-codes) (lent .text-positions) (counts .text) (all .sketch-text)
+  of-text = sketch-wrote k w text (lent .text-codes) (lent .text-positions) n (all .sketch-text)
 
-  of-read : Wrote (sketch k w read) (counts .read) (sketchCodes k w read (lent .read-codes) (lent .read-positions))
+  of-read : Wrote (sketch k w read) m (sketchCodes k w read (lent .read-codes) (lent .read-positions))
       (sketchPositions k w read (lent .read-codes) (lent .read-positions))
-  of-read = sketch-wrote k w read (lent .read-codes) (lent .read-positions) (counts .read) (all .sketch-read)
+  of-read = sketch-wrote k w read (lent .read-codes) (lent .read-positions) m (all .sketch-read)
 
-  struck-codes-are : struckCodes settings text read lent counts ≡ codes (textOf settings text)
+  struck-codes-are : struckCodes settings text read lent n m s r ≡ codes (textOf settings text)
   unfolding struckCodes textCodes textPositions textOf struck
   struck-codes-are =
-      strike-wrote (textCodes settings text read lent counts) (textCodes settings text read lent counts) (textPositions settings text read lent counts)
-      (settings .c) (lent .struck-codes) (lent .struck-positions) (counts .struck) (all .strike-text) .codes-are
+      strike-wrote (textCodes settings text read lent n m s r) (textCodes settings text read lent n m s r) (textPositions settings text read lent n m s r)
+      (settings .c) (lent .struck-codes) (lent .struck-positions) s (all .strike-text) .codes-are
       ∙ ap₂ (λ (deciding : List ℕ) (es : List Entry). codes (strike deciding (settings .c) es)) (of-text .codes-are) (of-text .paired)
 
-  pattern-codes-are : patternCodes settings text read lent counts ≡ codes (patternOf settings text read)
+  pattern-codes-are : patternCodes settings text read lent n m s r ≡ codes (patternOf settings text read)
   unfolding patternCodes textCodes readCodes readPositions patternOf
   pattern-codes-are =
-      strike-wrote (textCodes settings text read lent counts) (readCodes settings text read lent counts) (readPositions settings text read lent counts)
-      (settings .c) (lent .pattern-codes) (lent .pattern-positions) (counts .pattern) (all .strike-read) .codes-are
+      strike-wrote (textCodes settings text read lent n m s r) (readCodes settings text read lent n m s r) (readPositions settings text read lent n m s r)
+      (settings .c) (lent .pattern-codes) (lent .pattern-positions) r (all .strike-read) .codes-are
       ∙ ap₂ (λ (deciding : List ℕ) (es : List Entry). codes (strike deciding (settings .c) es)) (of-text .codes-are) (of-read .paired)
 
-  start-task-is : startTask settings text read lent counts ≡ taskOf settings text read
+  start-task-is : startTask settings text read lent n m s r ≡ taskOf settings text read
   unfolding startTask taskOf
   start-task-is = λ i. taskWith (struck-codes-are i) (pattern-codes-are i) (settings .u) (settings .v) (settings .threshold)
 
@@ -238,8 +238,8 @@ module _ (settings : Settings) (text read : List ℕ) (lent : Lent) (counts : En
 
   -- demand 3 of the letters: over the two sketches as 01 defines them, both struck by the counts of the text's
   pub demand3 : {states : List (List ℕ)} {steps : List Step} {heard : List Answer}
-      → Ran (startWords (startTask settings text read lent counts) (lent .work)) steps heard states
-      → Demand3 (taskOf settings text read) (startWords (startTask settings text read lent counts) (lent .work)) steps heard states
+      → Ran (startWords (startTask settings text read lent n m s r) (lent .work)) steps heard states
+      → Demand3 (taskOf settings text read) (startWords (startTask settings text read lent n m s r) (lent .work)) steps heard states
   demand3 {states} {steps} {heard} =
       subst (λ (task : Task). Ran (startWords task (lent .work)) steps heard states
       → Demand3 (taskOf settings text read) (startWords task (lent .work)) steps heard states)

@@ -22,7 +22,7 @@ use Rattle.mapper.specs.declared.answer.Stepped.the-variants.{TooFewWord
 use Rattle.mapper.specs.Answers.{answerOf}
 use Rattle.mapper.specs.Step.{badWords}
 use Rattle.mapper.specs.Promise.{StepPromise}
-use Rattle.mapper.specs.Sessions.{Ran, none, then, Lent, EntryCounts, AllAccept, Demand3}
+use Rattle.mapper.specs.Sessions.{Ran, none, then, Lent, AllAccept, Demand3}
 use Rattle.mapper.specs.Sessions.{textCodes, textPositions, readCodes, readPositions, struckCodes, patternCodes, startTask}
 use Rattle.mapper.proofs.StepPromise.{few-promise, bad-promise, walk-promise}
 use Rattle.mapper.proofs.Demand3.{demand3}
@@ -59,24 +59,20 @@ unfoldable calls-compute : Unit {0}
 unfolding textCodes textPositions readCodes readPositions struckCodes patternCodes startTask
 calls-compute = tt
 
--- four entries of the text and three of the read, and as many that strike keeps
-abbrev counts : EntryCounts
-counts = record { text = 4; read = 3; struck = 4; pattern = 3 }
-
 -- start with the number of work words written out, so that no list of them is computed
-starts : startReply (startTask asked text read buffers counts) workWords ≡ accepted (4 ∷ [])
+starts : startReply (startTask asked text read buffers 4 3 4 3) workWords ≡ accepted (4 ∷ [])
 unfolding strike-computes mappings-compute badWeights startReply calls-compute
 starts = refl
 
--- with four hits
-pub all-accept : AllAccept asked text read buffers counts 4
+-- four entries of the text and three of the read, of which the strikes keep all, and four hits
+pub all-accept : AllAccept asked text read buffers 4 3 4 3 4
 unfolding strike-computes mappings-compute calls-compute
 all-accept = record {
   sketch-text = refl;
   sketch-read = refl;
   strike-text = refl;
   strike-read = refl;
-  start = ap (startReply (startTask asked text read buffers counts)) (length-replicate {A = ℕ} workWords 0) ∙ starts;
+  start = ap (startReply (startTask asked text read buffers 4 3 4 3)) (length-replicate {A = ℕ} workWords 0) ∙ starts;
   threshold-fits = omega arith;
 }
 
@@ -104,11 +100,11 @@ runs work (step ∷ steps) =
 
 -- the words of the example's fresh session
 abbrev begun : List ℕ
-begun = startWords (startTask asked text read buffers counts) (buffers .work)
+begun = startWords (startTask asked text read buffers 4 3 4 3) (buffers .work)
 
 -- any list of steps has a run on the example's session, and demand 3 speaks of it
 pub demand3-met : (steps : List Step) → (heard : List Answer) × (states : List (List ℕ)) × Ran begun steps heard states
     × Demand3 (taskOf asked text read) begun steps heard states
 demand3-met steps =
     let run = runs begun steps in
-    (run .0, run .1, run .2, demand3 asked text read buffers counts 4 all-accept (run .2))
+    (run .0, run .1, run .2, demand3 asked text read buffers 4 3 4 3 4 all-accept (run .2))

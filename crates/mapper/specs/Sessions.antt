@@ -45,47 +45,39 @@ pub record Lent : Type 0 where
   pub pattern-positions : List ℕ
   pub work : List ℕ
 
--- how many entries the calls answer: of the text and of the read, and of what is left of both when they are struck
-pub record EntryCounts : Type 0 where
-  pub text : ℕ
-  pub read : ℕ
-  pub struck : ℕ
-  pub pattern : ℕ
-
--- the calls in their order, each on what the ones before it wrote
-module _ (settings : Settings) (text read : List ℕ) (lent : Lent) (counts : EntryCounts) where
+-- the calls in their order, each on what those before it wrote: n entries of the text and m of the read, s and r of them when struck
+module _ (settings : Settings) (text read : List ℕ) (lent : Lent) (n m s r : ℕ) where
   unfoldable pub textCodes : List ℕ
-  textCodes = take (counts .text) (sketchCodes (settings .k) (settings .w) text (lent .text-codes) (lent .text-positions))
+  textCodes = take n (sketchCodes (settings .k) (settings .w) text (lent .text-codes) (lent .text-positions))
 
   unfoldable pub textPositions : List ℕ
-  textPositions = take (counts .text) (sketchPositions (settings .k) (settings .w) text (lent .text-codes) (lent .text-positions))
+  textPositions = take n (sketchPositions (settings .k) (settings .w) text (lent .text-codes) (lent .text-positions))
 
   unfoldable pub readCodes : List ℕ
-  readCodes = take (counts .read) (sketchCodes (settings .k) (settings .w) read (lent .read-codes) (lent .read-positions))
+  readCodes = take m (sketchCodes (settings .k) (settings .w) read (lent .read-codes) (lent .read-positions))
 
   unfoldable pub readPositions : List ℕ
-  readPositions = take (counts .read) (sketchPositions (settings .k) (settings .w) read (lent .read-codes) (lent .read-positions))
+  readPositions = take m (sketchPositions (settings .k) (settings .w) read (lent .read-codes) (lent .read-positions))
 
   unfoldable pub struckCodes : List ℕ
-  struckCodes = take (counts .struck) (strikeCodes textCodes textCodes textPositions (settings .c) (lent .struck-codes) (lent .struck-positions))
+  struckCodes = take s (strikeCodes textCodes textCodes textPositions (settings .c) (lent .struck-codes) (lent .struck-positions))
 
+  -- the pattern: the text's codes, not struck, decide what leaves the read
   unfoldable pub patternCodes : List ℕ
-  patternCodes = take (counts .pattern) (strikeCodes textCodes readCodes readPositions (settings .c) (lent .pattern-codes) (lent .pattern-positions))
+  patternCodes = take r (strikeCodes textCodes readCodes readPositions (settings .c) (lent .pattern-codes) (lent .pattern-positions))
 
   -- what start is given
   unfoldable pub startTask : Task
   startTask = taskWith struckCodes patternCodes (settings .u) (settings .v) (settings .threshold)
 
-  -- sketch of text and read, strike of both and start accept; the threshold is any signed 32-bit number
+  -- sketch of text and read, strike of both, and start accept, with h hits; the threshold is any signed 32-bit number
   pub record AllAccept (h : ℕ) : Type 0 where
-    pub sketch-text : sketchReply (settings .k) (settings .w) text (length (lent .text-codes)) (length (lent .text-positions))
-        ≡ accepted (counts .text ∷ [])
-    pub sketch-read : sketchReply (settings .k) (settings .w) read (length (lent .read-codes)) (length (lent .read-positions))
-        ≡ accepted (counts .read ∷ [])
+    pub sketch-text : sketchReply (settings .k) (settings .w) text (length (lent .text-codes)) (length (lent .text-positions)) ≡ accepted (n ∷ [])
+    pub sketch-read : sketchReply (settings .k) (settings .w) read (length (lent .read-codes)) (length (lent .read-positions)) ≡ accepted (m ∷ [])
     pub strike-text : strikeReply textCodes textCodes textPositions (settings .c) (length (lent .struck-codes)) (length (lent .struck-positions))
-        ≡ accepted (counts .struck ∷ [])
+        ≡ accepted (s ∷ [])
     pub strike-read : strikeReply textCodes readCodes readPositions (settings .c) (length (lent .pattern-codes)) (length (lent .pattern-positions))
-        ≡ accepted (counts .pattern ∷ [])
+        ≡ accepted (r ∷ [])
     pub start : startReply startTask (length (lent .work)) ≡ accepted (h ∷ [])
     pub threshold-fits : mag (settings .threshold) < signedLimit
 
