@@ -71,11 +71,11 @@ codes-keep f (e ∷ es) = go (f (e .code)) ∙ ap (addIf (f (e .code)) (e .code)
 
 module _ (deciding : List ℕ) (c : ℕ) (es : List Entry) where
   -- some of the entries, in their order
-  strike-sublist : Sublistᴰ (strike deciding c es) es
+  pub strike-sublist : Sublistᴰ (strike deciding c es) es
   unfolding strike
   strike-sublist = keep-sublist (λ (e : Entry). leb (occ (e .code) deciding) c) es
 
-  strike-positions-sublist : Sublistᴰ (positions (strike deciding c es)) (positions es)
+  pub strike-positions-sublist : Sublistᴰ (positions (strike deciding c es)) (positions es)
   strike-positions-sublist = map-sublist (λ (e : Entry). e .position) strike-sublist
 
   -- no more entries than before
