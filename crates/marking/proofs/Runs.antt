@@ -120,7 +120,8 @@ module _ (sorted : List ℕ) (rises : Sorted sorted) (limit i n : ℕ) (list : L
   top : (k : ℕ) → k < length (take n list) → getD (take n list) k 0 ≤ getD sorted i 0
   top k h =
       let x = getD (take n list) k 0 in
-      let many : limit < occ x (take i sorted) = mark-too-often (take i sorted) limit x (mark-present (take n list) x (occ-at (take n list) k h) ∙ l .same-mark x)
+      let zero : 0 ≡ markOf (take i sorted) limit x = mark-present (take n list) x (occ-at (take n list) k h) ∙ l .same-mark x in
+      let many : limit < occ x (take i sorted) = mark-too-often (take i sorted) limit x zero
       in
       below-word sorted rises i inside x (omega arith)
 
