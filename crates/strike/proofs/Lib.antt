@@ -2,6 +2,7 @@
 pub mod Compute
 pub mod Marked
 pub mod Parts
+pub mod Left
 pub mod Laws
 pub mod Cases
 pub mod Replies

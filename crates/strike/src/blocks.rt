@@ -11,7 +11,7 @@ ghost use Rattle.base.specs.Lists.{sum};
 ghost use Rattle.base.specs.Replies.{over};
 ghost use Rattle.base.specs.Zeros.{zeros};
 ghost use Rattle.marking.specs.Marks.{marksOf};
-ghost use Rattle.strike.specs.Marked.{markedWords};
+ghost use Rattle.strike.specs.Marked.{markedWords, marksLeft};
 
 // A block has as many entries as may decide: counting those anew for each block then costs no more than the blocks themselves.
 const BLOCK: usize = TEXT_LIMIT;
@@ -36,6 +36,7 @@ fn mark_block(deciding: &[u32], codes: &[u32], c: u32, marks: &mut [u8]) -> usiz
 pub(crate) fn count_kept(deciding: &[u32], codes: &[u32], c: u32, marks: &mut [u8]) -> usize
     requires { ⌜ (length (now deciding) ≤ textLimit) × (length (now marks) ≡ textLimit) ⌝ }
     ensures { λ r. ⌜ r ≡ sum (marksOf (now (deciding .entry)) c (now (codes .entry))) ⌝ }
+    ensures { λ _. ⌜ now (marks .exit) ≡ marksLeft (now (deciding .entry)) c (now (codes .entry)) (now (marks .entry)) ⌝ }
 {
     let mut kept = 0;
     let mut from = 0;
@@ -68,6 +69,7 @@ fn copy_block(
     ensures { λ _.
         ⌜ now («positions_out» .exit)
         ≡ over (markedWords (marksOf (now (deciding .entry)) c (now (codes .entry))) (now (positions .entry))) (now («positions_out» .entry)) ⌝ }
+    ensures { λ _. ⌜ now (marks .exit) ≡ marksOf (now (deciding .entry)) c (now (codes .entry)) ⌝ }
 {
     let kept = mark_block(deciding, codes, c, marks);
     copy_marked(codes, marks, kept, codes_out);
@@ -95,6 +97,7 @@ pub(crate) fn copy_kept(
     ensures { λ _.
         ⌜ now («positions_out» .exit)
         ≡ over (markedWords (marksOf (now (deciding .entry)) c (now (codes .entry))) (now (positions .entry))) (now («positions_out» .entry)) ⌝ }
+    ensures { λ _. ⌜ now (marks .exit) ≡ marksLeft (now (deciding .entry)) c (now (codes .entry)) (now (marks .entry)) ⌝ }
 {
     let mut at = 0;
     let mut from = 0;

@@ -11,7 +11,7 @@ ghost use lib.ListN.{length};
 ghost use Rattle.base.specs.Limits.{textLimit};
 ghost use Rattle.strike.specs.Strike.{strikeReply, strikeCodes, strikePositions};
 ghost use Rattle.strike.specs.Answers.{replyOf};
-ghost use Rattle.strike.specs.Marked.{lacking};
+ghost use Rattle.strike.specs.Marked.{lacking, marksCounted};
 
 // The entries kept, or why the call is refused: 5, 8, 6, or 4 with the entries needed.
 pub enum Struck {
@@ -26,6 +26,7 @@ pub enum Struck {
 fn lacking(deciding: &[u32], codes: &[u32], c: u32, room: usize, marks: &mut [u8]) -> usize
     requires { ⌜ (length (now deciding) ≤ textLimit) × (length (now marks) ≡ textLimit) ⌝ }
     ensures { λ r. ⌜ r ≡ lacking (now (deciding .entry)) (now (codes .entry)) c room ⌝ }
+    ensures { λ _. ⌜ now (marks .exit) ≡ marksCounted (now (deciding .entry)) c (now (codes .entry)) room (now (marks .entry)) ⌝ }
 {
     if codes.len() <= room {
         return 0;

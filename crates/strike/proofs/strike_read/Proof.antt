@@ -54,7 +54,7 @@ lacks : (c : tie.After-lacking)
     (min (length (entry-else4 (else4-lacking c) .args .codes-out .now)) (length (entry-else4 (else4-lacking c) .args .positions-out .now)))
 lacks c =
     let args = entry-else4 (else4-lacking c) .args in
-    c .lacking .ensures ∙ ap (lacking (args .text .now) (args .codes .now) (args .c)) (c .before .before .smaller .ensures)
+    c .lacking .ensures .0 ∙ ap (lacking (args .text .now) (args .codes .now) (args .c)) (c .before .before .smaller .ensures)
 
 block-zeros-requires : tie.Need-block-zeros-requires
 block-zeros-requires c κs = search needs
@@ -117,7 +117,7 @@ returns-6 c =
     let fits = none-lacks _ _ _ _ _ (lacks called) (at-else .if5 .left) in
     kept-written _ _ _ _ _ _ (else1-else4 checked .if1 .left) _ _ _
     (reply-kept _ _ _ _ _ _ (else1-else4 checked .if1 .left) (checked .before .before .if2 .left) (checked .before .if3 .left) (checked .if4 .left) _
-    (copied .copy-kept .ensures .0) fits) (copied .copy-kept .ensures .1 .0) (copied .copy-kept .ensures .1 .1)
+    (copied .copy-kept .ensures .0) fits) (copied .copy-kept .ensures .1 .0) (copied .copy-kept .ensures .1 .1 .0)
 
 pub strike-read-spec : {M : Type 1} → statement M
 strike-read-spec =

@@ -84,7 +84,10 @@ returns c =
       called .mark-block .ensures .0,
       (
         first .copy-marked .ensures ∙ ap (marked (args .codes .now) (args .codes-out .now)) (called .mark-block .ensures .1),
-        last .copy-marked2 .ensures ∙ ap (marked (args .positions .now) (args .positions-out .now)) (called .mark-block .ensures .1),
+        (
+          last .copy-marked2 .ensures ∙ ap (marked (args .positions .now) (args .positions-out .now)) (called .mark-block .ensures .1),
+          called .mark-block .ensures .1,
+        ),
       ),
     )
 

@@ -1,4 +1,5 @@
--- `blocks::copy_kept` meets its contract. The loop keeps: what is kept of the entries passed stands at the start of both buffers.
+-- `blocks::copy_kept` meets its contract. The loop keeps: what is kept of the entries passed stands at the start of both buffers,
+-- and the rest of them gives the same marks as all.
 use native.Mathlib.Omega.{arith}
 use Prim.Native.Nat.{_+_, _-_, _≤_}
 use mathlib.Core.Path.{_≡_, refl, sym, ap₂, _∙_}
@@ -6,6 +7,7 @@ use lib.ListN.{length, take}
 use lib.Seq.{length-take-le, length-front}
 use Rattle.strike.proofs.Parts.{between, length-between, keptUpTo, kept-more, kept-all, room-for-block, block-fits}
 use Rattle.strike.proofs.Parts.{CopiedUpTo, copied-block, copied-whole}
+use Rattle.strike.proofs.Left.{LeftFrom, left-from-none, left-more, left-whole}
 use borrow.Author.Needs.{needs}
 use Rattle.strike.proofs.blocks.copy_kept.Statement.{statement}
 use Rattle.strike.proofs.blocks.copy_kept.Tie as tie
@@ -17,7 +19,8 @@ Inv-loop deciding codes positions c marks₀ codes-out₀ positions-out₀ at₀
     (at ≡ keptUpTo deciding c codes from) ×
     ((length codes-out ≡ length codes-out₀) × (at ≤ length codes-out₀) × CopiedUpTo deciding c codes codes codes-out₀ from codes-out) ×
     ((length positions-out ≡ length positions-out₀) × (at ≤ length positions-out₀)
-    × CopiedUpTo deciding c codes positions positions-out₀ from positions-out)
+    × CopiedUpTo deciding c codes positions positions-out₀ from positions-out) ×
+    LeftFrom deciding c codes marks₀ from marks
 
 abbrev μ-loop : tie.MeasureT-loop
 μ-loop deciding codes positions c marks₀ codes-out₀ positions-out₀ at₀ from₀ marks codes-out positions-out at from = length codes - from
@@ -54,7 +57,7 @@ abbrev copy-block-slice-known6 : tie.After-slice-known6 Inv-loop μ-loop → tie
 copy-block-slice-known6 c = copy-block-codes-out (c .before .before .before)
 
 loop-holds : tie.Need-loop-holds Inv-loop μ-loop
-loop-holds c = (omega arith, refl, refl, (refl, omega arith, refl), (refl, omega arith, refl))
+loop-holds c = (omega arith, refl, refl, (refl, omega arith, refl), (refl, omega arith, refl), left-from-none _ _ _ _)
 
 sub-smaller : tie.Need-sub-smaller Inv-loop μ-loop
 sub-smaller c = search needs
@@ -168,11 +171,12 @@ loop-again c =
     let args = start .args in
     let from = turn .loop .from in
     let at = turn .loop .at in
-    let to = from + smaller-copy-block called .smaller .result in
+    let size = smaller-copy-block called .smaller in
+    let to = from + size .result in
     let n = called .copy-block .result in
     let last = called .copy-block .last in (
       omega arith,
-      length-front (turn .loop .marks) (last .1 .1 .1 .1 .0) (smaller-copy-block called .smaller .result) (called .copy-block .kept .1 .1 .1 .1 .0)
+      length-front (turn .loop .marks) (last .1 .1 .1 .1 .0) (size .result) (called .copy-block .kept .1 .1 .1 .1 .0)
           ∙ turn .loop .inv .1,
       ap₂ _+_ (turn .loop .inv .2) (called .copy-block .ensures .0)
           ∙ kept-more (args .deciding .now) (args .c) (args .codes .now) from to (omega arith),
@@ -181,7 +185,9 @@ loop-again c =
           (turn .loop .inv .3 .2) (called .copy-block .ensures .1 .0),
       copied-block (args .deciding .now) (args .c) (args .codes .now) (args .positions .now) (sym (start .pre .0 .2)) (args .positions-out .now)
           (turn .loop .positions-out) (last .1 .1 .1 .1 .1 .1 .0) from to at n (omega arith) (turn .loop .inv .2) (called .copy-block .ensures .0)
-          (start .pre .1 .1) (turn .loop .inv .4 .2) (called .copy-block .ensures .1 .1),
+          (start .pre .1 .1) (turn .loop .inv .4 .2) (called .copy-block .ensures .1 .1 .0),
+      left-more (args .deciding .now) (args .c) (args .codes .now) (args .marks .now) from (size .result) (turn .loop .marks)
+          (last .1 .1 .1 .1 .0) (smaller-copy-block called .before .loop-test .taken) (size .ensures) (called .copy-block .ensures .1 .1 .1) (turn .loop .inv .5),
     )
 
 same-length : tie.Need-same-length Inv-loop μ-loop
@@ -203,8 +209,12 @@ returns c =
       (
         copied-whole (args .deciding .now) (args .c) (args .codes .now) (args .codes .now) refl (args .codes-out .now) (at-end .loop .codes-out)
             (at-end .loop .from) done (at-end .loop .inv .3 .2),
-        copied-whole (args .deciding .now) (args .c) (args .codes .now) (args .positions .now) (sym (start .pre .0 .2)) (args .positions-out .now)
-            (at-end .loop .positions-out) (at-end .loop .from) done (at-end .loop .inv .4 .2),
+        (
+          copied-whole (args .deciding .now) (args .c) (args .codes .now) (args .positions .now) (sym (start .pre .0 .2)) (args .positions-out .now)
+              (at-end .loop .positions-out) (at-end .loop .from) done (at-end .loop .inv .4 .2),
+          left-whole (args .deciding .now) (args .c) (args .codes .now) (args .marks .now) (at-end .loop .from) (at-end .loop .marks) done
+              (at-end .loop .inv .5),
+        ),
       ),
     )
 

@@ -1,17 +1,19 @@
--- `blocks::count_kept` meets its contract. The loop keeps: what is counted is what is kept of the entries passed.
+-- `blocks::count_kept` meets its contract. The loop keeps: what is counted is what is kept of the entries passed, and the rest of them
+-- gives the same marks as all.
 use native.Mathlib.Omega.{arith}
 use Prim.Native.Nat.{_+_, _-_, _≤_}
 use mathlib.Core.Path.{_≡_, refl, sym, ap₂, _∙_}
 use lib.ListN.{length, take}
 use lib.Seq.{length-take-le, length-front}
 use Rattle.strike.proofs.Parts.{between, length-between, keptUpTo, kept-more, kept-few, kept-all}
+use Rattle.strike.proofs.Left.{LeftFrom, left-from-none, left-more, left-whole}
 use borrow.Author.Needs.{needs}
 use Rattle.strike.proofs.blocks.count_kept.Statement.{statement}
 use Rattle.strike.proofs.blocks.count_kept.Tie as tie
 
 abbrev Inv-loop : tie.InvT-loop
 Inv-loop deciding codes c marks₀ kept₀ from₀ marks kept from =
-    (from ≤ length codes) × (length marks ≡ length marks₀) × (kept ≡ keptUpTo deciding c codes from)
+    (from ≤ length codes) × (length marks ≡ length marks₀) × (kept ≡ keptUpTo deciding c codes from) × LeftFrom deciding c codes marks₀ from marks
 
 abbrev μ-loop : tie.MeasureT-loop
 μ-loop deciding codes c marks₀ kept₀ from₀ marks kept from = length codes - from
@@ -49,7 +51,7 @@ counted c =
     (omega arith)
 
 loop-holds : tie.Need-loop-holds Inv-loop μ-loop
-loop-holds c = (omega arith, refl, refl)
+loop-holds c = (omega arith, refl, refl, left-from-none _ _ _ _)
 
 sub-smaller : tie.Need-sub-smaller Inv-loop μ-loop
 sub-smaller c = search needs
@@ -103,11 +105,15 @@ loop-less c = search needs
 loop-again : tie.Need-loop-again Inv-loop μ-loop
 loop-again c =
     let called = mark-block-slice-known2 c in
-    let turn = turn-smaller (smaller-mark-block called) in (
+    let turn = turn-smaller (smaller-mark-block called) in
+    let args = entry-turn turn .args in
+    let size = smaller-mark-block called .smaller in (
       omega arith,
       length-front (turn .loop .marks) (called .mark-block .last .1 .1 .1 .0) (smaller-mark-block called .smaller .result)
           (called .mark-block .kept .1 .1 .1 .0) ∙ turn .loop .inv .1,
       counted called,
+      left-more (args .deciding .now) (args .c) (args .codes .now) (args .marks .now) (turn .loop .from) (size .result) (turn .loop .marks)
+          (called .mark-block .last .1 .1 .1 .0) (omega arith) (size .ensures) (called .mark-block .ensures .1) (turn .loop .inv .3),
     )
 
 same-length : tie.Need-same-length Inv-loop μ-loop
@@ -116,7 +122,10 @@ same-length c = c .before .loop .inv .1
 returns : tie.Need-returns Inv-loop μ-loop
 returns c =
     let args = entry-turn (c .before) .args in
-    c .before .loop .inv .2 ∙ kept-all (args .deciding .now) (args .c) (args .codes .now) (c .before .loop .from) (c .loop-test .left)
+    let end = c .before .loop in (
+      end .inv .2 ∙ kept-all (args .deciding .now) (args .c) (args .codes .now) (end .from) (c .loop-test .left),
+      left-whole (args .deciding .now) (args .c) (args .codes .now) (args .marks .now) (end .from) (end .marks) (c .loop-test .left) (end .inv .3),
+    )
 
 pub count-kept-spec : {M : Type 1} → statement M
 count-kept-spec =
