@@ -20,9 +20,9 @@ pub record StrikeCases : Type 0 where
   pub drops : positions (struck 2 (entries text (0 ∷ 1 ∷ 4 ∷ 6 ∷ 8 ∷ []))) ≡ 1 ∷ 6 ∷ []
   pub keeps : positions (struck 3 (entries text (0 ∷ 1 ∷ 4 ∷ 6 ∷ 8 ∷ []))) ≡ 0 ∷ 1 ∷ 4 ∷ 6 ∷ 8 ∷ []
   -- a read by the text's counts: 7 leaves it though the read has it once; 3, which the read has three times and the text not at all, stays
-  pub read-drops : positions (strike text 2 (entries (3 ∷ 7 ∷ 3 ∷ 9 ∷ 3 ∷ []) (0 ∷ 2 ∷ 3 ∷ 5 ∷ 6 ∷ []))) ≡ 0 ∷ 3 ∷ 5 ∷ 6 ∷ []
+  pub drops-of-read : positions (strike text 2 (entries (3 ∷ 7 ∷ 3 ∷ 9 ∷ 3 ∷ []) (0 ∷ 2 ∷ 3 ∷ 5 ∷ 6 ∷ []))) ≡ 0 ∷ 3 ∷ 5 ∷ 6 ∷ []
   -- with a limit one higher it stays
-  pub read-keeps : positions (strike text 3 (entries (3 ∷ 7 ∷ 3 ∷ 9 ∷ 3 ∷ []) (0 ∷ 2 ∷ 3 ∷ 5 ∷ 6 ∷ [])))
+  pub keeps-of-read : positions (strike text 3 (entries (3 ∷ 7 ∷ 3 ∷ 9 ∷ 3 ∷ []) (0 ∷ 2 ∷ 3 ∷ 5 ∷ 6 ∷ [])))
       ≡ 0 ∷ 2 ∷ 3 ∷ 5 ∷ 6 ∷ []
   -- words past the last one written keep their content
   pub answers : strikeReply text (7 ∷ 5 ∷ 7 ∷ []) (0 ∷ 1 ∷ 4 ∷ []) 2 2 2 ≡ accepted (1 ∷ [])
@@ -40,8 +40,8 @@ strike-cases =
     record {
       drops = refl;
       keeps = refl;
-      read-drops = refl;
-      read-keeps = refl;
+      drops-of-read = refl;
+      keeps-of-read = refl;
       answers = refl;
       writes = refl;
       writes-positions = refl;
