@@ -1,11 +1,14 @@
-//! Running the built program `maplist` on given bytes.
+//! Running the built program `maplist` on given bytes, and on random cases beside the reference.
 //! Assumes that HUDDLEWOOL_MAPLIST, where it is set, names the program; it is the repository's target/bin/maplist otherwise.
 
 use std::env;
 use std::io::Write;
+use std::ops::Range;
 use std::path::{Path, PathBuf};
 use std::process::{ChildStdin, Command, Output, Stdio};
 use std::thread;
+
+use crate::reference::output::output;
 
 /// The program's path. Panics where there is none: a test must not pass without it.
 pub fn maplist() -> PathBuf {
@@ -60,4 +63,13 @@ pub fn expect(case: &str, input: &[u8], printed: &Output, expected: &[u8]) {
         printed.stdout.escape_ascii(),
         printed.status
     );
+}
+
+/// Runs the program on the case of each seed, and hands on what agrees with the reference.
+pub fn sweep(seeds: Range<u64>, case: impl Fn(u64) -> Vec<u8>, mut meet: impl FnMut(&[u8])) {
+    for seed in seeds {
+        let bytes = case(seed);
+        expect(&format!("seed {seed}"), &bytes, &run_on(&bytes), &output(&bytes));
+        meet(&bytes);
+    }
 }

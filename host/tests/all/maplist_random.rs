@@ -2,11 +2,11 @@
 //! Assumes that the program has been built.
 
 use host::cases::{cluster, settings, three_lines};
-use host::program::{expect, run_on};
+use host::program::sweep;
 use host::random::Random;
 use host::reference::faster::finals;
 use host::reference::input::{Settings, input};
-use host::reference::output::{output, prepared};
+use host::reference::output::prepared;
 
 /// What a sweep of random cases met, so that it can't pass on empty lists alone.
 #[derive(Default)]
@@ -48,19 +48,10 @@ fn meet(met: &mut Met, bytes: &[u8]) {
     met.ties += usize::from(scores.windows(2).any(|pair| pair[0] == pair[1]));
 }
 
-fn sweep(seeds: std::ops::Range<u64>, longest: usize) -> Met {
-    let mut met = Met::default();
-    for seed in seeds {
-        let bytes = case(&mut Random::new(seed), longest);
-        expect(&format!("seed {seed}, longest {longest}"), &bytes, &run_on(&bytes), &output(&bytes));
-        meet(&mut met, &bytes);
-    }
-    met
-}
-
 /// Sweeps so many cases, and asks that enough of each kind were met.
 fn sweep_many(seeds: std::ops::Range<u64>, longest: usize) {
-    let met = sweep(seeds, longest);
+    let mut met = Met::default();
+    sweep(seeds, |seed| case(&mut Random::new(seed), longest), |bytes| meet(&mut met, bytes));
     assert!(met.mapped > 400, "cases with a mapping: {}", met.mapped);
     assert!(met.several > 200, "cases with several mappings: {}", met.several);
     assert!(met.ties > 100, "cases with equal scores: {}", met.ties);
@@ -91,5 +82,5 @@ fn longer_clusters() {
 
 #[test]
 fn long_clusters() {
-    sweep(50_000..50_040, 4096);
+    sweep(50_000..50_040, |seed| case(&mut Random::new(seed), 4096), |_| ());
 }

@@ -3,7 +3,7 @@
 //! Assumes that the program has been built.
 
 use host::cases::{settings, three_lines, through_a_repeat};
-use host::program::{expect, run_on};
+use host::program::{expect, run_on, sweep};
 use host::random::Random;
 use host::reference::definition1::Mapping;
 use host::reference::faster::finals;
@@ -149,19 +149,10 @@ fn meet(met: &mut Met, bytes: &[u8]) {
     met.gained += usize::from(finals(&whole).len() < list.len());
 }
 
-fn sweep(seeds: std::ops::Range<u64>, longest: usize) -> Met {
-    let mut met = Met::default();
-    for seed in seeds {
-        let bytes = case(&mut Random::new(seed), longest);
-        expect(&format!("seed {seed}, longest {longest}"), &bytes, &run_on(&bytes), &output(&bytes));
-        meet(&mut met, &bytes);
-    }
-    met
-}
-
 /// Sweeps so many cases, and asks that enough of each kind were met.
 fn sweep_many(seeds: std::ops::Range<u64>, longest: usize, least: Met) {
-    let met = sweep(seeds, longest);
+    let mut met = Met::default();
+    sweep(seeds, |seed| case(&mut Random::new(seed), longest), |bytes| meet(&mut met, bytes));
     let enough = met.shortened >= least.shortened && met.gained >= least.gained && met.emptied >= least.emptied;
     assert!(enough, "met {met:?}, asked for {least:?}");
 }
