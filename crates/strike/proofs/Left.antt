@@ -47,7 +47,9 @@ module _ (deciding : List ℕ) (c : ℕ) where
   module _ (cs marks₀ : List ℕ) where
     -- what is left from index `from` on gives the same marks as the whole
     abbrev pub LeftFrom : ℕ → List ℕ → Type 0
-    LeftFrom from marks = (fuel : ℕ) → length cs ≤ from + fuel * textLimit → marksBy fuel deciding c (drop from cs) marks ≡ marksLeft deciding c cs marks₀
+    LeftFrom from marks =
+        (fuel : ℕ) → length cs ≤ from + fuel * textLimit
+        → marksBy fuel deciding c (drop from cs) marks ≡ marksLeft deciding c cs marks₀
 
     pub left-from-none : LeftFrom 0 marks₀
     unfolding marksLeft

@@ -187,7 +187,8 @@ loop-again c =
           (turn .loop .positions-out) (last .1 .1 .1 .1 .1 .1 .0) from to at n (omega arith) (turn .loop .inv .2) (called .copy-block .ensures .0)
           (start .pre .1 .1) (turn .loop .inv .4 .2) (called .copy-block .ensures .1 .1 .0),
       left-more (args .deciding .now) (args .c) (args .codes .now) (args .marks .now) from (size .result) (turn .loop .marks)
-          (last .1 .1 .1 .1 .0) (smaller-copy-block called .before .loop-test .taken) (size .ensures) (called .copy-block .ensures .1 .1 .1) (turn .loop .inv .5),
+          (last .1 .1 .1 .1 .0) (smaller-copy-block called .before .loop-test .taken) (size .ensures)
+          (called .copy-block .ensures .1 .1 .1) (turn .loop .inv .5),
     )
 
 same-length : tie.Need-same-length Inv-loop μ-loop
