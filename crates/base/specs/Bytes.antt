@@ -18,6 +18,9 @@ lineFeed = 10
 abbrev pub minus : ℕ
 minus = 45
 
+abbrev pub plus : ℕ
+plus = 43
+
 -- the decimal digit of a number below 10, as a byte
 abbrev pub digit : ℕ → ℕ
 digit n = 48 + n

@@ -31,6 +31,8 @@ pub const SPACE: u8 = 32;
 
 pub const MINUS: u8 = 45;
 
+pub const PLUS: u8 = 43;
+
 pub const ZERO: u8 = 48;
 
 // Whether n is outside low to high.
