@@ -1,9 +1,10 @@
 -- Examples of per mille and of printed lines, among them document 01's: each is computed from the definitions.
 use mathlib.Core.Path.{_≡_, refl}
-use mathlib.Core.List.{[], _∷_}
+use mathlib.Core.List.{[]}
 use lib.IntN.{pos, negsuc}
 use Rattle.list_line.specs.PerMille.{perMilleNumber}
-use Rattle.base.specs.Bytes.{space, lineFeed}
+use Rattle.base.specs.Bytes.{asBytes}
+use Rattle.strands.specs.declared.Strand.the-variants.{Forward, Reverse}
 use Rattle.list_line.specs.Line.{signed, line, fitting}
 use Rattle.list_line.proofs.Compute.{list-line-computes}
 
@@ -52,12 +53,12 @@ per-mille-cases =
       size-high = refl;
     }
 
--- `1 3 3 3 1000`, `0 10 -5 2 62`, the lowest score, and a line that is one byte longer than the buffer
+-- a line of each strand, the lowest score, and a line that is one byte longer than the buffer
 pub record LineCases : Type 0 where
-  pub example : line 1 3 (pos 3) 3 1000 ≡ 49 ∷ space ∷ 51 ∷ space ∷ 51 ∷ space ∷ 51 ∷ space ∷ 49 ∷ 48 ∷ 48 ∷ 48 ∷ lineFeed ∷ []
-  pub negative : line 0 10 (negsuc 4) 2 62 ≡ 48 ∷ space ∷ 49 ∷ 48 ∷ space ∷ 45 ∷ 53 ∷ space ∷ 50 ∷ space ∷ 54 ∷ 50 ∷ lineFeed ∷ []
-  pub lowest : signed (negsuc 2147483647) ≡ 45 ∷ 50 ∷ 49 ∷ 52 ∷ 55 ∷ 52 ∷ 56 ∷ 51 ∷ 54 ∷ 52 ∷ 56 ∷ []
-  pub long : fitting 12 (line 1 3 (pos 3) 3 1000) ≡ []
+  pub example : line 1 3 (pos 3) 3 1000 Forward ≡ asBytes "1 3 3 3 1000 +\n"
+  pub negative : line 0 10 (negsuc 4) 2 62 Reverse ≡ asBytes "0 10 -5 2 62 -\n"
+  pub lowest : signed (negsuc 2147483647) ≡ asBytes "-2147483648"
+  pub long : fitting 14 (line 1 3 (pos 3) 3 1000 Forward) ≡ []
 
 pub line-cases : LineCases
 unfolding list-line-computes

@@ -12,6 +12,7 @@ use borrow.Author.Tests.{lt-ltb, le-ltb, ltb-true, ltb-false}
 use Rattle.list_line.specs.Line.{fitting, digitsBefore, decimal, signed, line}
 use Rattle.list_line.proofs.Buffers.{fitting-all}
 use Rattle.base.specs.Bytes.{digit}
+use Rattle.strands.specs.declared.Strand.{Strand}
 
 -- ---- one digit more
 
@@ -63,9 +64,9 @@ unfolding signed
 length-signed (pos n) = let h : length (decimal n) ≤ 10 = length-decimal n in omega arith
 length-signed (negsuc n) = let h : length (decimal (suc n)) ≤ 10 = length-decimal (suc n) in omega arith
 
-pub length-line : (first last : ℕ) (score : ℤ) (m perMille : ℕ) → length (line first last score m perMille) ≤ 56
+pub length-line : (first last : ℕ) (score : ℤ) (m perMille : ℕ) (strand : Strand) → length (line first last score m perMille strand) ≤ 58
 unfolding line
-length-line first last score m perMille =
+length-line first last score m perMille strand =
     let a : length (decimal first) ≤ 10 = length-decimal first in
     let b : length (decimal last) ≤ 10 = length-decimal last in
     let c : length (signed score) ≤ 11 = length-signed score in
@@ -74,7 +75,8 @@ length-line first last score m perMille =
     simp length-append (omega arith)
 
 -- so 64 bytes hold any line
-pub line-fits : (first last : ℕ) (score : ℤ) (m perMille : ℕ) → fitting 64 (line first last score m perMille) ≡ line first last score m perMille
-line-fits first last score m perMille =
-    let short : length (line first last score m perMille) ≤ 56 = length-line first last score m perMille in
-    fitting-all 64 (line first last score m perMille) (omega arith)
+pub line-fits : (first last : ℕ) (score : ℤ) (m perMille : ℕ) (strand : Strand)
+    → fitting 64 (line first last score m perMille strand) ≡ line first last score m perMille strand
+line-fits first last score m perMille strand =
+    let short : length (line first last score m perMille strand) ≤ 58 = length-line first last score m perMille strand in
+    fitting-all 64 (line first last score m perMille strand) (omega arith)

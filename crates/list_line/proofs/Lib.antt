@@ -5,3 +5,4 @@ pub mod PerMille
 pub mod Cases
 pub mod Buffers
 pub mod Decimal
+pub mod Writers

@@ -1,8 +1,10 @@
 // Writers of bytes, of numbers and of the printed line into a lent buffer. Each writes all or nothing.
 use base::LINE_FEED;
 use base::MINUS;
+use base::PLUS;
 use base::SPACE;
 use base::ZERO;
+use strands::Strand;
 ghost use mathlib.Core.Path.{_≡_};
 ghost use mathlib.Core.Bool.{false};
 ghost use mathlib.Core.List.{[], _∷_};
@@ -10,7 +12,7 @@ ghost use Prim.Native.Nat.{_≤_};
 ghost use lib.ListN.{length, drop};
 ghost use lib.IntN.{pos, natAbs};
 ghost use lib.Signed.{leZ};
-ghost use Rattle.list_line.specs.Line.{decimal, signed, line, fitting, LineWritten};
+ghost use Rattle.list_line.specs.Line.{decimal, signed, sign, line, fitting, LineWritten};
 ghost use Rattle.list_line.specs.Writing.{Written};
 
 // Writes the bytes from an index on and answers the next index. Where they do not all fit it writes none, and the index stays.
@@ -89,10 +91,28 @@ pub fn put_signed(out: &mut [u8], at: usize, z: i32) -> usize
     put_bytes(out, at, &digits[from..])
 }
 
+// The sign of a strand.
+fn sign(strand: Strand) -> u8
+    ensures { λ r. ⌜ r ≡ sign strand ⌝ }
+{
+    match strand {
+        Strand::Forward => PLUS,
+        Strand::Reverse => MINUS,
+    }
+}
+
 // A line of the list at the buffer's start; answers its length, or 0 where it is longer than the buffer: then nothing is written. It has
 // no other caller than `line`, whose contract can't speak of the bytes behind the part that it returns.
-fn write_line(out: &mut [u8], first: u32, last: u32, score: i32, m: u32, per_mille: u32) -> usize
-    ensures { λ r. ⌜ LineWritten (line first last score m «per_mille») (now (out .entry)) (now (out .exit)) r ⌝ }
+fn write_line(
+    out: &mut [u8],
+    first: u32,
+    last: u32,
+    score: i32,
+    m: u32,
+    per_mille: u32,
+    strand: Strand,
+) -> usize
+    ensures { λ r. ⌜ LineWritten (line first last score m «per_mille» strand) (now (out .entry)) (now (out .exit)) r ⌝ }
 {
     let mut text = [0u8; 64];
     let mut at = put_decimal(&mut text, 0, first);
@@ -104,6 +124,8 @@ fn write_line(out: &mut [u8], first: u32, last: u32, score: i32, m: u32, per_mil
     at = put_decimal(&mut text, at, m);
     at = put_byte(&mut text, at, SPACE);
     at = put_decimal(&mut text, at, per_mille);
+    at = put_byte(&mut text, at, SPACE);
+    at = put_byte(&mut text, at, sign(strand));
     at = put_byte(&mut text, at, LINE_FEED);
     put_bytes(out, 0, &text[..at])
 }
@@ -117,9 +139,10 @@ pub fn line<'a>(
     score: i32,
     m: u32,
     per_mille: u32,
+    strand: Strand,
 ) -> &'a mut [u8]
-    ensures { λ r. ⌜ now r ≡ fitting (length (now (out .entry))) (line first last score m «per_mille») ⌝ }
+    ensures { λ r. ⌜ now r ≡ fitting (length (now (out .entry))) (line first last score m «per_mille» strand) ⌝ }
 {
-    let n = write_line(out, first, last, score, m, per_mille);
+    let n = write_line(out, first, last, score, m, per_mille, strand);
     &mut out[..n]
 }

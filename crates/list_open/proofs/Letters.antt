@@ -17,7 +17,6 @@ use Rattle.sketch.proofs.Accepted.{Held, sketch-held}
 use Rattle.session_start.specs.Start.{startReply, startWords}
 use Rattle.requests.specs.declared.Settings.{Settings}
 use Rattle.requests.specs.Requests.{textOf, patternOf, taskOf}
-use Rattle.list_input.specs.Input.{given}
 use Rattle.answers.specs.Numbers.{numberOf, valueOf}
 use Rattle.answers.proofs.Accepted.{sketch-tells}
 use Rattle.list_open.specs.Calls.{andThen, strikingOf, sketchesReply, strikingReply, patternReply, callsReply}
@@ -90,7 +89,7 @@ module _ (s : Settings) (text read places work : List ℕ) where
 
   -- a sketch refuses, and so do all calls
   sketch-refused : (n : ℕ) (reply : Reply) → sketchesReply s text read ≡ reply → n ≡ numberOf reply → n ≢ 0
-      → Opens (given s text read) places work (Refused n) places work
+      → Opens s text read places work (Refused n) places work
   unfolding openedOf positionsAfter workAfter callsReply patternReply strikingReply
   sketch-refused n reply e f h =
       let not-zero : numberOf reply ≢ 0 = λ z. h (f ∙ z) in
@@ -100,17 +99,17 @@ module _ (s : Settings) (text read places work : List ℕ) where
       ap (λ (a : Reply). andThen a read-strike) struck ∙ and-refused reply read-strike not-zero in
       record {
         answer = rw calls (ap Refused f
-            ∙ refused-opened reply (startReply (taskOf s text read) (length work)) (s .k) (length (patternOf s text read)) not-zero);
+            ∙ refused-opened reply (startReply (taskOf s text read) (length work)) (length (patternOf s text read)) not-zero);
         positions-after = rw struck (refused-after reply (positions (textOf s text)) places not-zero);
         work-after = rw calls (refused-where reply (startWords (taskOf s text read) work) work not-zero);
       }
 
-  pub text-refused : (n : ℕ) → n ≡ numberOf of-text → n ≢ 0 → Opens (given s text read) places work (Refused n) places work
+  pub text-refused : (n : ℕ) → n ≡ numberOf of-text → n ≢ 0 → Opens s text read places work (Refused n) places work
   unfolding sketchesReply
   text-refused n e h = sketch-refused n of-text (and-refused of-text of-read (λ z. h (e ∙ z))) e h
 
   module _ (i : ℕ) (text-accepts : of-text ≡ accepted (i ∷ [])) where
-    pub read-refused : (n : ℕ) → n ≡ numberOf of-read → n ≢ 0 → Opens (given s text read) places work (Refused n) places work
+    pub read-refused : (n : ℕ) → n ≡ numberOf of-read → n ≢ 0 → Opens s text read places work (Refused n) places work
     unfolding sketchesReply
     read-refused n e h = sketch-refused n of-read (ap (λ (a : Reply). andThen a of-read) text-accepts) e h
 
@@ -124,7 +123,7 @@ module _ (s : Settings) (text read places work : List ℕ) where
       -- both sketches are accepted: the rest is the strikes' and start's
       opens-sketches : (r : Opened) (places′ work′ : List ℕ)
           → OpensSketches (codes text-sketch) (positions text-sketch) (codes read-sketch) (positions read-sketch) s places work r places′ work′
-          → Opens (given s text read) places work r places′ work′
+          → Opens s text read places work r places′ work′
       unfolding openedOf positionsAfter workAfter callsReply patternReply taskOf textOf patternOf struck
       opens-sketches r places′ work′ o =
           let texts : entries (codes text-sketch) (positions text-sketch) ≡ text-sketch = entries-same text-sketch in
@@ -139,5 +138,5 @@ module _ (s : Settings) (text read places work : List ℕ) where
       pub opens-fronts : (cs ps rcs rps : List ℕ) → cs ≡ codes text-sketch → ps ≡ positions text-sketch → rcs ≡ codes read-sketch
           → rps ≡ positions read-sketch → (r : Opened) (places′ work′ : List ℕ)
           → OpensSketches cs ps rcs rps s places work r places′ work′
-          → Opens (given s text read) places work r places′ work′
+          → Opens s text read places work r places′ work′
       opens-fronts cs ps rcs rps e f g h r places′ work′ o = opens-sketches r places′ work′ (rw (e, f, g, h) at o)

@@ -2,4 +2,3 @@
 pub mod Replies
 pub mod Sketches
 pub mod Letters
-pub mod Requests

@@ -16,13 +16,13 @@ pub and-refused : (first next : Reply) → numberOf first ≢ 0 → andThen firs
 and-refused (accepted values) next h = absurd (h refl)
 and-refused (refused number values) next h = refl
 
-pub refused-opened : (reply next : Reply) (k size : ℕ) → numberOf reply ≢ 0 → Refused (numberOf reply) ≡ openedBy (andThen reply next) k size
-refused-opened (accepted values) next k size h = absurd (h refl)
-refused-opened (refused number values) next k size h = refl
+pub refused-opened : (reply next : Reply) (size : ℕ) → numberOf reply ≢ 0 → Refused (numberOf reply) ≡ openedBy (andThen reply next) size
+refused-opened (accepted values) next size h = absurd (h refl)
+refused-opened (refused number values) next size h = refl
 
-pub refused-only : (reply : Reply) (k size : ℕ) → numberOf reply ≢ 0 → Refused (numberOf reply) ≡ openedBy reply k size
-refused-only (accepted values) k size h = absurd (h refl)
-refused-only (refused number values) k size h = refl
+pub refused-only : (reply : Reply) (size : ℕ) → numberOf reply ≢ 0 → Refused (numberOf reply) ≡ openedBy reply size
+refused-only (accepted values) size h = absurd (h refl)
+refused-only (refused number values) size h = refl
 
 pub refused-after : (reply : Reply) (new old : List ℕ) → numberOf reply ≢ 0 → old ≡ after reply new old
 refused-after (accepted values) new old h = absurd (h refl)

@@ -90,7 +90,7 @@ module _ (cs text rcs rps : List ℕ) (s : Settings) (work : List ℕ) where
   pattern-refused n e h =
       let not-zero : numberOf read-reply ≢ 0 = λ z. h (e ∙ z) in
       record {
-        answer = ap Refused e ∙ refused-opened read-reply (startReply task (length work)) (s .k) size not-zero;
+        answer = ap Refused e ∙ refused-opened read-reply (startReply task (length work)) size not-zero;
         work-after = refused-where read-reply (startWords task work) work not-zero;
       }
 
@@ -105,23 +105,23 @@ module _ (cs text rcs rps : List ℕ) (s : Settings) (work : List ℕ) where
         words ∙ ap (λ (l : List ℕ). startWords (taskWith text l (s .u) (s .v) (s .threshold)) work) front
         ∙ sym (ap (λ (a : Reply). whereAccepted a (startWords task work) work) accepts)
 
-    opened : openedBy (startReply task (length work)) (s .k) size ≡ openedBy (andThen read-reply (startReply task (length work))) (s .k) size
-    opened = sym (ap (λ (a : Reply). openedBy (andThen a (startReply task (length work))) (s .k) size) accepts)
+    opened : openedBy (startReply task (length work)) size ≡ openedBy (andThen read-reply (startReply task (length work))) size
+    opened = sym (ap (λ (a : Reply). openedBy (andThen a (startReply task (length work))) size) accepts)
 
     pub start-refused : n ≢ 0 → OpensPattern cs text rcs rps s work (Refused n) work′
     start-refused h =
         let e : n ≡ numberOf (startReply task (length work)) = number ∙ ap numberOf starts in
         record {
-          answer = ap Refused e ∙ refused-only (startReply task (length work)) (s .k) size (λ z. h (e ∙ z)) ∙ opened;
+          answer = ap Refused e ∙ refused-only (startReply task (length work)) size (λ z. h (e ∙ z)) ∙ opened;
           work-after = work-is;
         }
 
-    pub start-accepted : n ≡ 0 → (i : ℕ) → i ≡ size → OpensPattern cs text rcs rps s work (Session (s .k) i) work′
+    pub start-accepted : n ≡ 0 → (i : ℕ) → i ≡ size → OpensPattern cs text rcs rps s work (Session i) work′
     start-accepted z i counted =
         let e : startReply task (length work) ≡ accepted (valueOf (startReply task (length work)) ∷ []) =
         start-tells task (length work) .tells (sym (number ∙ ap numberOf starts) ∙ z) in
         record {
-          answer = ap (Session (s .k)) counted ∙ sym (ap (λ (a : Reply). openedBy a (s .k) size) e) ∙ opened;
+          answer = ap Session counted ∙ sym (ap (λ (a : Reply). openedBy a size) e) ∙ opened;
           work-after = work-is;
         }
 
@@ -143,12 +143,12 @@ module _ (cs ps rcs rps : List ℕ) (s : Settings) (places work places′ : List
 
   -- what is left once the answer of both strikes is known
   opens-both : (both : Reply) → andThen text-reply next-reply ≡ both → (r : Opened) (work′ : List ℕ)
-      → r ≡ openedBy (andThen both (startReply struck-task (length work))) (s .k) pattern-size
+      → r ≡ openedBy (andThen both (startReply struck-task (length work))) pattern-size
       → work′ ≡ whereAccepted both (startWords struck-task work) work
       → OpensSketches cs ps rcs rps s places work r places′ work′
   opens-both both e r work′ f g =
       record {
-        answer = f ∙ sym (ap (λ (a : Reply). openedBy (andThen a (startReply struck-task (length work))) (s .k) pattern-size) e);
+        answer = f ∙ sym (ap (λ (a : Reply). openedBy (andThen a (startReply struck-task (length work))) pattern-size) e);
         positions-after = left;
         work-after = g ∙ sym (ap (λ (a : Reply). whereAccepted a (startWords struck-task work) work) e);
       }
@@ -157,7 +157,7 @@ module _ (cs ps rcs rps : List ℕ) (s : Settings) (places work places′ : List
   text-struck-refused n e h =
       let not-zero : numberOf text-reply ≢ 0 = λ z. h (e ∙ z) in
       opens-both text-reply (and-refused text-reply next-reply not-zero) (Refused n) work
-      (ap Refused e ∙ refused-opened text-reply (startReply struck-task (length work)) (s .k) pattern-size not-zero)
+      (ap Refused e ∙ refused-opened text-reply (startReply struck-task (length work)) pattern-size not-zero)
       (refused-where text-reply (startWords struck-task work) work not-zero)
 
   pub text-struck : (m : ℕ) → text-reply ≡ accepted (m ∷ []) → (text : List ℕ) → text ≡ codes (strike cs (s .c) (entries cs ps))

@@ -1,24 +1,19 @@
-// The calls from the bytes of the input up to start.
+// The calls from the letters of text and read up to start.
 use answers::of_sketch;
 use answers::of_start;
 use answers::of_strike;
 use base::PATTERN_LIMIT;
-use list_input::Request;
-use list_input::read_input;
 use requests::Settings;
 ghost use mathlib.Core.Path.{_≡_};
 ghost use lib.ListN.{length};
 ghost use Rattle.base.specs.Limits.{lineLimit};
 ghost use Rattle.base.specs.Zeros.{zeros};
-ghost use Rattle.list_input.specs.Input.{given, inputOf};
 ghost use Rattle.list_open.specs.Opening.{Opens, OpensSketches, OpensPattern};
 
-// A session in the work words, with k and the number of entries of the pattern; or why there is none: what is malformed, or
-// the number of the first call that refuses.
+// A session in the work words, with the number of entries of the pattern; or the number of the first call that refuses.
 pub enum Opened {
-    Malformed,
     Refused(u32),
-    Session { k: u32, size: usize },
+    Session(usize),
 }
 
 fn line_zeros() -> [u32; PATTERN_LIMIT]
@@ -64,10 +59,7 @@ fn open_pattern(
     if started.0 != 0 {
         return Opened::Refused(started.0);
     }
-    Opened::Session {
-        k: settings.k,
-        size: struck.1,
-    }
+    Opened::Session(struck.1)
 }
 
 // Strikes the text's sketch, and goes on with the read's. The struck text's positions stay in `positions`.
@@ -99,8 +91,8 @@ fn open_sketches(
     )
 }
 
-// Sketches the text and the read, and goes on with the sketches.
-fn open_lines(
+// Sketches the text and the read, strikes both and starts the session of the read: the calls for one strand, in their order.
+pub fn open(
     text: &[u8],
     read: &[u8],
     settings: Settings,
@@ -108,7 +100,7 @@ fn open_lines(
     work: &mut [u32],
 ) -> Opened
     ensures { λ r.
-        ⌜ Opens (given settings (now (text .entry)) (now (read .entry))) (now (positions .entry)) (now (work .entry)) r (now (positions .exit))
+        ⌜ Opens settings (now (text .entry)) (now (read .entry)) (now (positions .entry)) (now (work .entry)) r (now (positions .exit))
         (now (work .exit)) ⌝ }
 {
     let mut codes = line_zeros();
@@ -138,38 +130,4 @@ fn open_lines(
         positions,
         work,
     )
-}
-
-// Reads the input and makes the calls in their order.
-pub fn open(bytes: &[u8], positions: &mut [u32], work: &mut [u32]) -> Opened
-    ensures { λ r. ⌜ Opens (inputOf (now (bytes .entry))) (now (positions .entry)) (now (work .entry)) r (now (positions .exit)) (now (work .exit)) ⌝ }
-{
-    match read_input(bytes) {
-        Request::Malformed => Opened::Malformed,
-        Request::Given {
-            k,
-            w,
-            c,
-            u,
-            v,
-            threshold,
-            text,
-            text_end,
-            read,
-            read_end,
-        } => open_lines(
-            &bytes[text..text_end],
-            &bytes[read..read_end],
-            Settings {
-                k,
-                w,
-                c,
-                u,
-                v,
-                threshold,
-            },
-            positions,
-            work,
-        ),
-    }
 }

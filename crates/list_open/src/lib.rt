@@ -1,2 +1,2 @@
-// From the bytes of the input to a session: the calls that `maplist` makes before its steps, in document 01's order.
+// From the letters of text and read to a session: the calls that `maplist` makes for one strand before its steps, in document 02's order.
 pub mod calls;

@@ -23,7 +23,8 @@ returns c =
     line-part (wrote .write-line .ensures)
     ∙ ap
     (λ (z : ℤ).
-    fitting (length (now (at-start .args .out))) (printedLine (at-start .args .first) (at-start .args .last) z (at-start .args .m) (at-start .args .per-mille)))
+    fitting (length (now (at-start .args .out))) (printedLine (at-start .args .first) (at-start .args .last) z (at-start .args .m) (at-start .args .per-mille)
+    (at-start .args .strand)))
     (toZ-ofZ (at-start .fits .score))
 
 pub line-spec : {M : Type 1} → statement M

@@ -115,7 +115,7 @@ module _ (c : tie.After-of-start) where
       (entry call .args .settings) (entry call .args .work .now) r work′
 
   start-ends : (c .of-start .result .0 ≢ 0 → ended (Refused (c .of-start .result .0)))
-      × (c .of-start .result .0 ≡ 0 → ended (Session (entry call .args .settings .k) (m call)))
+      × (c .of-start .result .0 ≡ 0 → ended (Session (m call)))
   start-ends =
       let args = entry call .args in
       let zero : n call ≡ 0 = struck .if1 .left in

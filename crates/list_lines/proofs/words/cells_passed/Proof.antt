@@ -1,9 +1,9 @@
--- `filling::cells_passed` meets its contract.
+-- `words::cells_passed` meets its contract.
 use mathlib.Core.Path.{sym}
 use lib.ListN.{List·getD-eq-default}
 use borrow.Author.Needs.{needs}
-use Rattle.list_output.proofs.filling.cells_passed.Statement.{statement}
-use Rattle.list_output.proofs.filling.cells_passed.Tie as tie
+use Rattle.list_lines.proofs.words.cells_passed.Statement.{statement}
+use Rattle.list_lines.proofs.words.cells_passed.Tie as tie
 
 -- src/filling.rt:63:9
 returns : tie.Need-returns

@@ -1,12 +1,12 @@
--- What a step hands out, and what is left to print after it.
+-- What a step hands out, the mappings that are left after it, and that the numbers of their lines hold them.
 use Prim.Native.Nat.{ℕ, suc, _+_, _-_, _≤_, _<_}
 use native.Mathlib.Omega.{arith}
-use mathlib.Core.Path.{_≡_, refl, sym, ap, ap₂, _∙_, subst}
+use mathlib.Core.Path.{_≡_, refl, sym, ap, _∙_, subst}
 use mathlib.Core.Bool.{Bool, true, false}
-use mathlib.Core.List.{List, [], _∷_, _++_, append-assoc, map}
-use lib.ListN.{length, take, drop, length-append, take-append-drop}
+use mathlib.Core.List.{List, [], _∷_, _++_, map}
+use lib.ListN.{length, take, drop, take-append-drop}
 use lib.Seq.{drop-drop}
-use Rattle.base.specs.Limits.{textLimit, hitLimit, patternLimit}
+use Rattle.base.specs.Limits.{textLimit, patternLimit}
 use Rattle.base.specs.Lists.{keep}
 use Rattle.base.proofs.Lists.{keep-append, map-append}
 use Rattle.mappings.specs.Score.{Task, lengthOf}
@@ -14,23 +14,11 @@ use Rattle.mappings.specs.Definition1.{Final}
 use Rattle.mappings.specs.Cells.{Cell, Mapping, cells, cellsOf, hitCount, cellCount, mappingOf, leftEnd, rightEnd}
 use Rattle.mappings.specs.FinalTest.{isFinalCell}
 use Rattle.mappings.specs.Rule.{Answer, found, finished, spent, refused, reported, ruleAnswer, handedOut}
-use Rattle.mappings.proofs.Cells.{cellCount-mono, length-cells, drop-all-cells}
+use Rattle.mappings.proofs.Cells.{drop-all-cells}
 use Rattle.mappings.proofs.Definition1.{test-final}
 use Rattle.mappings.proofs.Range.{Limited, shared-le-len, shared-le-size}
 use Rattle.mappings.proofs.Rule.{total, finalsOf, passing, passing-list, Outcome, as-found, as-finished, as-spent, outcome}
-use Rattle.list_line.specs.Line.{decimal}
-use Rattle.list_line.proofs.Decimal.{length-decimal}
-use Rattle.list_output.specs.Output.{mappingLine, mappingLines, lastLine}
-use Rattle.list_output.specs.Pieces.{Holds, finalsAfter, restOf, Belongs, cellLimit}
-
--- ---- lengths
-
-pub length-last : (count cells : ℕ) → length (lastLine count cells) ≤ 64
-unfolding lastLine
-length-last count cells =
-    let a : length (decimal count) ≤ 10 = length-decimal count in
-    let b : length (decimal cells) ≤ 10 = length-decimal cells in
-    simp length-append (omega arith)
+use Rattle.list_lines.specs.Pieces.{Holds, finalsAfter, Belongs}
 
 -- ---- the mappings that a step leaves
 
@@ -105,31 +93,9 @@ module _ (task : Task) where
       → (cell : Cell) × (mapping ≡ mappingOf task cell) × (isFinalCell task cell ≡ true)
   left-final q mapping rest e = final-of (drop q (cellsOf task)) mapping rest (sym e)
 
-  -- all cells of a session are few
-  pub few-cells : hitCount task ≤ hitLimit → total task ≤ cellLimit
-  unfolding cellCount
-  few-cells h = cellCount-mono (hitCount task) hitLimit h
-
-  -- ---- what is left to print
+  -- ---- the lines
 
   module _ (places : List ℕ) (k size : ℕ) where
-    pub rest-found : (q n count : ℕ) (mapping : Mapping) → finalsAfter task q ≡ mapping ∷ finalsAfter task (q + n)
-        → restOf task places k size q count ≡ mappingLine places k size mapping ++ restOf task places k size (q + n) (count + 1)
-    unfolding restOf
-    rest-found q n count mapping e =
-        let fs : List Mapping = finalsAfter task (q + n) in
-        let c : count + suc (length fs) ≡ count + 1 + length fs = omega arith in
-        ap (λ (l : List Mapping). mappingLines places k size l ++ lastLine (count + length l) (length (cellsOf task))) e
-        ∙ append-assoc (mappingLine places k size mapping) (mappingLines places k size fs) (lastLine (count + suc (length fs)) (length (cellsOf task)))
-        ∙ ap (λ (i : ℕ). mappingLine places k size mapping ++ (mappingLines places k size fs ++ lastLine i (length (cellsOf task)))) c
-
-    pub rest-finished : (q count : ℕ) → finalsAfter task q ≡ [] → restOf task places k size q count ≡ lastLine count (total task)
-    unfolding restOf cellsOf
-    rest-finished q count e =
-        let z : count + 0 ≡ count = omega arith in
-        ap (λ (l : List Mapping). mappingLines places k size l ++ lastLine (count + length l) (length (cellsOf task))) e
-        ∙ ap₂ lastLine z (length-cells (hitCount task))
-
     -- the numbers of a found mapping's line hold it
     pub record Fitting (mapping : Mapping) : Type 0 where
       pub holds : Holds places k size (mapping .a) (mapping .b)

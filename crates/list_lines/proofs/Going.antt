@@ -1,11 +1,11 @@
--- A piece in the making: what `fill` has written so far, and what each answer of step adds to it.
+-- A piece in the making: what `fill_lines` has written so far, and what each answer of step adds to it.
 use Prim.Native.Nat.{ℕ, suc, _+_, _-_, _≤_, _<_}
 use native.Mathlib.Nat.{le-refl, sub-zero}
 use native.Mathlib.Omega.{arith}
 use mathlib.Core.Path.{_≡_, refl, sym, ap, ap₂, _∙_}
 use mathlib.Core.Logic.{inl, inr}
 use mathlib.Core.Bool.{Bool, true, false}
-use mathlib.Core.List.{List, [], _∷_, _++_, append-assoc}
+use mathlib.Core.List.{List, [], _∷_, _++_, append-assoc, append-nil}
 use lib.IntN.{ℤ}
 use lib.ListN.{length, getD, take, drop, length-append}
 use borrow.Author.Tests.{le-ltb, lt-ltb, le-leb, lt-leb}
@@ -26,27 +26,29 @@ use Rattle.list_line.specs.Line.{line}
 use Rattle.list_line.specs.Writing.{Written}
 use Rattle.list_line.proofs.Buffers.{written-index}
 use Rattle.list_line.proofs.Decimal.{length-line}
-use Rattle.list_output.specs.Output.{mappingLine, lastLine}
-use Rattle.list_output.specs.Pieces.{MappingWritten, finalsAfter, restOf, cellsLeft, isHeld, isPrinted, linesIn, cellLimit}
-use Rattle.list_output.specs.Pieces.{stepBudget, passedFor, Piece, refusedWords, Unmoved, Fills}
-use Rattle.list_output.specs.declared.filling.Filled.{Filled}
-use Rattle.list_output.proofs.Writers.{take-written, drop-later, written-onward, written-inside, written-past}
-use Rattle.list_output.proofs.Rest.{length-last, found-next, found-within, finished-next, never-spent, never-refused, few-cells}
-use Rattle.list_output.proofs.Rest.{rest-found, rest-finished}
-use Rattle.list_output.proofs.Mapping.{held-facts}
+use Rattle.list_lines.specs.Lines.{mappingLine, mappingLines}
+use Rattle.strands.specs.declared.Strand.{Strand}
+use Rattle.list_lines.specs.Pieces.{MappingWritten, finalsAfter, linesAfter, cellsLeft, isHeld, isPrinted, linesIn, cellLimit, foundLimit}
+use Rattle.list_lines.specs.Pieces.{stepBudget, passedFor, Piece, refusedWords, Unmoved, Fills}
+use Rattle.list_lines.specs.declared.filling.Filled.{Filled}
+use Rattle.list_line.proofs.Writers.{take-written, drop-later, written-onward, written-inside, written-past}
+use Rattle.list_lines.proofs.Rest.{found-next, found-within, finished-next, never-spent, never-refused}
+use Rattle.list_lines.proofs.Left.{few-cells, left-few}
+use Rattle.list_lines.proofs.Numbers.{held-facts}
 
 -- after q cells and `count` mappings, `at` bytes are written of what was left to print after q₀ cells and `found` mappings
-pub record On (task : Task) (before places : List ℕ) (k size q₀ found : ℕ) (out₀ out work : List ℕ) (at count q : ℕ) : Type 0 where
+pub record On (task : Task) (before places : List ℕ) (k size : ℕ) (strand : Strand) (q₀ found : ℕ) (out₀ out work : List ℕ) (at count q : ℕ) :
+    Type 0 where
   pub onward : q₀ ≤ q
   pub among : q ≤ total task
-  pub counted : found ≤ q₀ → count ≤ q
+  pub counted : count + q₀ ≤ found + q
   pub words : work ≡ sessionWords task before q
-  pub lines : count + linesIn places k size (length out₀ - at) count (finalsAfter task q)
-      ≡ found + linesIn places k size (length out₀) found (finalsAfter task q₀)
-  pub place : passedFor task q (linesIn places k size (length out₀ - at) count (finalsAfter task q))
-      ≡ passedFor task q₀ (linesIn places k size (length out₀) found (finalsAfter task q₀))
+  pub lines : count + linesIn places k size strand (length out₀ - at) count (finalsAfter task q)
+      ≡ found + linesIn places k size strand (length out₀) found (finalsAfter task q₀)
+  pub place : passedFor task q (linesIn places k size strand (length out₀ - at) count (finalsAfter task q))
+      ≡ passedFor task q₀ (linesIn places k size strand (length out₀) found (finalsAfter task q₀))
   pub tally : count + length (finalsAfter task q) ≡ found + length (finalsAfter task q₀)
-  pub bytes : take at out ++ restOf task places k size q count ≡ restOf task places k size q₀ found
+  pub bytes : take at out ++ linesAfter task places k size strand q ≡ linesAfter task places k size strand q₀
   pub moved : 0 < at → q₀ < q
 
 -- a session whose words are those at the start
@@ -57,15 +59,16 @@ pub record InPiece (task : Task) (before work₀ : List ℕ) (q₀ : ℕ) : Type
 
 -- the words beyond a session's and the bytes behind those written are as they came, and so is all for words that step refuses; and so it
 -- stands for every session
-pub record Going (work₀ places : List ℕ) (k size found : ℕ) (out₀ out work : List ℕ) (at count : ℕ) : Type 0 where
+pub record Going (work₀ places : List ℕ) (k size : ℕ) (strand : Strand) (found : ℕ) (out₀ out work : List ℕ) (at count : ℕ) : Type 0 where
   pub beyond : drop workWords work ≡ drop workWords work₀
   pub past : drop at out ≡ drop at out₀
   pub unmoved : refusedWords work₀ ≡ true → (at ≡ 0) × (count ≡ found) × (work ≡ work₀) × (out ≡ out₀)
   pub on : (task : Task) (before : List ℕ) (q₀ : ℕ) → InPiece task before work₀ q₀
-      → (q : ℕ) × On task before places k size q₀ found out₀ out work at count q
+      → (q : ℕ) × On task before places k size strand q₀ found out₀ out work at count q
 
-pub going-start : (work places : List ℕ) (k size count : ℕ) (out : List ℕ) → Going work places k size count out out work 0 count
-going-start work places k size count out = record {
+pub going-start : (work places : List ℕ) (k size : ℕ) (strand : Strand) (count : ℕ) (out : List ℕ)
+    → Going work places k size strand count out out work 0 count
+going-start work places k size strand count out = record {
   beyond = refl;
   past = refl;
   unmoved = λ e. (refl, refl, refl, refl);
@@ -74,10 +77,10 @@ going-start work places k size count out = record {
     record {
       onward = le-refl q₀;
       among = p .among;
-      counted = λ h. h;
+      counted = le-refl (count + q₀);
       words = p .words;
-      lines = ap (λ (n : ℕ). count + linesIn places k size n count (finalsAfter task q₀)) (sub-zero (length out));
-      place = ap (λ (n : ℕ). passedFor task q₀ (linesIn places k size n count (finalsAfter task q₀))) (sub-zero (length out));
+      lines = ap (λ (n : ℕ). count + linesIn places k size strand n count (finalsAfter task q₀)) (sub-zero (length out));
+      place = ap (λ (n : ℕ). passedFor task q₀ (linesIn places k size strand n count (finalsAfter task q₀))) (sub-zero (length out));
       tally = refl;
       bytes = refl;
       moved = λ h. absurd (omega arith);
@@ -105,83 +108,84 @@ refused-step {work} {B} {answer} {work′} promise e = go (tooFewWords work) ref
     go true t = let f = promise .few t in ((10, f .0), f .1)
     go false t = let f = promise .bad t (rw t at e) in ((15, f .0), f .1)
 
-length-mapping : (places : List ℕ) (k size : ℕ) (mapping : Mapping)
-    → (0 < length (mappingLine places k size mapping)) × (length (mappingLine places k size mapping) ≤ 56)
+length-mapping : (places : List ℕ) (k size : ℕ) (strand : Strand) (mapping : Mapping)
+    → (0 < length (mappingLine places k size strand mapping)) × (length (mappingLine places k size strand mapping) ≤ 58)
 unfolding mappingLine line
-length-mapping places k size mapping = (simp length-append (omega arith), length-line _ _ (mapping .score) (mapping .m) _)
+length-mapping places k size strand mapping = (simp length-append (omega arith), length-line _ _ (mapping .score) (mapping .m) _ strand)
 
 -- how many lines are written: without room for one, with a first that is not written, and with one that is
-module _ (places : List ℕ) (k size room count : ℕ) where
-  lines-none : (finals : List Mapping) → room < 64 → linesIn places k size room count finals ≡ 0
+module _ (places : List ℕ) (k size : ℕ) (strand : Strand) (room count : ℕ) where
+  lines-none : (finals : List Mapping) → room < 64 → linesIn places k size strand room count finals ≡ 0
   lines-none [] h = refl
   lines-none (mapping ∷ finals) h = rw (lt-leb 64 room h)
 
   module _ (mapping : Mapping) (finals : List Mapping) (h : 64 ≤ room) where
-    lines-stuck : isPrinted places k size count mapping ≡ false → linesIn places k size room count (mapping ∷ finals) ≡ 0
+    lines-stuck : isPrinted places k size count mapping ≡ false → linesIn places k size strand room count (mapping ∷ finals) ≡ 0
     lines-stuck e = rw (le-leb 64 room h, e)
 
     lines-some : isPrinted places k size count mapping ≡ true
-        → linesIn places k size room count (mapping ∷ finals)
-        ≡ suc (linesIn places k size (room - length (mappingLine places k size mapping)) (count + 1) finals)
+        → linesIn places k size strand room count (mapping ∷ finals)
+        ≡ suc (linesIn places k size strand (room - length (mappingLine places k size strand mapping)) (count + 1) finals)
     lines-some e = rw (le-leb 64 room h, e)
 
 -- a line is not written for the count, or for its numbers
-pub too-many : (places : List ℕ) (k size count : ℕ) (mapping : Mapping) → cellLimit ≤ count → isPrinted places k size count mapping ≡ false
+pub too-many : (places : List ℕ) (k size count : ℕ) (mapping : Mapping) → foundLimit ≤ count → isPrinted places k size count mapping ≡ false
 unfolding isPrinted
-too-many places k size count mapping h = rw (le-ltb count cellLimit h)
+too-many places k size count mapping h = rw (le-ltb count foundLimit h)
 
-pub not-printed : (places : List ℕ) (k size count : ℕ) (mapping : Mapping) → count < cellLimit
+pub not-printed : (places : List ℕ) (k size count : ℕ) (mapping : Mapping) → count < foundLimit
     → isHeld places k size (mapping .a) (mapping .b) (mapping .m) ≡ false → isPrinted places k size count mapping ≡ false
 unfolding isPrinted
-not-printed places k size count mapping h e = rw (lt-ltb count cellLimit h, e)
+not-printed places k size count mapping h e = rw (lt-ltb count foundLimit h, e)
 
-pub printed : (places : List ℕ) (k size count : ℕ) (mapping : Mapping) → count < cellLimit
+pub printed : (places : List ℕ) (k size count : ℕ) (mapping : Mapping) → count < foundLimit
     → isHeld places k size (mapping .a) (mapping .b) (mapping .m) ≡ true → isPrinted places k size count mapping ≡ true
 unfolding isPrinted
-printed places k size count mapping h e = rw (lt-ltb count cellLimit h, e)
+printed places k size count mapping h e = rw (lt-ltb count foundLimit h, e)
 
 -- ---- the contract
 
 -- all of the contract, from what is so at a turn and what the turn adds
-fills : (work₀ places : List ℕ) (k size found₀ : ℕ) (out₀ out work : List ℕ) (at count : ℕ)
-    → Going work₀ places k size found₀ out₀ out work at count
+fills : (work₀ places : List ℕ) (k size : ℕ) (strand : Strand) (found₀ : ℕ) (out₀ out work : List ℕ) (at count : ℕ)
+    → Going work₀ places k size strand found₀ out₀ out work at count
     → length out ≡ length out₀ → length work ≡ length work₀ → (r : Filled) (work′ out′ : List ℕ)
     → length work′ ≡ length work → drop workWords work′ ≡ drop workWords work → length out′ ≡ length out → at ≤ r .written
     → r .written ≤ length out
-    → drop (r .written) out′ ≡ drop (r .written) out
+    → drop (r .written) out′ ≡ drop (r .written) out → r .left ≤ suc cellLimit
     → (refusedWords work₀ ≡ true → Unmoved work₀ found₀ out₀ r work′ out′)
     → ((task : Task) (before : List ℕ) (q₀ : ℕ) → InPiece task before work₀ q₀
-    → (q′ : ℕ) × Piece task places k size q₀ found₀ out₀ r out′ q′ before work′)
-    → Fills work₀ places k size found₀ out₀ r work′ out′
-fills work₀ places k size found₀ out₀ out work at count going same-out same-work r work′ out′ number beyond long onward inside past unmoved
+    → (q′ : ℕ) × Piece task places k size strand q₀ found₀ out₀ r out′ q′ before work′)
+    → Fills work₀ places k size strand found₀ out₀ r work′ out′
+fills work₀ places k size strand found₀ out₀ out work at count going same-out same-work r work′ out′ number beyond long onward inside past few unmoved
     piece = record {
       inside = omega arith;
       long = long ∙ same-out;
       past = past ∙ drop-later at (r .written) out out₀ onward (going .past);
       number = number ∙ same-work;
       beyond = beyond ∙ going .beyond;
+      few = few;
       refused = unmoved;
       session = λ task before q a l w. piece task before q (record { accepts = a; among = l; words = w });
     }
 
 -- ---- a turn with room for a line
 
-module _ (work₀ places : List ℕ) (k size found₀ : ℕ) (out₀ out work : List ℕ) (at count : ℕ) (inside : at ≤ length out)
+module _ (work₀ places : List ℕ) (k size : ℕ) (strand : Strand) (found₀ : ℕ) (out₀ out work : List ℕ) (at count : ℕ) (inside : at ≤ length out)
     (same : length out ≡ length out₀)
-    (room : 64 ≤ length out - at) (going : Going work₀ places k size found₀ out₀ out work at count) where
+    (room : 64 ≤ length out - at) (going : Going work₀ places k size strand found₀ out₀ out work at count) where
   refused-now : (answer : Stepped) (work′ : List ℕ) → StepPromise work stepBudget answer work′ → refusedWords work₀ ≡ true
       → ((n : ℕ) × (answerOf answer ≡ refused n)) × (work′ ≡ work)
   refused-now answer work′ promise e = refused-step promise (ap refusedWords (going .unmoved e .2) ∙ e)
 
   -- a mapping's line is written, and moves the index, exactly where its numbers hold it
-  module _ (a b : ℕ) (score : ℤ) (m next : ℕ) (out′ : List ℕ) (put : MappingWritten places k size a b score m at out out′ next) where
+  module _ (a b : ℕ) (score : ℤ) (m next : ℕ) (out′ : List ℕ) (put : MappingWritten places k size strand a b score m at out out′ next) where
     abbrev putting : Mapping
     putting = record { a = a; b = b; score = score; m = m }
 
-    fitting : at + length (mappingLine places k size putting) ≤ length out
-    fitting = let l = length-mapping places k size putting in omega arith
+    fitting : at + length (mappingLine places k size strand putting) ≤ length out
+    fitting = let l = length-mapping places k size strand putting in omega arith
 
-    wrote : isHeld places k size a b m ≡ true → Written (mappingLine places k size putting) at out out′ next
+    wrote : isHeld places k size a b m ≡ true → Written (mappingLine places k size strand putting) at out out′ next
     wrote e = let f = held-facts places k size a b m e in put .held (f .0) (f .1) (f .2) inside
 
     pub unheld : next ≤ at → isHeld places k size a b m ≡ false
@@ -189,8 +193,8 @@ module _ (work₀ places : List ℕ) (k size found₀ : ℕ) (out₀ out work : 
       where
         go : (c : Bool) → isHeld places k size a b m ≡ c → isHeld places k size a b m ≡ false
         go true e = absurd
-            (let i : next ≡ at + length (mappingLine places k size putting) = written-index (wrote e) fitting in let s =
-            length-mapping places k size putting in omega arith)
+            (let i : next ≡ at + length (mappingLine places k size strand putting) = written-index (wrote e) fitting in let s =
+            length-mapping places k size strand putting in omega arith)
         go false e = e
 
     held : at < next → isHeld places k size a b m ≡ true
@@ -204,7 +208,7 @@ module _ (work₀ places : List ℕ) (k size found₀ : ℕ) (out₀ out work : 
     q : ℕ
     q = going .on task before q₀ p .0
 
-    on : On task before places k size q₀ found₀ out₀ out work at count q
+    on : On task before places k size strand q₀ found₀ out₀ out work at count q
     unfolding q
     on = going .on task before q₀ p .1
 
@@ -232,50 +236,50 @@ module _ (work₀ places : List ℕ) (k size found₀ : ℕ) (out₀ out work : 
       finals : finalsAfter task q ≡ mapping ∷ finalsAfter task (q + cells)
       finals = found-next task q stepBudget (on .among) mapping cells rule
 
-      module _ (next : ℕ) (out′ : List ℕ) (put : MappingWritten places k size a b score m at out out′ next) (few : count < cellLimit)
+      module _ (next : ℕ) (out′ : List ℕ) (put : MappingWritten places k size strand a b score m at out out′ next) (few : count < foundLimit)
           (further : at < next) where
         is-held : isHeld places k size a b m ≡ true
         is-held = held a b score m next out′ put further
 
-        line-written : Written (mappingLine places k size mapping) at out out′ next
+        line-written : Written (mappingLine places k size strand mapping) at out out′ next
         line-written = wrote a b score m next out′ put is-held
 
-        line-fits : at + length (mappingLine places k size mapping) ≤ length out
+        line-fits : at + length (mappingLine places k size strand mapping) ≤ length out
         line-fits = fitting a b score m next out′ put
 
         after : ℕ
-        after = linesIn places k size (length out₀ - next) (count + 1) (finalsAfter task (q + cells))
+        after = linesIn places k size strand (length out₀ - next) (count + 1) (finalsAfter task (q + cells))
 
-        one-more : linesIn places k size (length out₀ - at) count (finalsAfter task q) ≡ suc after
+        one-more : linesIn places k size strand (length out₀ - at) count (finalsAfter task q) ≡ suc after
         unfolding after
         one-more =
-            let i : next ≡ at + length (mappingLine places k size mapping) = written-index line-written line-fits in
-            let e : length out₀ - at - length (mappingLine places k size mapping) ≡ length out₀ - next = omega arith in
-            ap (linesIn places k size (length out₀ - at) count) finals
-            ∙ lines-some places k size (length out₀ - at) count mapping (finalsAfter task (q + cells)) (omega arith)
+            let i : next ≡ at + length (mappingLine places k size strand mapping) = written-index line-written line-fits in
+            let e : length out₀ - at - length (mappingLine places k size strand mapping) ≡ length out₀ - next = omega arith in
+            ap (linesIn places k size strand (length out₀ - at) count) finals
+            ∙ lines-some places k size strand (length out₀ - at) count mapping (finalsAfter task (q + cells)) (omega arith)
             (printed places k size count mapping few is-held)
-            ∙ ap (λ (n : ℕ). suc (linesIn places k size n (count + 1) (finalsAfter task (q + cells)))) e
+            ∙ ap (λ (n : ℕ). suc (linesIn places k size strand n (count + 1) (finalsAfter task (q + cells)))) e
 
-        on-place : passedFor task (q + cells) after ≡ passedFor task q (linesIn places k size (length out₀ - at) count (finalsAfter task q))
+        on-place : passedFor task (q + cells) after ≡ passedFor task q (linesIn places k size strand (length out₀ - at) count (finalsAfter task q))
         on-place = sym (ap (passedFor task q) one-more ∙ ap (λ (a : Answer). passedFor task (q + reported a) after) rule)
 
-        found-on : (q′ : ℕ) × On task before places k size q₀ found₀ out₀ out′ work′ next (count + 1) q′
+        found-on : (q′ : ℕ) × On task before places k size strand q₀ found₀ out₀ out′ work′ next (count + 1) q′
         unfolding after
         found-on = (
           q + cells,
           record {
             onward = let o = on .onward in omega arith;
             among = within .1;
-            counted = λ h. let w = within in let c = on .counted h in omega arith;
+            counted = let w = within in let c = on .counted in omega arith;
             words = ruled (Found a b score m cells) work′ promise .1;
             lines = let l = on .lines in let o = one-more in omega arith;
             place = on-place ∙ on .place;
             tally = let t = on .tally in let l : length (finalsAfter task q) ≡ suc (length (finalsAfter task (q + cells))) = ap length finals in omega arith;
             bytes =
-                let rest : List ℕ = restOf task places k size (q + cells) (count + 1) in
+                let rest : List ℕ = linesAfter task places k size strand (q + cells) in
                 ap (λ (l : List ℕ). l ++ rest) (take-written line-written line-fits)
-                ∙ append-assoc (take at out) (mappingLine places k size mapping) rest
-                ∙ ap (λ (l : List ℕ). take at out ++ l) (sym (rest-found task places k size q cells count mapping finals))
+                ∙ append-assoc (take at out) (mappingLine places k size strand mapping) rest
+                ∙ ap (λ (l : List ℕ). take at out ++ l) (sym (ap (mappingLines places k size strand) finals))
                 ∙ on .bytes;
             moved = λ h. let o = on .onward in let w = within in omega arith;
           },
@@ -284,17 +288,17 @@ module _ (work₀ places : List ℕ) (k size found₀ : ℕ) (out₀ out work : 
       -- the line is not written
       stuck-piece : isPrinted places k size count mapping ≡ false → (out′ : List ℕ) → out′ ≡ out → (r : Filled)
           → r .written ≡ at → r .found ≡ count
-          → r .left ≡ 0 → (q′ : ℕ) × Piece task places k size q₀ found₀ out₀ r out′ q′ before work′
+          → r .left ≡ 0 → (q′ : ℕ) × Piece task places k size strand q₀ found₀ out₀ r out′ q′ before work′
       stuck-piece unprinted out′ eo r ew ef el =
-          let none-more : linesIn places k size (length out₀ - at) count (finalsAfter task q) ≡ 0 =
-          ap (linesIn places k size (length out₀ - at) count) finals
-          ∙ lines-stuck places k size (length out₀ - at) count mapping (finalsAfter task (q + cells)) (omega arith) unprinted in
+          let none-more : linesIn places k size strand (length out₀ - at) count (finalsAfter task q) ≡ 0 =
+          ap (linesIn places k size strand (length out₀ - at) count) finals
+          ∙ lines-stuck places k size strand (length out₀ - at) count mapping (finalsAfter task (q + cells)) (omega arith) unprinted in
           let w = within in (
             q + cells,
             record {
               onward = let o = on .onward in omega arith;
               among = w .1;
-              counted = λ h. let c = on .counted h in omega arith;
+              counted = let c = on .counted in omega arith;
               words = ruled (Found a b score m cells) work′ promise .1;
               found-is = let l = on .lines in omega arith;
               ends =
@@ -309,54 +313,41 @@ module _ (work₀ places : List ℕ) (k size found₀ : ℕ) (out₀ out work : 
                     mapping = mapping;
                     next = finals;
                     unprinted = rw ef unprinted;
-                    counted = λ h. let c = on .counted h in omega arith;
-                    bytes = rw (ew, ef, eo) (on .bytes);
+                    counted = let c = on .counted in omega arith;
+                    bytes = rw (ew, eo) (on .bytes);
                   }));
             },
           )
 
     -- ---- finished
 
-    module _ (cells passed next : ℕ) (out′ work′ : List ℕ) (promise : StepPromise work stepBudget (Finished cells) work′)
-        (is-passed : passed ≡ getD work′ 3 0) (put : Written (lastLine count passed) at out out′ next) where
-      ended : (finalsEnd : ℕ) → finalsEnd ≡ passed → finalsEnd ≡ total task → take next out′ ≡ restOf task places k size q₀ found₀
-      ended n e t =
-          let f = finished-next task q stepBudget (on .among) cells (ruled (Finished cells) work′ promise .0) in
-          let l : length (lastLine count passed) ≤ 64 = length-last count passed in
-          take-written put (omega arith)
-          ∙ ap (λ (i : ℕ). take at out ++ lastLine count i) (sym e ∙ t)
-          ∙ ap (λ (x : List ℕ). take at out ++ x) (sym (rest-finished task places k size q count (f .0)))
-          ∙ on .bytes
-
-      finished-piece : (r : Filled) → r .written ≡ next → r .found ≡ count → r .left ≡ 0
-          → (q′ : ℕ) × Piece task places k size q₀ found₀ out₀ r out′ q′ before work′
+    module _ (cells : ℕ) (work′ : List ℕ) (promise : StepPromise work stepBudget (Finished cells) work′) where
+      finished-piece : (r : Filled) → r .written ≡ at → r .found ≡ count → r .left ≡ 1
+          → (q′ : ℕ) × Piece task places k size strand q₀ found₀ out₀ r out q′ before work′
       finished-piece r ew ef el =
           let f = finished-next task q stepBudget (on .among) cells (ruled (Finished cells) work′ promise .0) in
-          let words : work′ ≡ sessionWords task before (q + cells) = ruled (Finished cells) work′ promise .1 in
-          let s : InSession task before (q + cells) work′ = in-session task before (q + cells) work′ (p .accepts) words in
-          let third : getD work′ 3 0 ≡ q + cells = s .held .passed-word in
           let none : length (finalsAfter task q) ≡ 0 = ap length (f .0) in
-          let none-more : linesIn places k size (length out₀ - at) count (finalsAfter task q) ≡ 0 =
-          ap (linesIn places k size (length out₀ - at) count) (f .0) in
-          let last : length (lastLine (r .found) (total task)) ≡ length (lastLine count passed) =
-          ap length (ap₂ lastLine ef (sym (f .1) ∙ sym third ∙ sym is-passed)) in
-          let end : next ≡ at + length (lastLine count passed) = let l : length (lastLine count passed) ≤ 64 =
-          length-last count passed in written-index put (omega arith) in (
+          let none-more : linesIn places k size strand (length out₀ - at) count (finalsAfter task q) ≡ 0 =
+          ap (linesIn places k size strand (length out₀ - at) count) (f .0) in (
             q + cells,
             record {
               onward = let o = on .onward in omega arith;
               among = omega (arith, f .1);
-              counted = λ h. let c = on .counted h in omega arith;
-              words = words;
+              counted = let c = on .counted in omega arith;
+              words = ruled (Finished cells) work′ promise .1;
               found-is = let l = on .lines in omega arith;
               ends =
                   inl
                   (record {
-                    none-left = el;
+                    left-is = el;
                     had-room = omega arith;
                     all-passed = f .1;
                     all-found = let t = on .tally in omega arith;
-                    bytes = rw ew (ended (q + cells) (sym third ∙ sym is-passed) (f .1));
+                    bytes =
+                        ap (λ (n : ℕ). take n out) ew
+                        ∙ sym (append-nil (take at out))
+                        ∙ ap (λ (l : List Mapping). take at out ++ mappingLines places k size strand l) (sym (f .0))
+                        ∙ on .bytes;
                   });
             },
           )
@@ -367,7 +358,7 @@ module _ (work₀ places : List ℕ) (k size found₀ : ℕ) (out₀ out work : 
     not-other (Found a b score m cells) o work′ promise = o
     not-other (Finished cells) o work′ promise = o
     not-other (Spent n) o work′ promise =
-        never-spent task q stepBudget (on .among) n (let f = few-cells task (limits .few-hits) in omega arith) (ruled (Spent n) work′ promise .0)
+        never-spent task q stepBudget (on .among) n (let f : total task ≤ cellLimit = few-cells (hitCount task) (limits .few-hits) in omega arith) (ruled (Spent n) work′ promise .0)
     not-other TooFewWords o work′ promise = never-refused task q stepBudget (on .among) 10 (ruled TooFewWords work′ promise .0)
     not-other BadWords o work′ promise = never-refused task q stepBudget (on .among) 15 (ruled BadWords work′ promise .0)
 
@@ -387,8 +378,8 @@ module _ (work₀ places : List ℕ) (k size found₀ : ℕ) (out₀ out work : 
       omega arith
 
   pub going-found : (a b : ℕ) (score : ℤ) (m cells next : ℕ) (out′ work′ : List ℕ) → StepPromise work stepBudget (Found a b score m cells) work′
-      → MappingWritten places k size a b score m at out out′ next → count < cellLimit → at < next
-      → Going work₀ places k size found₀ out₀ out′ work′ next (count + 1)
+      → MappingWritten places k size strand a b score m at out out′ next → count < foundLimit → at < next
+      → Going work₀ places k size strand found₀ out₀ out′ work′ next (count + 1)
   going-found a b score m cells next out′ work′ promise put few further = record {
     beyond = promise .beyond ∙ going .beyond;
     past = put .past inside ∙ drop-later at next out out₀ (put .onward) (going .past);
@@ -402,28 +393,25 @@ module _ (work₀ places : List ℕ) (k size found₀ : ℕ) (out₀ out work : 
     -- a mapping whose line is not written
     pub fills-stopped : (a b : ℕ) (score : ℤ) (m cells : ℕ) (work′ : List ℕ) → StepPromise work stepBudget (Found a b score m cells) work′
         → isPrinted places k size count (record { a = a; b = b; score = score; m = m }) ≡ false → (out′ : List ℕ) → out′ ≡ out
-        → r .written ≡ at → r .found ≡ count → r .left ≡ 0 → Fills work₀ places k size found₀ out₀ r work′ out′
+        → r .written ≡ at → r .found ≡ count → r .left ≡ 0 → Fills work₀ places k size strand found₀ out₀ r work′ out′
     fills-stopped a b score m cells work′ promise unprinted out′ eo ew ef el =
-        fills work₀ places k size found₀ out₀ out work at count going same number r work′ out′ (promise .number) (promise .beyond) (ap length eo)
-        (omega arith) (omega arith) (ap (drop (r .written)) eo) (λ e. absurd (not-found a b score m cells work′ promise e))
+        fills work₀ places k size strand found₀ out₀ out work at count going same number r work′ out′ (promise .number) (promise .beyond) (ap length eo)
+        (omega arith) (omega arith) (ap (drop (r .written)) eo) (omega arith) (λ e. absurd (not-found a b score m cells work′ promise e))
         (λ task before q₀ p. stuck-piece task before q₀ p a b score m cells work′ promise unprinted out′ eo r ew ef el)
 
-    pub fills-finished : (cells passed : ℕ) (out′ work′ : List ℕ) → StepPromise work stepBudget (Finished cells) work′
-        → passed ≡ getD work′ 3 0
-        → Written (lastLine count passed) at out out′ (r .written) → length out′ ≡ length out → r .found ≡ count → r .left ≡ 0
-        → Fills work₀ places k size found₀ out₀ r work′ out′
-    fills-finished cells passed out′ work′ promise is-passed put long ef el =
-        fills work₀ places k size found₀ out₀ out work at count going same number r work′ out′ (promise .number) (promise .beyond) long
-        (written-onward put)
-        (written-inside put inside) (written-past put inside) (λ e. absurd (not-finished cells work′ promise e))
-        (λ task before q₀ p. finished-piece task before q₀ p cells passed (r .written) out′ work′ promise is-passed put r refl ef el)
+    pub fills-finished : (cells : ℕ) (work′ : List ℕ) → StepPromise work stepBudget (Finished cells) work′ → r .written ≡ at → r .found ≡ count
+        → r .left ≡ 1 → Fills work₀ places k size strand found₀ out₀ r work′ out
+    fills-finished cells work′ promise ew ef el =
+        fills work₀ places k size strand found₀ out₀ out work at count going same number r work′ out (promise .number) (promise .beyond) refl (omega arith)
+        (omega arith) refl (omega arith) (λ e. absurd (not-finished cells work′ promise e))
+        (λ task before q₀ p. finished-piece task before q₀ p cells work′ promise r ew ef el)
 
     pub fills-other : (answer : Stepped) → Other answer → (work′ : List ℕ) → StepPromise work stepBudget answer work′
         → r .written ≡ at → r .found ≡ count
-        → r .left ≡ 0 → Fills work₀ places k size found₀ out₀ r work′ out
+        → r .left ≡ 0 → Fills work₀ places k size strand found₀ out₀ r work′ out
     fills-other answer other work′ promise ew ef el =
-        fills work₀ places k size found₀ out₀ out work at count going same number r work′ out (promise .number) (promise .beyond) refl (omega arith)
-        (omega arith) refl unmoved (λ task before q₀ p. absurd (not-other task before q₀ p answer other work′ promise))
+        fills work₀ places k size strand found₀ out₀ out work at count going same number r work′ out (promise .number) (promise .beyond) refl (omega arith)
+        (omega arith) refl (omega arith) unmoved (λ task before q₀ p. absurd (not-other task before q₀ p answer other work′ promise))
       where
         unmoved : refusedWords work₀ ≡ true → Unmoved work₀ found₀ out₀ r work′ out
         unmoved e =
@@ -452,22 +440,22 @@ session-left task before q work a l e =
       le-ltb (total task) q l,
     )
 
-module _ (work₀ places : List ℕ) (k size found₀ : ℕ) (out₀ out work : List ℕ) (at count : ℕ)
-    (going : Going work₀ places k size found₀ out₀ out work at count) (none : length out - at < 64) (same : length out ≡ length out₀) (r : Filled)
+module _ (work₀ places : List ℕ) (k size : ℕ) (strand : Strand) (found₀ : ℕ) (out₀ out work : List ℕ) (at count : ℕ)
+    (going : Going work₀ places k size strand found₀ out₀ out work at count) (none : length out - at < 64) (same : length out ≡ length out₀) (r : Filled)
     (ew : r .written ≡ at) (ef : r .found ≡ count) (el : r .left ≡ cellsLeft work) where
   full-piece : (task : Task) (before : List ℕ) (q₀ : ℕ) → InPiece task before work₀ q₀
-      → (q′ : ℕ) × Piece task places k size q₀ found₀ out₀ r out q′ before work
+      → (q′ : ℕ) × Piece task places k size strand q₀ found₀ out₀ r out q′ before work
   full-piece task before q₀ p =
       let q = going .on task before q₀ p .0 in
       let on = going .on task before q₀ p .1 in
       let left : r .left ≡ suc (total task - q) = el ∙ session-left task before q work (p .accepts) (on .among) (on .words) in
-      let none-more : linesIn places k size (length out₀ - at) count (finalsAfter task q) ≡ 0 =
-      lines-none places k size (length out₀ - at) count (finalsAfter task q) (omega arith) in (
+      let none-more : linesIn places k size strand (length out₀ - at) count (finalsAfter task q) ≡ 0 =
+      lines-none places k size strand (length out₀ - at) count (finalsAfter task q) (omega arith) in (
         q,
         record {
           onward = on .onward;
           among = on .among;
-          counted = rw ef (on .counted);
+          counted = let c = on .counted in omega arith;
           words = on .words;
           found-is = let l = on .lines in omega arith;
           ends =
@@ -478,7 +466,8 @@ module _ (work₀ places : List ℕ) (k size found₀ : ℕ) (out₀ out work : 
                 no-room = omega arith;
                 place = sym (ap (passedFor task q) none-more) ∙ on .place;
                 further = λ h. on .moved (omega arith);
-                bytes = rw (ew, ef) (on .bytes);
+                tally = rw ef (on .tally);
+                bytes = rw ew (on .bytes);
               }));
         },
       )
@@ -495,7 +484,8 @@ module _ (work₀ places : List ℕ) (k size found₀ : ℕ) (out₀ out work : 
         same-out = u .3;
       }
 
-  pub fills-full : length work ≡ length work₀ → at ≤ length out → Fills work₀ places k size found₀ out₀ r work out
+  pub fills-full : length work ≡ length work₀ → at ≤ length out → Fills work₀ places k size strand found₀ out₀ r work out
   fills-full number inside =
-      fills work₀ places k size found₀ out₀ out work at count going same number r work out refl refl refl (omega arith) (omega arith) refl full-unmoved
-      full-piece
+      let few : cellsLeft work ≤ suc cellLimit = left-few work in
+      fills work₀ places k size strand found₀ out₀ out work at count going same number r work out refl refl refl (omega arith) (omega arith) refl
+      (omega arith) full-unmoved full-piece

@@ -1,4 +1,4 @@
--- `filling::cells_left` meets its contract: each answer follows from the tests that led to it.
+-- `words::cells_left` meets its contract: each answer follows from the tests that led to it.
 use Prim.Native.Nat.{ℕ, suc, _+_, _*_, _-_, _/_, _≤_, _<_}
 use native.Mathlib.Omega.{arith}
 use native.Mathlib.Nat.{mul-le-mul}
@@ -8,12 +8,12 @@ use lib.ListN.{length, getD}
 use borrow.Author.Tests.{lt-ltb, le-ltb}
 use Rattle.base.specs.Limits.{hitLimit, workWords}
 use Rattle.mappings.specs.Cells.{cellCount}
-use Rattle.mappings.proofs.Cells.{cellCount-mono}
 use Rattle.session_words.specs.FirstWords.{hitsAt, passedAt}
-use Rattle.list_output.specs.Pieces.{cellsLeft, cellLimit}
+use Rattle.list_lines.specs.Pieces.{cellsLeft, cellLimit}
+use Rattle.list_lines.proofs.Left.{few-cells}
 use borrow.Author.Needs.{needs}
-use Rattle.list_output.proofs.filling.cells_left.Statement.{statement}
-use Rattle.list_output.proofs.filling.cells_left.Tie as tie
+use Rattle.list_lines.proofs.words.cells_left.Statement.{statement}
+use Rattle.list_lines.proofs.words.cells_left.Tie as tie
 
 -- the places that the proofs below speak of, each from a later one
 abbrev at-shared-slice-known : tie.After-wide → tie.After-shared-slice-known
@@ -51,10 +51,6 @@ module _ (work : List ℕ) where
         le-ltb hitLimit (getD work hitsAt 0) few,
         le-ltb (cellCount (getD work hitsAt 0)) (getD work passedAt 0) l,
       )
-
-few-cells : (h : ℕ) → h ≤ hitLimit → cellCount h ≤ cellLimit
-unfolding cellCount
-few-cells h l = cellCount-mono h hitLimit l
 
 -- h(h + 1)/2 as the code reckons it
 module _ (h h′ : ℕ) (e : h ≡ h′) (few : h ≤ hitLimit) where

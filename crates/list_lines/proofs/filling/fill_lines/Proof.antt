@@ -1,4 +1,4 @@
--- `filling::fill` meets its contract: at each turn, what is written and what is left to print after the cells passed are together what
+-- `filling::fill_lines` meets its contract: at each turn, what is written and what is left to print after the cells passed are together what
 -- was left to print before the call. The measure is the room.
 use Prim.Native.Nat.{ℕ, _-_, _≤_}
 use native.Mathlib.Omega.{arith}
@@ -9,23 +9,23 @@ use lib.ListN.{length}
 use types.Run.{OneOf}
 use denote.Enum.Declared.{tagOf}
 use Rattle.mapper.proofs.answer.Stepped.{the-type}
-use Rattle.list_output.proofs.Going.{Going, Other, going-start, going-found, too-many, not-printed, unheld, fills-stopped, fills-finished, fills-other}
-use Rattle.list_output.proofs.Going.{fills-full}
+use Rattle.list_lines.proofs.Going.{Going, Other, going-start, going-found, too-many, not-printed, unheld, fills-stopped, fills-finished, fills-other}
+use Rattle.list_lines.proofs.Going.{fills-full}
 use Rattle.mapper.specs.declared.answer.Stepped.{Stepped}
 use Rattle.mapper.specs.declared.answer.Stepped.the-variants.{Found, Finished, Spent, TooFewWords, BadWords}
 use Rattle.mapper.specs.Promise.{StepPromise}
-use Rattle.list_output.specs.Pieces.{stepBudget}
+use Rattle.list_lines.specs.Pieces.{stepBudget}
 use mir.Facts.{toZ-ofZ}
 use borrow.Author.Needs.{needs, sfits-of}
-use Rattle.list_output.proofs.filling.fill.Statement.{statement}
-use Rattle.list_output.proofs.filling.fill.Tie as tie
+use Rattle.list_lines.proofs.filling.fill_lines.Statement.{statement}
+use Rattle.list_lines.proofs.filling.fill_lines.Tie as tie
 
 abbrev Inv-loop : tie.InvT-loop
-Inv-loop work₀ positions k size found out₀ at₀ count₀ work out at count =
-    (at ≤ length out) × (length work ≡ length work₀) × (length out ≡ length out₀) × Going work₀ positions k size found out₀ out work at count
+Inv-loop work₀ positions k size strand found out₀ at₀ count₀ work out at count =
+    (at ≤ length out) × (length work ≡ length work₀) × (length out ≡ length out₀) × Going work₀ positions k size strand found out₀ out work at count
 
 abbrev μ-loop : tie.MeasureT-loop
-μ-loop work₀ positions k size found out₀ at₀ count₀ work out at count = length out - at
+μ-loop work₀ positions k size strand found out₀ at₀ count₀ work out at count = length out - at
 
 -- the places that the proofs below speak of, each from a later one
 abbrev at-put-mapping-arg : tie.After-slice-known4 Inv-loop μ-loop → tie.After-put-mapping-arg Inv-loop μ-loop
@@ -36,15 +36,6 @@ else1 c = at-put-mapping-arg c .before
 
 abbrev at-known-told : tie.After-slice-known4 Inv-loop μ-loop → tie.After-known-told Inv-loop μ-loop
 at-known-told c = else1 c .before
-
-abbrev at-put-last : tie.After-stopped3 Inv-loop μ-loop → tie.After-put-last Inv-loop μ-loop
-at-put-last c = c .before .before .before
-
-abbrev at-cells-passed : tie.After-stopped3 Inv-loop μ-loop → tie.After-cells-passed Inv-loop μ-loop
-at-cells-passed c = at-put-last c .before
-
-abbrev at-enum-told : tie.After-stopped3 Inv-loop μ-loop → tie.After-enum-told Inv-loop μ-loop
-at-enum-told c = at-cells-passed c .before .before .before
 
 -- an answer of the last arm
 others : (answer : Stepped) → OneOf (2 ∷ 3 ∷ 4 ∷ []) (tagOf the-type answer) → Other answer
@@ -85,7 +76,7 @@ module _ (c : tie.After-slice-known4 Inv-loop μ-loop) where
 
 -- src/filling.rt:154:5
 loop-holds : tie.Need-loop-holds Inv-loop μ-loop
-loop-holds c = (omega arith, refl, refl, going-start _ _ _ _ _ _)
+loop-holds c = (omega arith, refl, refl, going-start _ _ _ _ _ _ _)
 
 -- src/filling.rt:154:24
 sub-loop : tie.Need-sub-loop Inv-loop μ-loop
@@ -116,7 +107,7 @@ returns : tie.Need-returns Inv-loop μ-loop
 returns c =
     let told = c .before .before in
     let at-turn = at-loop (told .before .before .before) in
-    fills-stopped _ _ _ _ _ _ _ _ _ _ (at-turn .loop .inv .0) (at-turn .loop .inv .2) (roomy (told .before .before .before)) (at-turn .loop .inv .3)
+    fills-stopped _ _ _ _ _ _ _ _ _ _ _ (at-turn .loop .inv .0) (at-turn .loop .inv .2) (roomy (told .before .before .before)) (at-turn .loop .inv .3)
     (at-turn .loop .inv .1) (c .stopped .result) _ _ _ _ _ _ (promise (told .before .before .before) (told .before .a .given .1))
     (too-many _ _ _ _ _ (c .before .if1 .taken)) _ refl (c .stopped .ensures .0) (c .stopped .ensures .1) (c .stopped .ensures .2)
 
@@ -142,9 +133,9 @@ returns-2 c =
     let at = c .before .before in
     let at-turn = at-loop (stepped at) in
     let not-held =
-    unheld _ _ _ _ _ _ _ _ _ _ (at-turn .loop .inv .0) (at-turn .loop .inv .2) (roomy (stepped at)) (at-turn .loop .inv .3) _ _ _ _ _ _
+    unheld _ _ _ _ _ _ _ _ _ _ _ (at-turn .loop .inv .0) (at-turn .loop .inv .2) (roomy (stepped at)) (at-turn .loop .inv .3) _ _ _ _ _ _
     (at .before .before .put-mapping .ensures) (c .before .if2 .taken) in
-    fills-stopped _ _ _ _ _ _ _ _ _ _ (at-turn .loop .inv .0) (at-turn .loop .inv .2) (roomy (stepped at)) (at-turn .loop .inv .3) (at-turn .loop .inv .1)
+    fills-stopped _ _ _ _ _ _ _ _ _ _ _ (at-turn .loop .inv .0) (at-turn .loop .inv .2) (roomy (stepped at)) (at-turn .loop .inv .3) (at-turn .loop .inv .1)
     (c .stopped2 .result) _ _ _ _ _ _ (promise (stepped at) (known at .a .given .1))
     (not-printed _ _ _ _ _ (else1 at .if1 .left) not-held) _ (at .before .before .put-mapping .ensures .none not-held .1)
     (c .stopped2 .ensures .0) (c .stopped2 .ensures .1) (c .stopped2 .ensures .2)
@@ -165,7 +156,7 @@ loop-again c =
       omega (arith, at .before .before .put-mapping .ensures .inside (at-turn .loop .inv .0), at .before .before .put-mapping .kept .0),
       omega (arith, at-step (stepped at) .step .kept .0, at-turn .loop .inv .1),
       omega (arith, at .before .before .put-mapping .kept .0, at-turn .loop .inv .2),
-      going-found _ _ _ _ _ _ _ _ _ _ (at-turn .loop .inv .0) (at-turn .loop .inv .2) (roomy (stepped at)) (at-turn .loop .inv .3) _ _ _ _ _ _ _ _
+      going-found _ _ _ _ _ _ _ _ _ _ _ (at-turn .loop .inv .0) (at-turn .loop .inv .2) (roomy (stepped at)) (at-turn .loop .inv .3) _ _ _ _ _ _ _ _
           (promise (stepped at) (known at .a .given .1))
           (rw (toZ-ofZ (sfits-of (told at .known-told .given .1 .1 .0 .1))) at (at .before .before .put-mapping .ensures))
           (else1 at .if1 .left) (c .if2 .left),
@@ -174,18 +165,6 @@ loop-again c =
 -- src/filling.rt:168:36
 enum-told : tie.Need-enum-told Inv-loop μ-loop
 enum-told c = search needs
-
--- src/filling.rt:168:52
-cells-passed-requires : tie.Need-cells-passed-requires Inv-loop μ-loop
-cells-passed-requires c κs = search needs
-
--- src/filling.rt:168:21
-put-last-requires : tie.Need-put-last-requires Inv-loop μ-loop
-put-last-requires c κs = search needs
-
--- src/filling.rt:169:17
-stopped-requires-3 : tie.Need-stopped-requires-3 Inv-loop μ-loop
-stopped-requires-3 c κs = search needs
 
 -- src/filling.rt:169:17
 same-length-5 : tie.Need-same-length-5 Inv-loop μ-loop
@@ -198,16 +177,13 @@ same-length-6 c = search needs
 -- src/filling.rt:169:17
 returns-3 : tie.Need-returns-3 Inv-loop μ-loop
 returns-3 c =
-    let told = at-enum-told c in
-    let at-turn = at-loop (told .before .before) in
-    fills-finished _ _ _ _ _ _ _ _ _ _ (at-turn .loop .inv .0) (at-turn .loop .inv .2) (roomy (told .before .before)) (at-turn .loop .inv .3)
-    (at-turn .loop .inv .1) (c .stopped3 .result) _ _ _ _ (promise (told .before .before) (told .enum-told .given .1))
-    (at-cells-passed c .cells-passed .ensures) (rw (c .stopped3 .ensures .0) (c .before .before .before .put-last .ensures))
-    (c .before .before .before .put-last .kept .0) (c .stopped3 .ensures .1) (c .stopped3 .ensures .2)
+    let at-turn = at-loop (c .before .before) in
+    fills-finished _ _ _ _ _ _ _ _ _ _ _ (at-turn .loop .inv .0) (at-turn .loop .inv .2) (roomy (c .before .before)) (at-turn .loop .inv .3)
+    (at-turn .loop .inv .1) _ _ _ (promise (c .before .before) (c .enum-told .given .1)) refl refl refl
 
 -- src/filling.rt:171:18
-stopped-requires-4 : tie.Need-stopped-requires-4 Inv-loop μ-loop
-stopped-requires-4 c κs = search needs
+stopped-requires-3 : tie.Need-stopped-requires-3 Inv-loop μ-loop
+stopped-requires-3 c κs = search needs
 
 -- src/filling.rt:171:18
 same-length-7 : tie.Need-same-length-7 Inv-loop μ-loop
@@ -222,9 +198,9 @@ returns-4 : tie.Need-returns-4 Inv-loop μ-loop
 returns-4 c =
     let at = c .before .before in
     let at-turn = at-loop at in
-    fills-other _ _ _ _ _ _ _ _ _ _ (at-turn .loop .inv .0) (at-turn .loop .inv .2) (roomy at) (at-turn .loop .inv .3) (at-turn .loop .inv .1)
-    (c .stopped4 .result) _ (others (at-step at .step .result) (c .before .match .keys3)) _ (at-step at .step .ensures) (c .stopped4 .ensures .0)
-    (c .stopped4 .ensures .1) (c .stopped4 .ensures .2)
+    fills-other _ _ _ _ _ _ _ _ _ _ _ (at-turn .loop .inv .0) (at-turn .loop .inv .2) (roomy at) (at-turn .loop .inv .3) (at-turn .loop .inv .1)
+    (c .stopped3 .result) _ (others (at-step at .step .result) (c .before .match .keys3)) _ (at-step at .step .ensures) (c .stopped3 .ensures .0)
+    (c .stopped3 .ensures .1) (c .stopped3 .ensures .2)
 
 -- src/filling.rt:177:15
 cells-left-requires : tie.Need-cells-left-requires Inv-loop μ-loop
@@ -242,11 +218,11 @@ same-length-10 c = search needs
 returns-5 : tie.Need-returns-5 Inv-loop μ-loop
 returns-5 c =
     let at-turn = c .before .before .before in
-    fills-full _ _ _ _ _ _ _ _ _ _ (at-turn .loop .inv .3) (c .before .before .loop-test .left) (at-turn .loop .inv .2) _ refl refl (c .cells-left .ensures)
+    fills-full _ _ _ _ _ _ _ _ _ _ _ (at-turn .loop .inv .3) (c .before .before .loop-test .left) (at-turn .loop .inv .2) _ refl refl (c .cells-left .ensures)
     (at-turn .loop .inv .1) (at-turn .loop .inv .0)
 
-pub fill-spec : {M : Type 1} → statement M
-fill-spec =
+pub fill-lines-spec : {M : Type 1} → statement M
+fill-lines-spec =
     tie.close
     (tie.spec
     Inv-loop
@@ -268,13 +244,10 @@ fill-spec =
     loop-less
     loop-again
     enum-told
-    cells-passed-requires
-    put-last-requires
-    stopped-requires-3
     same-length-5
     same-length-6
     returns-3
-    stopped-requires-4
+    stopped-requires-3
     same-length-7
     same-length-8
     returns-4

@@ -1,4 +1,4 @@
--- `filling::put_mapping` meets its contract: its answers are the line's numbers where they hold the mapping, and the part that
+-- `mapping::put_mapping` meets its contract: its answers are the line's numbers where they hold the mapping, and the part that
 -- `line` returned is written from the index on.
 use Prim.Native.Nat.{ℕ, _+_, _-_, _≤_, _<_}
 use native.Mathlib.Nat.{le-refl}
@@ -15,12 +15,12 @@ use Rattle.base.specs.Limits.{textLimit, patternLimit, wordLimit}
 use Rattle.list_line.specs.PerMille.{perMille}
 use Rattle.list_line.proofs.Buffers.{same-bytes}
 use Rattle.list_line.proofs.Decimal.{line-fits}
-use Rattle.list_output.specs.Output.{mappingLine}
-use Rattle.list_output.specs.Pieces.{Holds, isHeld}
-use Rattle.list_output.proofs.Mapping.{held-true, not-held, holds-of, last-is, per-mille-back, per-mille-is, not-below, cast-fits, abs-is, line-is}
-use Rattle.list_output.proofs.Writers.{written-inside, written-onward, written-past}
-use Rattle.list_output.proofs.filling.put_mapping.Statement.{statement}
-use Rattle.list_output.proofs.filling.put_mapping.Tie as tie
+use Rattle.list_lines.specs.Lines.{mappingLine}
+use Rattle.list_lines.specs.Pieces.{Holds, isHeld}
+use Rattle.list_lines.proofs.Numbers.{held-true, not-held, holds-of, last-is, per-mille-back, per-mille-is, not-below, cast-fits, abs-is, line-is}
+use Rattle.list_line.proofs.Writers.{written-inside, written-onward, written-past}
+use Rattle.list_lines.proofs.mapping.put_mapping.Statement.{statement}
+use Rattle.list_lines.proofs.mapping.put_mapping.Tie as tie
 
 -- ---- the ends of the interval
 
@@ -178,13 +178,13 @@ module _ (c : tie.After-line) where
   line-here : Held (ended per) → asked .args .mapping .m ≤ lengthOf (asked .args .mapping .a) (asked .args .mapping .b)
       → asked .args .mapping .m ≤ asked .args .size
       → now (c .line .result)
-      ≡ mappingLine (asked .args .positions .now) (asked .args .k) (asked .args .size)
+      ≡ mappingLine (asked .args .positions .now) (asked .args .k) (asked .args .size) (asked .args .strand)
       (record { a = asked .args .mapping .a; b = asked .args .mapping .b; score = asked .args .mapping .score; m = asked .args .mapping .m })
   line-here h l s =
       c .line .ensures
-      ∙ line-fits _ _ _ _ _
-      ∙ line-is (asked .args .positions .now) (asked .args .k) (asked .args .size) (asked .args .mapping .a) (asked .args .mapping .b)
-      (asked .args .mapping .score) _ (asked .args .mapping .m) _ _ _
+      ∙ line-fits _ _ _ _ _ _
+      ∙ line-is (asked .args .positions .now) (asked .args .k) (asked .args .size) (asked .args .strand) (asked .args .mapping .a)
+      (asked .args .mapping .b) (asked .args .mapping .score) _ (asked .args .mapping .m) _ _ _
       (ap (λ (j : ℕ). getD (asked .args .positions .now) j 0) (ends (ended per) .wide .ensures .0))
       (last-letter (ended per) h)
       (toZ-ofZ (sfits-of (c .before .struct-told .given .0 .1)))

@@ -17,8 +17,9 @@ use Rattle.mappings.specs.Score.{lengthOf}
 use Rattle.base.specs.Limits.{textLimit, patternLimit, wordLimit}
 use Rattle.list_line.specs.PerMille.{perMille, isRefused, perMilleNumber}
 use Rattle.list_line.specs.Line.{line}
-use Rattle.list_output.specs.Output.{mappingLine}
-use Rattle.list_output.specs.Pieces.{Holds, isHeld, EndOf}
+use Rattle.strands.specs.declared.Strand.{Strand}
+use Rattle.list_lines.specs.Lines.{mappingLine}
+use Rattle.list_lines.specs.Pieces.{Holds, isHeld, EndOf}
 
 -- ---- the test
 
@@ -128,9 +129,9 @@ module _ (z : ℤ) (fits : SFits w32 z) where
   abs-is n e = ap natAbs (toZ-ofZ fits ∙ e)
 
 -- the line by the numbers that the code has
-pub line-is : (places : List ℕ) (k size a b : ℕ) (score score′ : ℤ) (m first last per : ℕ) → first ≡ getD places a 0
+pub line-is : (places : List ℕ) (k size : ℕ) (strand : Strand) (a b : ℕ) (score score′ : ℤ) (m first last per : ℕ) → first ≡ getD places a 0
     → last ≡ getD places b 0 + k - 1
     → score′ ≡ score → per ≡ perMille m (lengthOf a b) size
-    → line first last score′ m per ≡ mappingLine places k size (record { a = a; b = b; score = score; m = m })
+    → line first last score′ m per strand ≡ mappingLine places k size strand (record { a = a; b = b; score = score; m = m })
 unfolding mappingLine
-line-is places k size a b score score′ m first last per ef el es ep = λ i. line (ef i) (el i) (es i) m (ep i)
+line-is places k size strand a b score score′ m first last per ef el es ep = λ i. line (ef i) (el i) (es i) m (ep i) strand
