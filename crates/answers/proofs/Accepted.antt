@@ -4,7 +4,7 @@ use native.Mathlib.Omega.{arith}
 use mathlib.Core.Bool.{Bool, true, false, cond, not, _||_}
 use mathlib.Core.Path.{_≡_, refl}
 use mathlib.Core.List.{List, [], _∷_}
-use lib.Dec.{ltb, eqb}
+use lib.Dec.{leb, ltb, eqb}
 use lib.ListN.{length}
 use Rattle.base.specs.Replies.{Reply, accepted, refused}
 use Rattle.base.specs.Limits.{kLimit, wLimit, letterLimit, outside, textLimit, patternLimit, hitLimit, workWords}
@@ -12,6 +12,7 @@ use Rattle.kmers.specs.Kmers.{Entry, entries}
 use Rattle.minimizers.specs.Sketch.{sketch}
 use Rattle.sketch.specs.Replies.{checkedLetters, roomFor, sketchReply}
 use Rattle.strike.specs.Strike.{strike, strikeReply}
+use Rattle.strands.specs.Complement.{complementReply}
 use Rattle.store.specs.Save.{stored, storable, saveReply}
 use Rattle.store.specs.Words.{isHeader, headerK}
 use Rattle.store.specs.Load.{Judged, good, bad, withEntry, judgeFrom, judge, storeK, storeW, loadRoom, judgedReply, loadReply}
@@ -51,6 +52,14 @@ strike-tells deciding cs ps c codeRoom positionRoom =
     (past (ltb textLimit (length deciding)) 7 []
     (past (outside 1 textLimit c) 5 []
     (room-tells (length (strike deciding c (entries cs ps))) codeRoom positionRoom)))
+
+pub complement-tells : (read : List ℕ) (room : ℕ) → Tells (complementReply read room)
+unfolding complementReply
+complement-tells read room = go (leb (length read) room)
+  where
+    go : (b : Bool) → Tells (cond b (accepted (length read ∷ [])) (refused 4 (length read ∷ [])))
+    go true = value-tells (length read)
+    go false = past true 3 (length read ∷ []) (value-tells (length read))
 
 pub save-tells : (k w : ℕ) (cs ps : List ℕ) (room : ℕ) → Tells (saveReply k w cs ps room)
 unfolding saveReply

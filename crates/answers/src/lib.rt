@@ -1,12 +1,15 @@
-// The answers of sketch, strike, save, load and start as document 01 numbers them: the number and the value of the reply, and for load k and w.
+// The answers of sketch, strike, the reverse complement, save, load and start as document 01 numbers them: the number and the value of the
+// reply, and for load k and w.
 use session_start::Started;
 use sketch::Sketched;
 use store::Loaded;
 use store::Saved;
+use strands::Complemented;
 use strike::Struck;
 ghost use mathlib.Core.Path.{_≡_};
 ghost use Rattle.sketch.specs.Answers.{replyOf as sketchedReply};
 ghost use Rattle.strike.specs.Answers.{replyOf as struckReply};
+ghost use Rattle.strands.specs.Answers.{replyOf as complementedReply};
 ghost use Rattle.store.specs.Answers.{savedReply, loadedReply};
 ghost use Rattle.session_start.specs.Answers.{startedReply};
 ghost use Rattle.answers.specs.Numbers.{numberOf, valueOf, kAfter, wAfter};
@@ -35,6 +38,15 @@ pub fn of_strike(answer: Struck) -> Numbers
         Struck::TooManyEntries => Numbers(8, 0),
         Struck::BadLimit => Numbers(6, 0),
         Struck::TooShort(n) => Numbers(4, n),
+    }
+}
+
+pub fn of_complement(answer: Complemented) -> Numbers
+    ensures { λ r. ⌜ (r .0 ≡ numberOf (complementedReply answer)) × (r .1 ≡ valueOf (complementedReply answer)) ⌝ }
+{
+    match answer {
+        Complemented::Bytes(n) => Numbers(0, n),
+        Complemented::TooShort(n) => Numbers(4, n),
     }
 }
 

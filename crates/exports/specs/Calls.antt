@@ -7,6 +7,7 @@ use lib.ListN.{length}
 use Rattle.base.specs.Replies.{Reply}
 use Rattle.mappings.specs.Score.{Task}
 use Rattle.sketch.specs.Replies.{sketchReply, sketchCodes, sketchPositions}
+use Rattle.strands.specs.Complement.{complementReply, complementBytes}
 use Rattle.strike.specs.Strike.{strikeReply, strikeCodes, strikePositions}
 use Rattle.store.specs.Save.{saveReply, saveWords}
 use Rattle.store.specs.Load.{loadReply, loadCodes, loadPositions}
@@ -22,6 +23,10 @@ pub record SketchCall (k w : ℕ) (letters codes₀ positions₀ : List ℕ) (re
   pub tells : Tells (sketchReply k w letters (length codes₀) (length positions₀)) result number
   pub codes-after : codes′ ≡ sketchCodes k w letters codes₀ positions₀
   pub positions-after : positions′ ≡ sketchPositions k w letters codes₀ positions₀
+
+pub record ComplementCall (read out₀ : List ℕ) (result number : ℕ) (out′ : List ℕ) : Type 0 where
+  pub tells : Tells (complementReply read (length out₀)) result number
+  pub out-after : out′ ≡ complementBytes read out₀
 
 -- the codes that decide; the codes and positions to strike
 pub record StrikeCall (deciding codes positions : List ℕ) (c : ℕ) (codes₀ positions₀ : List ℕ) (result number : ℕ)

@@ -3,6 +3,7 @@
 // refusal number, and the result is the value answered, or the second value.
 // A caller passes each slice as two arguments, a pointer and a length, and not as one of 16 bytes.
 use answers::k_after;
+use answers::of_complement;
 use answers::of_load;
 use answers::of_save;
 use answers::of_sketch;
@@ -15,7 +16,7 @@ ghost use mathlib.Core.Path.{_≡_};
 ghost use Rattle.mappings.specs.Score.{taskWith};
 ghost use Rattle.sketch.specs.Replies.{hostNumber, countReply};
 ghost use Rattle.list_line.specs.PerMille.{perMilleNumber};
-ghost use Rattle.exports.specs.Calls.{SketchCall, StrikeCall, SaveCall, LoadCall, StartCall};
+ghost use Rattle.exports.specs.Calls.{SketchCall, ComplementCall, StrikeCall, SaveCall, LoadCall, StartCall};
 ghost use Rattle.exports.specs.Steps.{lentMapping, Steps};
 
 // The count of entries that a sketch would have, or the refusal number negated.
@@ -47,6 +48,20 @@ pub extern "C" fn huddlewool_sketch(
         r (now (number .exit)) (now (codes .exit)) (now (positions .exit)) ⌝ }
 {
     let answer = of_sketch(sketch::sketch(letters, k, w, codes, positions));
+    *number = answer.0;
+    answer.1
+}
+
+// The result is the number of bytes written, or those needed.
+#[no_mangle]
+pub extern "C" fn huddlewool_reverse_complement(
+    read: &[u8],
+    out: &mut [u8],
+    number: &mut u32,
+) -> usize
+    ensures { λ r. ⌜ ComplementCall (now (read .entry)) (now (out .entry)) r (now (number .exit)) (now (out .exit)) ⌝ }
+{
+    let answer = of_complement(strands::reverse_complement(read, out));
     *number = answer.0;
     answer.1
 }

@@ -2,3 +2,4 @@
 pub mod Replies
 pub mod Sketches
 pub mod Letters
+pub mod Accepted

@@ -1,0 +1,3 @@
+-- Laws of the calls of both strands.
+pub mod Both
+pub mod Requests

@@ -1,0 +1,2 @@
+-- What only code speaks of: what the calls of both strands answer and leave.
+pub mod Sessions
