@@ -32,6 +32,11 @@ module _ (task : Task) where
       ∙ ap (map (mappingOf task)) (keep-append (isFinalCell task) first (drop (q + n) (cellsOf task)))
       ∙ map-append (mappingOf task) (keep (isFinalCell task) first) (keep (isFinalCell task) (drop (q + n) (cellsOf task)))
 
+  -- no mapping is left after the last cell
+  pub all-passed : finalsAfter task (total task) ≡ []
+  unfolding cellsOf
+  all-passed = ap (λ (l : List Cell). map (mappingOf task) (keep (isFinalCell task) l)) (drop-all-cells (hitCount task))
+
   module _ (q B : ℕ) (among : q ≤ total task) where
     handed : {answer : Answer} → ruleAnswer task q B ≡ answer
         → handedOut (answer ∷ []) ≡ finalsOf task (take (reported answer) (drop q (cellsOf task)))
@@ -59,8 +64,7 @@ module _ (task : Task) where
       where
         go : Outcome task q B (finished n) → (finalsAfter task q ≡ []) × (q + n ≡ total task) × (finalsAfter task (q + n) ≡ [])
         go (as-finished _ h t) =
-            let none : finalsAfter task (q + n) ≡ [] =
-            ap (finalsAfter task) t ∙ ap (λ (l : List Cell). map (mappingOf task) (keep (isFinalCell task) l)) (drop-all-cells (hitCount task)) in
+            let none : finalsAfter task (q + n) ≡ [] = ap (finalsAfter task) t ∙ all-passed in
             (finals-split q n ∙ ap (λ (l : List Mapping). l ++ finalsAfter task (q + n)) (sym (handed e)) ∙ none, t, none)
 
     -- a budget of more cells than there are is never spent, and no step of a session is refused

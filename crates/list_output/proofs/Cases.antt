@@ -1,4 +1,4 @@
--- Document 01's example of what `maplist` prints, and further ones: all are computed.
+-- Document 01's example of what `maplist` prints, with the strand that document 02 adds, and further ones: all are computed.
 use mathlib.Core.Path.{_≡_, refl}
 use mathlib.Core.List.{[], _∷_}
 use Rattle.base.specs.Bytes.{asBytes}
@@ -6,22 +6,22 @@ use Rattle.base.specs.Replies.{refused}
 use Rattle.list_output.specs.Output.{unlessRefused, outputOf}
 use Rattle.list_output.proofs.Compute.{list-output-computes}
 
-pub example : outputOf (asBytes "1 1 100 1 1 1\nACAG\nACG\n") ≡ asBytes "first last score shared permille\n1 3 3 3 1000\nfound 1 cells 10\n"
+pub example : outputOf (asBytes "1 1 100 1 1 1\nACAG\nACG\n") ≡ asBytes "first last score shared permille strand\n1 3 3 3 1000 +\nfound 1 cells 13\n"
 unfolding list-output-computes
 example = refl
 
 -- it is another with the text or the read not struck, with u and v or k and w exchanged, and with a last letter that is the k-mer's first
 pub second : outputOf (asBytes "3 2 1 2 1 -3\nCCTACGAGGTAC\nTTACTAC\n")
-    ≡ asBytes "first last score shared permille\n1 3 2 1 1000\nfound 1 cells 1\n"
+    ≡ asBytes "first last score shared permille strand\n1 3 2 1 1000 +\nfound 1 cells 1\n"
 unfolding list-output-computes
 second = refl
 
 -- A occurs three times in the text: with c 2 it leaves text and read, and C and G of the read are found. Were it to stay in the read, or
 -- to leave it by the read's own counts, nothing would be. With c 3 it stays in both
 pub record Striking : Type 0 where
-  pub struck : outputOf (asBytes "1 1 2 1 1 1\nACAGA\nAACG\n") ≡ asBytes "first last score shared permille\n1 3 2 2 1000\nfound 1 cells 3\n"
+  pub struck : outputOf (asBytes "1 1 2 1 1 1\nACAGA\nAACG\n") ≡ asBytes "first last score shared permille strand\n1 3 2 2 1000 +\nfound 1 cells 6\n"
   pub kept : outputOf (asBytes "1 1 3 1 1 1\nACAGA\nAACG\n")
-      ≡ asBytes "first last score shared permille\n1 4 4 4 1000\n0 3 4 4 1000\nfound 2 cells 15\n"
+      ≡ asBytes "first last score shared permille strand\n1 4 4 4 1000 +\n0 3 4 4 1000 +\nfound 2 cells 18\n"
 
 pub striking : Striking
 unfolding list-output-computes
@@ -30,13 +30,32 @@ striking = record { struck = refl; kept = refl }
 -- one of 16 k-mers and three of 16: 62.5 and 187.5, each printed as the even number beside it
 pub record Halves : Type 0 where
   pub one-of-16 : outputOf (asBytes "1 1 16 1 1 -14\nA\nACCCCCCCCCCCCCCC\n")
-      ≡ asBytes "first last score shared permille\n0 0 -14 1 62\nfound 1 cells 1\n"
+      ≡ asBytes "first last score shared permille strand\n0 0 -14 1 62 +\nfound 1 cells 1\n"
   pub three-of-16 : outputOf (asBytes "1 1 16 1 1 -10\nAAA\nAAACCCCCCCCCCCCC\n")
-      ≡ asBytes "first last score shared permille\n0 2 -10 3 188\nfound 1 cells 6\n"
+      ≡ asBytes "first last score shared permille strand\n0 2 -10 3 188 +\nfound 1 cells 6\n"
 
 pub halves : Halves
 unfolding list-output-computes
 halves = record { one-of-16 = refl; three-of-16 = refl }
+
+-- the other strand
+pub record Strands : Type 0 where
+  -- ACC as it is, and then its complement, GGT; the last line has the cells of both
+  pub both : outputOf (asBytes "2 1 9 1 1 1\nACCGGT\nACC\n")
+      ≡ asBytes "first last score shared permille strand\n0 2 2 2 1000 +\n3 5 2 2 1000 -\nfound 2 cells 6\n"
+  -- only the complement is found: ACC of GGT
+  pub reversed : outputOf (asBytes "2 1 9 1 1 1\nGACC\nGGT\n")
+      ≡ asBytes "first last score shared permille strand\n1 3 2 2 1000 -\nfound 1 cells 3\n"
+  -- AATT is its own complement, and is listed on both
+  pub palindrome : outputOf (asBytes "2 1 9 1 1 1\nCAATTG\nAATT\n")
+      ≡ asBytes "first last score shared permille strand\n1 4 3 3 1000 +\n1 4 3 3 1000 -\nfound 2 cells 12\n"
+  -- the complement of AccN is NGGT
+  pub other-letters : outputOf (asBytes "2 1 9 1 1 1\nACGGT\nAccN\n")
+      ≡ asBytes "first last score shared permille strand\n2 4 2 2 1000 -\nfound 1 cells 4\n"
+
+pub strands : Strands
+unfolding list-output-computes
+strands = record { both = refl; reversed = refl; palindrome = refl; other-letters = refl }
 
 -- what is printed instead of a list
 pub record Refusals : Type 0 where
@@ -51,6 +70,8 @@ pub record Refusals : Type 0 where
   pub read-empty : outputOf (asBytes "1 1 1 1 1 1\nA\n\n") ≡ asBytes "refused 9\n"
   -- a read of which nothing remains: A occurs more often in the text than c allows
   pub read-emptied : outputOf (asBytes "1 1 1 1 1 1\nAA\nA\n") ≡ asBytes "refused 9\n"
+  -- and one whose complement is emptied, though the read itself is accepted
+  pub complement-emptied : outputOf (asBytes "1 1 1 1 1 1\nTT\nA\n") ≡ asBytes "refused 9\n"
   -- without the second value
   pub number-alone : unlessRefused (refused 11 (2049 ∷ [])) [] ≡ asBytes "refused 11\n"
 
@@ -65,5 +86,6 @@ refusals =
       u-bad = refl;
       read-empty = refl;
       read-emptied = refl;
+      complement-emptied = refl;
       number-alone = refl;
     }

@@ -1,13 +1,10 @@
--- Laws about the output and its pieces, and examples of it that compute.
-pub mod Writers
-pub mod Mapping
-pub mod Rest
-pub mod Going
-pub mod Belonging
-pub mod FirstPiece
-pub mod Threshold
-pub mod OpenedSession
-pub mod Whole
+-- Laws of what `maplist` prints, and examples that compute.
 pub mod Compute
 pub mod Cases
+pub mod Threshold
+pub mod OpenedSession
+pub mod FirstPiece
+pub mod Turns
+pub mod Next
 pub mod Printed
+pub mod Whole

@@ -1,42 +1,35 @@
--- The session that accepted calls open: what belongs to it, and what is left to print.
-use Prim.Native.Nat.{ℕ, _+_, _-_, _≤_, _<_}
-use native.Mathlib.Nat.{zero-add}
+-- The session that accepted calls of one strand open: what belongs to it, and its lines.
+use Prim.Native.Nat.{ℕ, _+_, _≤_, _<_}
 use native.Mathlib.Omega.{arith}
 use mathlib.Core.Path.{_≡_, refl, sym, ap, ap₂, _∙_}
 use mathlib.Core.Bool.{Bool, true, false}
 use mathlib.Core.List.{List, [], _∷_, _++_, map}
-use lib.ListN.{length, getD, drop, length-append, length-map, List·getD-append}
+use lib.ListN.{length, getD, drop, length-append, List·getD-append}
 use Rattle.base.specs.Lists.{keep}
-use Rattle.base.specs.Replies.{Reply, accepted, refused, over, after}
-use Rattle.base.specs.Limits.{kLimit, letterLimit, lineLimit}
+use Rattle.base.specs.Replies.{Reply, accepted, over, after}
+use Rattle.base.specs.Limits.{kLimit, letterLimit}
 use Rattle.kmers.specs.Kmers.{Entry, codes, positions}
 use Rattle.minimizers.specs.Sketch.{sketch}
-use Rattle.sketch.specs.Replies.{sketchReply}
-use Rattle.sketch.proofs.Accepted.{sketch-limits}
 use Rattle.minimizers.proofs.Laws.{positions-below}
 use Rattle.kmers.proofs.Entries.{length-codes, length-positions}
 use Rattle.strike.specs.Strike.{struck}
 use Rattle.strike.proofs.Laws.{strike-below}
 use Rattle.mappings.specs.Score.{Task}
 use Rattle.mappings.specs.Definition1.{Final}
-use Rattle.mappings.specs.Cells.{Cell, cellsOf, hitCount, mappingOf, leftEnd, rightEnd}
+use Rattle.mappings.specs.Cells.{Cell, hitCount, mappingOf, leftEnd, rightEnd}
 use Rattle.mappings.specs.FinalTest.{isFinalCell}
 use Rattle.mappings.proofs.Definition1.{test-final}
 use Rattle.session_start.specs.Start.{startReply, startWords, afterStart}
 use Rattle.session_start.specs.WorkWords.{sessionWords}
 use Rattle.mapper.proofs.Accepted.{admitted}
+use Rattle.strands.specs.declared.Strand.{Strand}
 use Rattle.requests.specs.declared.Settings.{Settings}
 use Rattle.requests.specs.Requests.{textOf, patternOf, taskOf}
-use Rattle.list_input.specs.Input.{given}
-use Rattle.list_open.specs.Calls.{andThen, strikingOf, sketchesReply, strikingReply, patternReply, callsReply}
+use Rattle.list_open.specs.Calls.{callsReply}
 use Rattle.list_open.specs.Opening.{positionsAfter, workAfter, whereAccepted}
-use Rattle.list_output.specs.Output.{mappingLine, mappingLines, finalCells, lastLine, listOf, headerLine}
-use Rattle.list_output.specs.Pieces.{restOf, Belongs}
-
-and-accepted : (first next : Reply) (values : List ℕ) → andThen first next ≡ accepted values
-    → ((ns : List ℕ) × (first ≡ accepted ns)) × (next ≡ accepted values)
-and-accepted (accepted ns) next values e = ((ns, refl), e)
-and-accepted (refused number ns) next values e = absurd (let z : _≡_ {A = ℕ} 0 1 = cc in omega arith)
+use Rattle.list_open.proofs.Accepted.{pattern-accepts, starts, strike-accepts, call-limits}
+use Rattle.list_lines.specs.Lines.{mappingLine, mappingLines}
+use Rattle.list_lines.specs.Pieces.{Belongs}
 
 module _ (s : Settings) (text read places work : List ℕ) (values : List ℕ)
     (accepts : callsReply s text read (length places) (length work) ≡ accepted values) where
@@ -49,36 +42,25 @@ module _ (s : Settings) (text read places work : List ℕ) (values : List ℕ)
   abbrev text-sketch : List Entry
   text-sketch = sketch (s .k) (s .w) text
 
-  calls : ((ns : List ℕ) × (patternReply s text read (length places) ≡ accepted ns)) × (startReply task (length work) ≡ accepted values)
-  unfolding callsReply
-  calls = and-accepted (patternReply s text read (length places)) (startReply task (length work)) values accepts
-
-  strikes : (ns : List ℕ) × (strikingReply s text read (length places) ≡ accepted ns)
-  unfolding patternReply
-  strikes =
-      and-accepted (strikingReply s text read (length places)) (strikingOf text-sketch (sketch (s .k) (s .w) read) (s .c) lineLimit) (calls .0 .0)
-      (calls .0 .1) .0
+  start-said : startReply task (length work) ≡ accepted values
+  start-said = starts s text read (length places) (length work) values accepts
 
   pub start-accepts : startReply task (length work) ≡ accepted (hitCount task ∷ [])
-  start-accepts = calls .1 ∙ ap accepted (admitted task (length work) values (calls .1) .answered)
+  start-accepts = start-said ∙ ap accepted (admitted task (length work) values start-said .answered)
 
   limits : (1 ≤ s .k) × (s .k ≤ kLimit) × (length text ≤ letterLimit)
-  unfolding strikingReply sketchesReply
-  limits =
-      let both = and-accepted (sketchesReply s text read) (strikingOf text-sketch text-sketch (s .c) (length places)) (strikes .0) (strikes .1) in
-      let first =
-      and-accepted (sketchReply (s .k) (s .w) text lineLimit lineLimit) (sketchReply (s .k) (s .w) read lineLimit lineLimit) (both .0 .0) (both .0 .1)
-      in
-      sketch-limits (s .k) (s .w) text lineLimit lineLimit (first .0 .0) (first .0 .1)
+  limits = call-limits s text read (length places) (length work) values accepts
 
   -- the buffers after the calls: the positions of the struck text, and the words of the fresh session
-  pub places-are : positionsAfter (given s text read) places ≡ over of-text places
+  pub places-are : positionsAfter s text read places ≡ over of-text places
   unfolding positionsAfter
-  places-are = ap (λ (a : Reply). after a of-text places) (strikes .1)
+  places-are = ap (λ (a : Reply). after a of-text places) (strike-accepts s text read (length places) (length work) values accepts .1)
 
-  pub words-are : workAfter (given s text read) (length places) work ≡ sessionWords task work 0
+  pub words-are : workAfter s text read (length places) work ≡ sessionWords task work 0
   unfolding workAfter startWords
-  words-are = ap (λ (a : Reply). whereAccepted a (startWords task work) work) (calls .0 .1) ∙ ap (λ (a : Reply). afterStart a task work) (calls .1)
+  words-are =
+      ap (λ (a : Reply). whereAccepted a (startWords task work) work) (pattern-accepts s text read (length places) (length work) values accepts .1)
+      ∙ ap (λ (a : Reply). afterStart a task work) start-said
 
   text-length : length (task .text) ≡ length of-text
   unfolding taskOf
@@ -106,33 +88,24 @@ module _ (s : Settings) (text read places work : List ℕ) (values : List ℕ)
   }
 
   -- the lines from the lent positions are those of the definition
-  line-same : (cell : Cell) → isFinalCell task cell ≡ true
-      → mappingLine (over of-text places) (s .k) (length (patternOf s text read)) (mappingOf task cell)
-      ≡ mappingLine of-text (s .k) (length (patternOf s text read)) (mappingOf task cell)
-  unfolding mappingLine isFinalCell mappingOf
-  line-same cell t =
-      let f : Final task (leftEnd task cell) (rightEnd task cell) = test-final task (leftEnd task cell) (rightEnd task cell) t in
-      let l : leftEnd task cell < length (task .text) = omega (arith, f .ordered, f .within) in
-      rw (place (leftEnd task cell) l, place (rightEnd task cell) (f .within))
+  module _ (strand : Strand) where
+    abbrev lines : List ℕ → List Cell → List ℕ
+    lines from l = mappingLines from (s .k) (length (patternOf s text read)) strand (map (mappingOf task) (keep (isFinalCell task) l))
 
-  lines-same : (l : List Cell)
-      → mappingLines (over of-text places) (s .k) (length (patternOf s text read)) (map (mappingOf task) (keep (isFinalCell task) l))
-      ≡ mappingLines of-text (s .k) (length (patternOf s text read)) (map (mappingOf task) (keep (isFinalCell task) l))
-  lines-same [] = refl
-  lines-same (cell ∷ l) = go (isFinalCell task cell) refl (lines-same l)
-    where
-      go : (t : Bool) → isFinalCell task cell ≡ t
-          → mappingLines (over of-text places) (s .k) (length (patternOf s text read)) (map (mappingOf task) (keep (isFinalCell task) l))
-          ≡ mappingLines of-text (s .k) (length (patternOf s text read)) (map (mappingOf task) (keep (isFinalCell task) l))
-          → mappingLines (over of-text places) (s .k) (length (patternOf s text read)) (map (mappingOf task) (keep (isFinalCell task) (cell ∷ l)))
-          ≡ mappingLines of-text (s .k) (length (patternOf s text read)) (map (mappingOf task) (keep (isFinalCell task) (cell ∷ l)))
-      go true t rec = rw t (ap₂ _++_ (line-same cell t) rec)
-      go false t rec = rw t rec
+    line-same : (cell : Cell) → isFinalCell task cell ≡ true
+        → mappingLine (over of-text places) (s .k) (length (patternOf s text read)) strand (mappingOf task cell)
+        ≡ mappingLine of-text (s .k) (length (patternOf s text read)) strand (mappingOf task cell)
+    unfolding mappingLine isFinalCell mappingOf
+    line-same cell t =
+        let f : Final task (leftEnd task cell) (rightEnd task cell) = test-final task (leftEnd task cell) (rightEnd task cell) t in
+        let l : leftEnd task cell < length (task .text) = omega (arith, f .ordered, f .within) in
+        rw (place (leftEnd task cell) l, place (rightEnd task cell) (f .within))
 
-  pub list-rest : headerLine ++ restOf task (over of-text places) (s .k) (length (patternOf s text read)) 0 0 ≡ listOf s text read
-  unfolding restOf listOf finalCells
-  list-rest =
-      let fs : List Cell = keep (isFinalCell task) (cellsOf task) in
-      let number : 0 + length (map (mappingOf task) fs) ≡ length fs = zero-add (length (map (mappingOf task) fs)) ∙ length-map fs (mappingOf task) in
-      ap (λ (l : List ℕ). headerLine ++ l)
-      (ap₂ _++_ (lines-same (cellsOf task)) (ap (λ (n : ℕ). lastLine n (length (cellsOf task))) number))
+    pub lines-same : (l : List Cell) → lines (over of-text places) l ≡ lines of-text l
+    lines-same [] = refl
+    lines-same (cell ∷ l) = go (isFinalCell task cell) refl (lines-same l)
+      where
+        go : (t : Bool) → isFinalCell task cell ≡ t → lines (over of-text places) l ≡ lines of-text l
+            → lines (over of-text places) (cell ∷ l) ≡ lines of-text (cell ∷ l)
+        go true t rec = rw t (ap₂ _++_ (line-same cell t) rec)
+        go false t rec = rw t rec

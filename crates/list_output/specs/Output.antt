@@ -1,25 +1,28 @@
 -- What `maplist` prints for the bytes of its standard input.
-use Prim.Native.Nat.{ℕ, _+_, _-_}
+use Prim.Native.Nat.{ℕ, _+_}
 use mathlib.Core.List.{List, [], _∷_, _++_, map}
-use lib.ListN.{length, getD}
+use lib.ListN.{length}
 use Rattle.base.specs.Lists.{keep}
 use Rattle.base.specs.Replies.{Reply, accepted, refused}
 use Rattle.kmers.specs.Kmers.{positions}
 use Rattle.base.specs.Limits.{workWords, lineLimit}
-use Rattle.mappings.specs.Score.{Task, lengthOf}
-use Rattle.mappings.specs.Cells.{Cell, Mapping, cellsOf, mappingOf}
+use Rattle.mappings.specs.Score.{Task}
+use Rattle.mappings.specs.Cells.{Cell, cellsOf, mappingOf}
 use Rattle.mappings.specs.FinalTest.{isFinalCell}
 use Rattle.requests.specs.declared.Settings.{Settings}
-use Rattle.requests.specs.Requests.{textOf, patternOf, taskOf}
-use Rattle.list_line.specs.PerMille.{perMille}
-use Rattle.list_line.specs.Line.{decimal, line}
+use Rattle.requests.specs.Requests.{textOf, patternOf, taskOn}
+use Rattle.strands.specs.declared.Strand.{Strand}
+use Rattle.strands.specs.declared.Strand.the-variants.{Forward, Reverse}
+use Rattle.strands.specs.Strands.{readOn}
+use Rattle.list_line.specs.Line.{decimal}
+use Rattle.list_lines.specs.Lines.{mappingLines}
 use Rattle.base.specs.Bytes.{asBytes, lineFeed}
 use Rattle.list_input.specs.Input.{Input, malformed, given, inputOf}
-use Rattle.list_open.specs.Calls.{callsReply}
+use Rattle.list_open.specs.Calls.{strandsReply}
 
 -- the header
 abbrev pub headerLine : List ℕ
-headerLine = asBytes "first last score shared permille\n"
+headerLine = asBytes "first last score shared permille strand\n"
 
 abbrev pub malformedLine : List ℕ
 malformedLine = asBytes "refused input\n"
@@ -32,21 +35,6 @@ abbrev pub unlessRefused : Reply → List ℕ → List ℕ
 unlessRefused (accepted values) rest = rest
 unlessRefused (refused number values) rest = refusedLine number
 
--- the line of a mapping: first letter, last letter (position of entry b, + k − 1), score, m, per mille; from the positions of the text's
--- entries, k and the number of entries of the pattern
-unfoldable pub mappingLine : List ℕ → ℕ → ℕ → Mapping → List ℕ
-mappingLine places k size mapping =
-    line
-    (getD places (mapping .a) 0)
-    (getD places (mapping .b) 0 + k - 1)
-    (mapping .score)
-    (mapping .m)
-    (perMille (mapping .m) (lengthOf (mapping .a) (mapping .b)) size)
-
-abbrev pub mappingLines : List ℕ → ℕ → ℕ → List Mapping → List ℕ
-mappingLines places k size [] = []
-mappingLines places k size (mapping ∷ rest) = mappingLine places k size mapping ++ mappingLines places k size rest
-
 -- the final cells, in the order of the list
 unfoldable pub finalCells : Task → List Cell
 finalCells task = keep (isFinalCell task) (cellsOf task)
@@ -55,17 +43,34 @@ finalCells task = keep (isFinalCell task) (cellsOf task)
 unfoldable pub lastLine : ℕ → ℕ → List ℕ
 lastLine found cells = asBytes "found " ++ decimal found ++ asBytes " cells " ++ decimal cells ++ lineFeed ∷ []
 
--- header, a line for each mapping, last line
+-- the lines of a strand's final mappings, in its own cell order
+unfoldable pub strandLines : Settings → List ℕ → List ℕ → Strand → List ℕ
+strandLines s text read strand =
+    mappingLines (positions (textOf s text)) (s .k) (length (patternOf s text (readOn strand read))) strand
+    (map (mappingOf (taskOn s text read strand)) (finalCells (taskOn s text read strand)))
+
+-- how many mappings a strand has, and how many cells
+abbrev pub foundOn : Settings → List ℕ → List ℕ → Strand → ℕ
+foundOn s text read strand = length (finalCells (taskOn s text read strand))
+
+abbrev pub cellsOn : Settings → List ℕ → List ℕ → Strand → ℕ
+cellsOn s text read strand = length (cellsOf (taskOn s text read strand))
+
+-- header, the lines of the forward read's final mappings, then those of its complement; the last line sums both
 unfoldable pub listOf : Settings → List ℕ → List ℕ → List ℕ
 listOf s text read =
     headerLine
-    ++ mappingLines (positions (textOf s text)) (s .k) (length (patternOf s text read)) (map (mappingOf (taskOf s text read)) (finalCells (taskOf s text read)))
-    ++ lastLine (length (finalCells (taskOf s text read))) (length (cellsOf (taskOf s text read)))
+    ++ strandLines s text read Forward
+    ++ strandLines s text read Reverse
+    ++ lastLine
+    (foundOn s text read Forward + foundOn s text read Reverse)
+    (cellsOn s text read Forward + cellsOn s text read Reverse)
 
--- for an input: the calls in their order, each with a place for each letter, and 16,384 work words; then the list
+-- for an input: the calls of both strands in their order, each with a place for each letter, and 16,384 work words for each session; then the
+-- list
 abbrev pub printedFor : Input → List ℕ
 printedFor malformed = malformedLine
-printedFor (given s text read) = unlessRefused (callsReply s text read lineLimit workWords) (listOf s text read)
+printedFor (given s text read) = unlessRefused (strandsReply s text read lineLimit workWords workWords) (listOf s text read)
 
 -- what `maplist` prints, given the bytes of its standard input
 unfoldable pub outputOf : List ℕ → List ℕ

@@ -9,7 +9,7 @@ ghost use Rattle.list_output.specs.Output.{headerLine, lastLine, malform
 pub fn put_header(out: &mut [u8], at: usize) -> usize
     ensures { λ r. ⌜ Written headerLine at (now (out .entry)) (now (out .exit)) r ⌝ }
 {
-    put_bytes(out, at, b"first last score shared permille\n")
+    put_bytes(out, at, b"first last score shared permille strand\n")
 }
 
 pub fn put_malformed(out: &mut [u8], at: usize) -> usize

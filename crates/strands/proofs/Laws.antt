@@ -38,19 +38,24 @@ paired b h = go (eitherCase 65 97 b) (eitherCase 67 99 b) (eitherCase 71 103 b) 
     go false false false true e = t-a
     go false false false false e = clash refl e
 
+-- where the value is none of the four, no test picks
+none-picked : (a c g t : Bool) (forA forC forG forT b : ℕ) → eqb (four a c g t 0 1 2 3 4) 4 ≡ true → four a c g t forA forC forG forT b ≡ b
+none-picked true c g t forA forC forG forT b e = clash e refl
+none-picked false true g t forA forC forG forT b e = clash e refl
+none-picked false false true t forA forC forG forT b e = clash e refl
+none-picked false false false true forA forC forG forT b e = clash e refl
+none-picked false false false false forA forC forG forT b e = refl
+
 -- other bytes are kept
 pub foreign-kept : (b : ℕ) → isForeign b ≡ true → complement b ≡ b
 unfolding value isForeign complement
-foreign-kept b h = go (eitherCase 65 97 b) (eitherCase 67 99 b) (eitherCase 71 103 b) (eitherCase 84 116 b) h
-  where
-    go : (a c g t : Bool) → eqb (four a c g t 0 1 2 3 4) 4 ≡ true → four a c g t 84 71 67 65 b ≡ b
-    go true c g t e = clash e refl
-    go false true g t e = clash e refl
-    go false false true t e = clash e refl
-    go false false false true e = clash e refl
-    go false false false false e = refl
+foreign-kept b h = none-picked (eitherCase 65 97 b) (eitherCase 67 99 b) (eitherCase 71 103 b) (eitherCase 84 116 b) 84 71 67 65 b h
 
--- and stay outside the eight, as the eight stay among them
+foreign-upper : (b : ℕ) → isForeign b ≡ true → upper b ≡ b
+unfolding value isForeign upper
+foreign-upper b h = none-picked (eitherCase 65 97 b) (eitherCase 67 99 b) (eitherCase 71 103 b) (eitherCase 84 116 b) 65 67 71 84 b h
+
+-- bytes outside the eight stay outside, and the eight stay among them
 pub foreign-same : (b : ℕ) → isForeign (complement b) ≡ isForeign b
 unfolding value isForeign
 foreign-same b = go (isForeign b) refl
@@ -76,17 +81,6 @@ value-complement b h = go (paired b h)
     go g-c = refl
     go t-a = refl
 
-foreign-upper : (b : ℕ) → isForeign b ≡ true → upper b ≡ b
-unfolding value isForeign upper
-foreign-upper b h = go (eitherCase 65 97 b) (eitherCase 67 99 b) (eitherCase 71 103 b) (eitherCase 84 116 b) h
-  where
-    go : (a c g t : Bool) → eqb (four a c g t 0 1 2 3 4) 4 ≡ true → four a c g t 65 67 71 84 b ≡ b
-    go true c g t e = clash e refl
-    go false true g t e = clash e refl
-    go false false true t e = clash e refl
-    go false false false true e = clash e refl
-    go false false false false e = refl
-
 -- the complement of the complement is the letter in upper case
 complement-twice : (b : ℕ) → complement (complement b) ≡ upper b
 unfolding complement
@@ -107,6 +101,7 @@ complement-twice b = go (isForeign b) refl
 map-reverse : {A B : Type 0} (f : A → B) (l : List A) → map f (reverse l) ≡ reverse (map f l)
 map-reverse f l = map-reverseAux f l []
 
+-- no letter is lost or added
 pub length-complement : (letters : List ℕ) → length (reverseComplement letters) ≡ length letters
 unfolding reverseComplement
 length-complement letters = length-reverse (map complement letters) ∙ length-map letters complement

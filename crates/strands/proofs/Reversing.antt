@@ -1,5 +1,5 @@
 -- Lists in reverse order: their elements by index, and their parts between the elements that pass a test.
-use Prim.Native.Nat.{ℕ, zero, suc, _-_, _≤_, _<_}
+use Prim.Native.Nat.{ℕ, suc, _-_, _<_}
 use native.Mathlib.Omega.{arith}
 use mathlib.Core.Path.{_≡_, refl, sym, ap, _∙_}
 use mathlib.Core.Logic.{_⊎_, inl, inr, _≢_}
@@ -39,6 +39,7 @@ module _ {A : Type 0} where
   joined (p ∷ ps) (q ∷ qs) = reverseAux (map reverse ps) (reverseAux p q ∷ qs)
 
   module _ (f : A → Bool) where
+    -- there is a part, if an empty one
     parts-some : (l : List A) → Some (partsBetween f l)
     parts-some [] = some [] []
     parts-some (x ∷ l) = go (f x) (parts-some l)

@@ -6,138 +6,125 @@ use Rattle.list_output.proofs.beginning.begin.Statement.{statement}
 use Rattle.list_output.proofs.beginning.begin.Tie as tie
 
 -- the places that the proofs below speak of, each from a later one
-abbrev at-positions : tie.After-slice-known5 → tie.After-positions
-at-positions c = c .before .before .before
+abbrev at-open : tie.After-slice-known7 → tie.After-open-sessions
+at-open c = positions c .before .before .before
+  where
+    positions : tie.After-slice-known7 → tie.After-forward
+    positions d = d .before .before .before
 
-abbrev at-open : tie.After-slice-known5 → tie.After-open
-at-open c = at-positions c .before
+abbrev malformed : tie.After-whole → tie.After-put-malformed
+malformed c = c .before .before .before
 
-abbrev at-put-malformed : tie.After-whole → tie.After-put-malformed
-at-put-malformed c = c .before .before .before
+abbrev malformed-told : tie.After-put-malformed → tie.After-enum-told
+malformed-told c = c .before .before
 
-abbrev at-enum-told : tie.After-whole → tie.After-enum-told
-at-enum-told c = at-put-malformed c .before .before
+abbrev refused : tie.After-whole2 → tie.After-put-refused
+refused c = c .before .before .before
 
-abbrev at-put-refused : tie.After-whole2 → tie.After-put-refused
-at-put-refused c = c .before .before .before
+abbrev refused-told : tie.After-put-refused → tie.After-number
+refused-told c = c .before .before .before
 
-abbrev at-known-told : tie.After-whole2 → tie.After-known-told
-at-known-told c = at-put-refused c .before .before
+abbrev header : tie.After-both-left → tie.After-put-header
+header c = lent c .before .before
+  where
+    lent : tie.After-both-left → tie.After-slice-known10
+    lent d = d .before .before .before
 
-abbrev at-out3 : tie.After-cells-left → tie.After-out3
-at-out3 c = c .before .before .before
+abbrev both-told : tie.After-put-header → tie.After-k
+both-told c = c .before .before .before
 
-abbrev at-put-header : tie.After-cells-left → tie.After-put-header
-at-put-header c = at-out3 c .before
+open-sessions-requires : tie.Need-open-sessions-requires
+open-sessions-requires c κs = search needs
 
-abbrev at-known-told2 : tie.After-cells-left → tie.After-known-told2
-at-known-told2 c = at-put-header c .before .before
-
--- src/beginning.rt:37:11
-open-requires : tie.Need-open-requires
-open-requires c κs = search needs
-
--- src/beginning.rt:38:50
 enum-told : tie.Need-enum-told
 enum-told c = search needs
 
--- src/beginning.rt:38:36
 put-malformed-requires : tie.Need-put-malformed-requires
 put-malformed-requires c κs = search needs
 
--- src/beginning.rt:38:30
 whole-requires : tie.Need-whole-requires
 whole-requires c κs = search needs
 
--- src/beginning.rt:39:25
 enum-known-number : tie.Need-enum-known-number
 enum-known-number c = search needs
 
--- src/beginning.rt:39:42
 put-refused-requires : tie.Need-put-refused-requires
 put-refused-requires c κs = search needs
 
--- src/beginning.rt:39:36
 whole-requires-2 : tie.Need-whole-requires-2
 whole-requires-2 c κs = search needs
 
--- src/beginning.rt:40:27
 enum-known-k : tie.Need-enum-known-k
 enum-known-k c = search needs
 
--- src/beginning.rt:41:22
 put-header-requires : tie.Need-put-header-requires
 put-header-requires c κs = search needs
 
--- src/beginning.rt:44:19
-cells-left-requires : tie.Need-cells-left-requires
-cells-left-requires c κs = search needs
+both-left-requires : tie.Need-both-left-requires
+both-left-requires c κs = search needs
 
--- src/beginning.rt:34:1
 same-length : tie.Need-same-length
 same-length c = search needs
 
--- src/beginning.rt:34:1
 same-length-2 : tie.Need-same-length-2
 same-length-2 c = search needs
 
--- src/beginning.rt:34:1
 same-length-3 : tie.Need-same-length-3
 same-length-3 c = search needs
 
--- src/beginning.rt:34:1
-returns : tie.Need-returns
-returns c =
-    let told = at-enum-told c in
-    let opened = at-open (told .before .before) in
-    begins _ _ _ _ _ _ _ _ _ _ (opened .open .ensures) (told .enum-told .given .1)
-    (whole-begins _ _ _ _ (c .whole .result) _ (c .before .before .before .put-malformed .ensures) (c .whole .ensures))
-
--- src/beginning.rt:34:1
 same-length-4 : tie.Need-same-length-4
 same-length-4 c = search needs
 
--- src/beginning.rt:34:1
+returns : tie.Need-returns
+returns c =
+    let told = malformed-told (malformed c) in
+    let opened = at-open (told .before .before) in
+    begins _ _ _ _ _ _ _ _ _ _ _ _ (opened .open-sessions .ensures) (told .enum-told .given .1)
+    (whole-begins _ _ _ _ _ (c .whole .result) _ (malformed c .put-malformed .ensures) (c .whole .ensures))
+
 same-length-5 : tie.Need-same-length-5
 same-length-5 c = search needs
 
--- src/beginning.rt:34:1
 same-length-6 : tie.Need-same-length-6
 same-length-6 c = search needs
 
--- src/beginning.rt:34:1
-returns-2 : tie.Need-returns-2
-returns-2 c =
-    let told = at-known-told c in
-    let opened = at-open (told .before .before .before) in
-    begins _ _ _ _ _ _ _ _ _ _ (opened .open .ensures) (told .before .number .given .1)
-    (whole-begins _ _ _ _ (c .whole2 .result) _ (c .before .before .before .put-refused .ensures) (c .whole2 .ensures))
-
--- src/beginning.rt:34:1
 same-length-7 : tie.Need-same-length-7
 same-length-7 c = search needs
 
--- src/beginning.rt:34:1
 same-length-8 : tie.Need-same-length-8
 same-length-8 c = search needs
 
--- src/beginning.rt:34:1
+returns-2 : tie.Need-returns-2
+returns-2 c =
+    let told = refused-told (refused c) in
+    let opened = at-open (told .before .before) in
+    begins _ _ _ _ _ _ _ _ _ _ _ _ (opened .open-sessions .ensures) (told .number .given .1)
+    (whole-begins _ _ _ _ _ (c .whole2 .result) _ (refused c .put-refused .ensures) (c .whole2 .ensures))
+
 same-length-9 : tie.Need-same-length-9
 same-length-9 c = search needs
 
--- src/beginning.rt:34:1
+same-length-10 : tie.Need-same-length-10
+same-length-10 c = search needs
+
+same-length-11 : tie.Need-same-length-11
+same-length-11 c = search needs
+
+same-length-12 : tie.Need-same-length-12
+same-length-12 c = search needs
+
 returns-3 : tie.Need-returns-3
 returns-3 c =
-    let told = at-known-told2 c in
-    let opened = at-open (told .before .before .before) in
-    begins _ _ _ _ _ _ _ _ _ _ (opened .open .ensures) (told .before .k .given .1)
-    (record { first = at-put-header c .put-header .ensures; k-is = refl; size-is = refl; left-is = c .cells-left .ensures })
+    let told = both-told (header c) in
+    let opened = at-open (told .before .before) in
+    begins _ _ _ _ _ _ _ _ _ _ _ _ (opened .open-sessions .ensures) (told .k .given .1)
+    (record { first = header c .put-header .ensures; k-is = refl; size-is = refl; reverse-size-is = refl; left-is = c .both-left .ensures })
 
 pub begin-spec : {M : Type 1} → statement M
 begin-spec =
     tie.close
     (tie.spec
-    open-requires
+    open-sessions-requires
     enum-told
     put-malformed-requires
     whole-requires
@@ -146,16 +133,19 @@ begin-spec =
     whole-requires-2
     enum-known-k
     put-header-requires
-    cells-left-requires
+    both-left-requires
     same-length
     same-length-2
     same-length-3
-    returns
     same-length-4
+    returns
     same-length-5
     same-length-6
-    returns-2
     same-length-7
     same-length-8
+    returns-2
     same-length-9
+    same-length-10
+    same-length-11
+    same-length-12
     returns-3)
