@@ -77,7 +77,15 @@ pub fn fill(
         return beside(part, behind);
     }
     if 1 < behind {
-        let part = fill_lines(reverse, positions, k, reverse_size, Strand::Reverse, found, out);
+        let part = fill_lines(
+            reverse,
+            positions,
+            k,
+            reverse_size,
+            Strand::Reverse,
+            found,
+            out,
+        );
         return beside(part, ahead);
     }
     fill_last(found, cells_passed(forward) + cells_passed(reverse), out)

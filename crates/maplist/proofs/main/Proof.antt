@@ -1,5 +1,5 @@
--- `main` ends and stays within its buffers. Its loop keeps what `report` asks of it: the session in hand is one whose pieces so far and whose
--- rest make up an output. That the pieces are written, each once and in order, is no part of the statement, since `io` says nothing of it.
+-- `main` ends and stays within its buffers. Its loop keeps what `next-prints` asks of it: the two sessions in hand are such that the pieces so far
+-- and the rest make up an output. That the pieces are written, each once and in order, is no part of the statement, since `io` says nothing of it.
 use Prim.Native.Nat.{ℕ, _≤_, zero-le}
 use native.Mathlib.Omega.{arith}
 use mathlib.Core.Path.{_≡_, sym, _∙_}
@@ -7,57 +7,58 @@ use mathlib.Core.List.{List}
 use lib.ListN.{length, length-replicate}
 use lib.Seq.{length-take-le}
 use borrow.Author.Needs.{needs}
-use Rattle.list_output.proofs.Writers.{written-inside}
-use Rattle.list_output.proofs.Whole.{After, begin-prints, next-prints}
+use Rattle.list_line.proofs.Writers.{written-inside}
+use Rattle.list_output.proofs.Next.{After, next-prints}
+use Rattle.list_output.proofs.Whole.{begin-prints}
 use Rattle.maplist.proofs.main.Statement.{statement}
 use Rattle.maplist.proofs.main.Tie as tie
 
 abbrev Inv-loop : tie.InvT-loop
-Inv-loop n positions work₀ out₀ begun left₀ found₀ work out left found =
-    (length positions ≡ 4096) × (length work ≡ 16384) × (length out ≡ 65536)
-    × ((bytes : List ℕ) × (done : List ℕ) × After bytes positions work (begun .k) (begun .size) found left done)
+Inv-loop n positions forward₀ reverse₀ out₀ begun left₀ found₀ forward reverse out left found =
+    (length positions ≡ 4096) × (length forward ≡ 16384) × (length reverse ≡ 16384) × (length out ≡ 65536)
+    × ((bytes : List ℕ) × (done : List ℕ) × After bytes positions forward reverse (begun .k) (begun .size) (begun .«reverse_size») found left done)
 
 abbrev μ-loop : tie.MeasureT-loop
-μ-loop n positions work₀ out₀ begun left₀ found₀ work out left found = left
+μ-loop n positions forward₀ reverse₀ out₀ begun left₀ found₀ forward reverse out left found = left
 
 -- the places that the proofs below speak of, each from a later one
-abbrev at-positions : tie.After-begin Inv-loop μ-loop → tie.After-positions Inv-loop μ-loop
-at-positions c = c .before .before .before
-
 abbrev at-large-buffer : tie.After-begin Inv-loop μ-loop → tie.After-large-buffer Inv-loop μ-loop
-at-large-buffer c = at-positions c .before .before
+at-large-buffer c = lent c .before .before .before
+  where
+    lent : tie.After-begin Inv-loop μ-loop → tie.After-forward Inv-loop μ-loop
+    lent d = d .before .before .before
 
-abbrev at-positions2 : tie.After-out3 Inv-loop μ-loop → tie.After-positions2 Inv-loop μ-loop
-at-positions2 c = c .before .before .before
-
-abbrev at-begin-place : tie.After-out3 Inv-loop μ-loop → tie.After-begin Inv-loop μ-loop
-at-begin-place c = at-positions2 c .before
-
-abbrev at-work3 : tie.After-fill Inv-loop μ-loop → tie.After-work3 Inv-loop μ-loop
-at-work3 c = c .before .before .before
+abbrev at-begin-place : tie.After-reverse2 Inv-loop μ-loop → tie.After-begin Inv-loop μ-loop
+at-begin-place c = c .before .before .before
 
 abbrev in-loop : tie.After-fill Inv-loop μ-loop → tie.In-loop Inv-loop μ-loop
-in-loop c = at-work3 c .before
+in-loop c = lent c .before .before
+  where
+    lent : tie.After-fill Inv-loop μ-loop → tie.After-reverse3 Inv-loop μ-loop
+    lent d = d .before .before .before
 
 abbrev turn : tie.After-fill Inv-loop μ-loop → tie.At-loop Inv-loop μ-loop
 turn c = in-loop c .before
 
-abbrev at-out5 : tie.Else2 Inv-loop μ-loop → tie.After-out5 Inv-loop μ-loop
-at-out5 c = c .before .before .before
+abbrev at-fill-place : tie.After-reverse4 Inv-loop μ-loop → tie.After-fill Inv-loop μ-loop
+at-fill-place c = c .before .before
 
-abbrev at-fill-place : tie.Else2 Inv-loop μ-loop → tie.After-fill Inv-loop μ-loop
-at-fill-place c = at-out5 c .before .before
+abbrev filled : tie.Else2 Inv-loop μ-loop → tie.After-fill Inv-loop μ-loop
+filled c = at-fill-place (wrote c .before)
+  where
+    wrote : tie.Else2 Inv-loop μ-loop → tie.After-out5 Inv-loop μ-loop
+    wrote d = d .before .before .before
 
 -- the first piece
 module _ (c : tie.After-begin Inv-loop μ-loop) where
   abbrev out₁ : List ℕ
-  out₁ = c .begin .last .1 .1 .1 .0
+  out₁ = c .begin .last .1 .1 .1 .1 .0
 
   long : length (at-large-buffer c .large-buffer .result) ≡ 65536
   long = sym (at-large-buffer c .large-buffer .ensures)
 
   same-out : length out₁ ≡ 65536
-  same-out = let l : length out₁ ≡ length (at-large-buffer c .large-buffer .result) = c .begin .kept .1 .1 .1 .0 in l ∙ long
+  same-out = let l : length out₁ ≡ length (at-large-buffer c .large-buffer .result) = c .begin .kept .1 .1 .1 .1 .0 in l ∙ long
 
   first-inside : c .begin .result .written ≤ length out₁
   first-inside =
@@ -71,139 +72,123 @@ module _ (c : tie.After-fill Inv-loop μ-loop) where
   at-loop = turn c
 
   abbrev out₂ : List ℕ
-  out₂ = c .fill .last .1 .1 .1 .1 .1 .0
+  out₂ = c .fill .last .1 .1 .1 .1 .1 .1 .1 .0
 
   same-out₂ : length out₂ ≡ 65536
-  same-out₂ = let l : length out₂ ≡ length (at-loop .loop .out) = c .fill .kept .1 .1 .1 .1 .1 .0 in l ∙ at-loop .loop .inv .2
+  same-out₂ = let l : length out₂ ≡ length (at-loop .loop .out) = c .fill .kept .1 .1 .1 .1 .1 .1 .1 .0 in l ∙ at-loop .loop .inv .3
 
--- src/main.rt:12:21
 input-bytes-requires : tie.Need-input-bytes-requires Inv-loop μ-loop
 input-bytes-requires c κs = search needs
 
--- src/main.rt:13:30
 slice-aggregate-read-full : tie.Need-slice-aggregate-read-full Inv-loop μ-loop
 slice-aggregate-read-full c = search needs
 
--- src/main.rt:13:9
 read-full-requires : tie.Need-read-full-requires Inv-loop μ-loop
 read-full-requires c κs = search needs
 
--- src/main.rt:16:19
 large-buffer-requires : tie.Need-large-buffer-requires Inv-loop μ-loop
 large-buffer-requires c κs = search needs
 
--- src/main.rt:17:23
 array-share-prefix-input : tie.Need-array-share-prefix-input Inv-loop μ-loop
 array-share-prefix-input c = search needs
 
--- src/main.rt:17:23
 slice-aggregate-begin : tie.Need-slice-aggregate-begin Inv-loop μ-loop
 slice-aggregate-begin c = search needs
 
--- src/main.rt:17:36
 slice-aggregate-begin-2 : tie.Need-slice-aggregate-begin-2 Inv-loop μ-loop
 slice-aggregate-begin-2 c = search needs
 
--- src/main.rt:17:52
 slice-aggregate-begin-3 : tie.Need-slice-aggregate-begin-3 Inv-loop μ-loop
 slice-aggregate-begin-3 c = search needs
 
--- src/main.rt:17:63
 slice-aggregate-begin-4 : tie.Need-slice-aggregate-begin-4 Inv-loop μ-loop
 slice-aggregate-begin-4 c = search needs
 
--- src/main.rt:17:9
+slice-aggregate-begin-5 : tie.Need-slice-aggregate-begin-5 Inv-loop μ-loop
+slice-aggregate-begin-5 c = search needs
+
 begin-requires : tie.Need-begin-requires Inv-loop μ-loop
 begin-requires c κs = search needs
 
--- src/main.rt:18:26
 array-share-prefix-out : tie.Need-array-share-prefix-out Inv-loop μ-loop
-array-share-prefix-out c = first-inside (c .before .before .before)
+array-share-prefix-out c = first-inside (at-begin-place (c .before))
 
--- src/main.rt:18:26
 slice-aggregate-write-all : tie.Need-slice-aggregate-write-all Inv-loop μ-loop
 slice-aggregate-write-all c =
-    let at-begin = at-begin-place c in sym (length-take-le (at-begin .begin .result .written) (out₁ at-begin) (first-inside at-begin))
+    let at-begin = at-begin-place (c .before .before) in sym (length-take-le (at-begin .begin .result .written) (out₁ at-begin) (first-inside at-begin))
 
--- src/main.rt:18:9
 write-all-requires : tie.Need-write-all-requires Inv-loop μ-loop
 write-all-requires c κs = search needs
 
--- src/main.rt:19:9
 returns : tie.Need-returns Inv-loop μ-loop
 returns c = search needs
 
--- src/main.rt:23:5
 loop-holds : tie.Need-loop-holds Inv-loop μ-loop
 loop-holds c =
-    let at-begin = at-begin-place (c .before .before) in (
+    let lent = c .before .before .before in
+    let at-begin = at-begin-place (lent .before) in (
       at-begin .begin .kept .1 .0 ∙ length-replicate {A = ℕ} 4096 0,
       at-begin .begin .kept .1 .1 .0 ∙ length-replicate {A = ℕ} 16384 0,
+      at-begin .begin .kept .1 .1 .1 .0 ∙ length-replicate {A = ℕ} 16384 0,
       same-out at-begin,
       (
         _,
         _,
-        begin-prints _ _ _ _ (length-replicate {A = ℕ} 4096 0) (length-replicate {A = ℕ} 16384 0) (omega (arith, long at-begin))
-            (at-begin .begin .result) (out₁ at-begin) _ _ (at-begin .begin .ensures),
+        begin-prints _ _ _ _ _ (length-replicate {A = ℕ} 4096 0) (length-replicate {A = ℕ} 16384 0) (length-replicate {A = ℕ} 16384 0)
+            (omega (arith, long at-begin)) (at-begin .begin .result) (out₁ at-begin) _ _ _ (at-begin .begin .ensures),
       ),
     )
 
--- src/main.rt:24:27
 slice-aggregate-fill : tie.Need-slice-aggregate-fill Inv-loop μ-loop
 slice-aggregate-fill c = search needs
 
--- src/main.rt:24:38
 slice-aggregate-fill-2 : tie.Need-slice-aggregate-fill-2 Inv-loop μ-loop
 slice-aggregate-fill-2 c = search needs
 
--- src/main.rt:24:78
 slice-aggregate-fill-3 : tie.Need-slice-aggregate-fill-3 Inv-loop μ-loop
 slice-aggregate-fill-3 c = search needs
 
--- src/main.rt:24:13
+slice-aggregate-fill-4 : tie.Need-slice-aggregate-fill-4 Inv-loop μ-loop
+slice-aggregate-fill-4 c = search needs
+
 fill-requires : tie.Need-fill-requires Inv-loop μ-loop
 fill-requires c κs = search needs
 
--- src/main.rt:25:30
 array-share-prefix-out-2 : tie.Need-array-share-prefix-out-2 Inv-loop μ-loop
 array-share-prefix-out-2 c = search needs
 
--- src/main.rt:25:30
 slice-aggregate-write-all-2 : tie.Need-slice-aggregate-write-all-2 Inv-loop μ-loop
 slice-aggregate-write-all-2 c =
-    let at-fill = c .before .before .before in sym (length-take-le (at-fill .fill .result .written) (out₂ at-fill) (at-fill .fill .ensures .inside))
+    let at-fill = at-fill-place (c .before .before) in
+    sym (length-take-le (at-fill .fill .result .written) (out₂ at-fill) (at-fill .fill .ensures .inside))
 
--- src/main.rt:25:13
 write-all-requires-2 : tie.Need-write-all-requires-2 Inv-loop μ-loop
 write-all-requires-2 c κs = search needs
 
--- src/main.rt:26:13
 returns-2 : tie.Need-returns-2 Inv-loop μ-loop
 returns-2 c = search needs
 
--- src/main.rt:23:5
 loop-less : tie.Need-loop-less Inv-loop μ-loop
 loop-less c =
-    let at-fill = at-fill-place c in next-prints _ _ _ _ _ _ _ _ (at-loop at-fill .loop .inv .3 .2)
-    (in-loop at-fill .loop-test .taken) _ (at-fill .fill .result) _ _ (omega (arith, at-loop at-fill .loop .inv .2))
-    (at-fill .fill .ensures) .0
+    let at-fill = filled c in
+    next-prints _ _ _ _ _ _ _ _ _ _ (at-loop at-fill .loop .inv .4 .2) (in-loop at-fill .loop-test .taken) _ (at-fill .fill .result) _ _ _
+    (omega (arith, at-loop at-fill .loop .inv .3)) (at-fill .fill .ensures) .0
 
--- src/main.rt:23:5
 loop-again : tie.Need-loop-again Inv-loop μ-loop
 loop-again c =
-    let at-fill = at-fill-place c in (
+    let at-fill = filled c in (
       at-loop at-fill .loop .inv .0,
       at-fill .fill .kept .0 ∙ at-loop at-fill .loop .inv .1,
+      at-fill .fill .kept .1 .0 ∙ at-loop at-fill .loop .inv .2,
       same-out₂ at-fill,
       (
         _,
         _,
-        next-prints _ _ _ _ _ _ _ _ (at-loop at-fill .loop .inv .3 .2) (in-loop at-fill .loop-test .taken) _
-            (at-fill .fill .result) _ _ (omega (arith, at-loop at-fill .loop .inv .2)) (at-fill .fill .ensures) .1,
+        next-prints _ _ _ _ _ _ _ _ _ _ (at-loop at-fill .loop .inv .4 .2) (in-loop at-fill .loop-test .taken) _ (at-fill .fill .result) _ _ _
+            (omega (arith, at-loop at-fill .loop .inv .3)) (at-fill .fill .ensures) .1,
       ),
     )
 
--- src/main.rt:11:1
 returns-3 : tie.Need-returns-3 Inv-loop μ-loop
 returns-3 c = search needs
 
@@ -222,6 +207,7 @@ main-spec =
     slice-aggregate-begin-2
     slice-aggregate-begin-3
     slice-aggregate-begin-4
+    slice-aggregate-begin-5
     begin-requires
     array-share-prefix-out
     slice-aggregate-write-all
@@ -231,6 +217,7 @@ main-spec =
     slice-aggregate-fill
     slice-aggregate-fill-2
     slice-aggregate-fill-3
+    slice-aggregate-fill-4
     fill-requires
     array-share-prefix-out-2
     slice-aggregate-write-all-2
