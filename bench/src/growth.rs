@@ -7,8 +7,8 @@ use host::reference::store;
 use crate::jobs::{self, K, LETTERS, READ, TEXT};
 use crate::made::Made;
 use crate::ours;
-use crate::plain::{sketch, start, step, strike};
-use crate::runs::{BEFORE, as_they_are, count_run, sketch_run, start_run, strike_read_run, strike_run};
+use crate::plain::{complement, sketch, start, step, strike};
+use crate::runs::{BEFORE, as_they_are, complement_run, count_run, sketch_run, start_run, strike_read_run, strike_run};
 use crate::sessions::{HITS, PATTERN, Session, random_hits};
 use crate::steps::{Layout, step_run};
 use crate::table::{each, milliseconds, ratio};
@@ -47,6 +47,16 @@ fn print(job: &str, small: Job, large: Job) {
     let grows = format!("{:.1} for {:.1}", ratio(many, few), to as f64 / from as f64);
     let (few_ms, many_ms) = (milliseconds(few), milliseconds(many));
     println!("| {job} | {from} | {to} | {few_ms} | {many_ms} | {grows} | {} | {} |", each(few, from), each(many, to));
+}
+
+fn complements(letters: &[u8]) -> Job<'_> {
+    let both = [ours::reverse_complement, complement::reverse_complement];
+    beside_plain(letters.len(), both.map(|complement| complement_run(complement, letters, 1)))
+}
+
+fn complement_row() {
+    let letters = jobs::random_letters(LETTERS);
+    print("reverse complement", complements(&letters[..LETTERS / 10]), complements(&letters));
 }
 
 fn sketches(letters: &[u8], w: u32) -> Job<'_> {
@@ -168,6 +178,7 @@ fn step_rows() {
 /// Prints the table.
 pub fn print_all() {
     print_head();
+    complement_row();
     letters_rows();
     strike_rows();
     read_strike_rows();

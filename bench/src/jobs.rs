@@ -7,8 +7,11 @@ use host::reference::sketch::rank;
 pub const LETTERS: usize = 1_048_576;
 pub const TEXT: usize = 65_535;
 
-/// The entries of a read, as many as a session takes.
+/// The entries of a read, as many as a session takes, and the letters of one, as many as `maplist` takes.
 pub const READ: usize = 4_096;
+
+/// The letters of a read whose reverse complement is made.
+pub const LONG_READ: usize = 1_000_000;
 
 /// The k of all sketches here.
 pub const K: u32 = 15;

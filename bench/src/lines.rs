@@ -2,8 +2,10 @@
 
 use crate::jobs::K;
 use crate::ours;
-use crate::plain::{fastest_sketch, fastest_start, fastest_step, fastest_work, sketch, start, step, strike};
-use crate::runs::{as_they_are, count_run, sketch_run, start_run, strike_read_run, strike_run};
+use crate::plain::{
+    complement, fastest_complement, fastest_sketch, fastest_start, fastest_step, fastest_work, sketch, start, step, strike,
+};
+use crate::runs::{as_they_are, complement_run, count_run, sketch_run, start_run, strike_read_run, strike_run};
 use crate::sessions::Session;
 use crate::signatures::{Shared, Start, Strike, StrikeRead};
 use crate::steps::{Layout, counted, step_run};
@@ -15,6 +17,14 @@ fn line(job: String, items: usize, goal: Option<f64>, mut runs: [Run; 3]) -> Lin
     let best = best_times(&mut runs, ROUNDS);
     ask_agreement(&best);
     Line { job, items, goal, ours: best[0], plain: best[1], fastest: best[2] }
+}
+
+/// The reverse complement of a read, made so many times.
+pub fn complement_line(read: &[u8], times: usize) -> Line {
+    let complements = [ours::reverse_complement, complement::reverse_complement, fastest_complement::reverse_complement];
+    let runs = complements.map(|complement| complement_run(complement, read, times));
+    let often = if times > 1 { format!(", {times} times") } else { String::new() };
+    line(format!("reverse complement, {} letters{often}", read.len()), read.len() * times, Some(1.2), runs)
 }
 
 pub fn count_line(letters: &[u8], w: u32) -> Line {

@@ -1,7 +1,7 @@
 //! Times the speed table's jobs and prints the table, a second one that says how costs grow, and the goals that are missed.
 
-use bench::jobs::{self, LETTERS, READ, TEXT};
-use bench::lines::{count_line, sketch_line, start_line, step_lines, strike_line, strike_read_line};
+use bench::jobs::{self, LETTERS, LONG_READ, READ, TEXT};
+use bench::lines::{complement_line, count_line, sketch_line, start_line, step_lines, strike_line, strike_read_line};
 use bench::plain::{fastest_strike, hash_strike};
 use bench::sessions::{HITS, PATTERN, cluster, random_hits};
 use bench::table::Table;
@@ -16,7 +16,7 @@ fn print_legend() {
     println!("'plain' is plain Rust with the proved function's algorithm, 'fastest' the fastest other plain Rust known to us.");
     println!("'ns each' is per letter, entry or cell. Letters are random, in one run, k 15. Weights are 3 and 2.");
     println!(
-        "Checksums are of every number, entry, answer and work word made, in one layout; behind steps the fastest session has"
+        "Checksums are of every number, byte, entry, answer and work word made, in one layout; behind steps the fastest session has"
     );
     println!("some words of its own, so that all three are compared without these, and proved and plain in all words.\n");
 }
@@ -33,6 +33,13 @@ fn print_letters_legend() {
         "proved function's algorithm of today. 'fastest' is the least of all times in plain Rust, the fastest known to us with them."
     );
     println!("The best processor time of {} runs counts, taken in turn. All five make the same.\n", letters_table::ROUNDS);
+}
+
+/// A long read, and one as long as `maplist` takes it, made so often that it is about as many letters.
+fn print_complements(table: &mut Table) {
+    let letters = jobs::random_letters(LONG_READ);
+    table.print(&complement_line(&letters, 1));
+    table.print(&complement_line(&letters[..READ], LONG_READ / READ));
 }
 
 fn print_sketches(table: &mut Table) {
@@ -82,6 +89,7 @@ fn main() {
     machine::print();
     print_legend();
     let mut table = Table::begin();
+    print_complements(&mut table);
     print_sketches(&mut table);
     print_strikes(&mut table);
     print_sessions(&mut table);

@@ -16,6 +16,10 @@ fn signed(answer: Result<usize, Refusal>) -> i32 {
     }
 }
 
+pub fn reverse_complement(read: &[u8], out: &mut [u8]) -> i32 {
+    signed(calls::reverse_complement(read, out))
+}
+
 pub fn sketch(letters: &[u8], k: u32, w: u32, codes: &mut [u32], positions: &mut [u32]) -> i32 {
     signed(calls::sketch(letters, k, w, codes, positions))
 }

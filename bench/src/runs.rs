@@ -1,9 +1,11 @@
-//! Runs of one job each: a call on given input, its time, and a checksum of all that it made. The words of an output buffer behind
-//! those that were written are summed too, since they must stay.
+//! Runs of one job each: a call on given input, its time, and a checksum of all that it made. The words or bytes of an output buffer
+//! behind those that were written are summed too, since they must stay.
+
+use std::hint::black_box;
 
 use crate::made::Made;
 use crate::plain::work::WORK_WORDS;
-use crate::signatures::{Count, Shared, Sketch, Start, Strike, StrikeRead};
+use crate::signatures::{Complement, Count, Shared, Sketch, Start, Strike, StrikeRead};
 use crate::timing::{Run, timed};
 
 const C: u32 = 16;
@@ -17,6 +19,22 @@ pub const BEFORE: u32 = 1;
 fn made(number: i32, codes: &[u32], positions: &[u32]) -> Made {
     assert!(number >= 0, "an accepted call, and not refused with {}", -number);
     Made::of([number as u32].into_iter().chain(codes.iter().chain(positions).copied()))
+}
+
+/// The same call so many times, since one of a short read takes less than the clock can tell; the output has 16 bytes to spare.
+pub fn complement_run(complement: Complement, read: &[u8], times: usize) -> Run<'_> {
+    let mut out = vec![BEFORE as u8; read.len() + 16];
+    Box::new(move || {
+        let (time, number) = timed(|| {
+            let mut number = 0;
+            for _ in 0..times {
+                number = complement(black_box(read), black_box(&mut out));
+            }
+            number
+        });
+        assert_eq!(number, read.len() as i32, "an accepted call");
+        (time, Made::of(out.iter().map(|&byte| u32::from(byte))))
+    })
 }
 
 pub fn count_run(count: Count, letters: &[u8], k: u32, w: u32) -> Run<'_> {

@@ -2,6 +2,9 @@
 
 use host::calls::Stepped;
 
+/// A read, and an output; the number of bytes, or the refusal number negated.
+pub type Complement = fn(&[u8], &mut [u8]) -> i32;
+
 /// Letters, k and w; the number of entries, or the refusal number negated.
 pub type Count = fn(&[u8], u32, u32) -> i32;
 

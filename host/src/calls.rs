@@ -1,4 +1,4 @@
-//! The seven calls with answers as a Rust program wants them: a result, or a refusal.
+//! The eight calls with answers as a Rust program wants them: a result, or a refusal.
 
 use crate::exported::{self, StepWords};
 use crate::reference::refusal::{Refusal, refused, refused_with};
@@ -10,6 +10,13 @@ fn answered(number: u32, value: usize) -> Result<usize, Refusal> {
         4 | 11..=14 => Err(refused_with(number, value)),
         _ => Err(refused(number)),
     }
+}
+
+/// The number of bytes written.
+pub fn reverse_complement(read: &[u8], out: &mut [u8]) -> Result<usize, Refusal> {
+    let mut number = 0;
+    let value = exported::reverse_complement(read, out, &mut number);
+    answered(number, value)
 }
 
 /// The number of entries written.

@@ -1,6 +1,7 @@
 //! Made-up inputs: clusters of near copies of a gene with inner repeats, and settings to map a read with.
 
 use crate::random::Random;
+use crate::reference::complement::reverse_complement;
 use crate::reference::input::Settings;
 
 /// The letters that a case draws from: all four, few of them (which makes ties), lower case, and some outside the eight.
@@ -59,6 +60,35 @@ pub fn cluster(random: &mut Random, longest: usize) -> (Vec<u8>, Vec<u8>) {
     text.truncate(longest);
     let read = near_copy(random, &gene, rate, alphabet);
     (text, read)
+}
+
+/// A text with near copies of one gene, some of them on the other strand, and a read of the gene from either strand.
+pub fn both_strands(random: &mut Random, longest: usize) -> (Vec<u8>, Vec<u8>) {
+    let alphabet = random.one_of(&ALPHABETS);
+    let size = random.between(1 + longest / 20, 1 + longest / 5);
+    let gene = gene(random, size, alphabet);
+    let rate = random.one_of(&[4, 10, 30, 1000]);
+    let copy = |random: &mut Random| {
+        let copy = near_copy(random, &gene, rate, alphabet);
+        if random.once_in(2) { reverse_complement(&copy) } else { copy }
+    };
+    let mut text = Vec::new();
+    for _ in 0..random.between(1, 4) {
+        let gap = random.below(1 + longest / 8);
+        text.extend(letters(random, gap, alphabet));
+        text.extend(copy(random));
+    }
+    text.truncate(longest);
+    let read = copy(random);
+    (text, read)
+}
+
+/// Letters of twice this length that are their own reverse complement but for their case. Letters outside the eight may stand on either
+/// side of the middle.
+pub fn palindrome(random: &mut Random, half: usize) -> Vec<u8> {
+    let alphabet = random.one_of(&ALPHABETS);
+    let half = letters(random, half, alphabet);
+    [half.as_slice(), &reverse_complement(&half)].concat()
 }
 
 /// A text in which a repeat stands alone some times and within each copy of a gene, and a read of such a copy, which crosses the repeat;

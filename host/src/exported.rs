@@ -1,8 +1,15 @@
-//! The seven calls of the proved library `exports`, with slices in place of pointers and lengths: `number` becomes 0 where the call is
+//! The eight calls of the proved library `exports`, with slices in place of pointers and lengths: `number` becomes 0 where the call is
 //! accepted, else the refusal number, and the result is the value answered, or the second value.
 //! Assumes that the declarations below are those of the library: the linker compares names and nothing else.
 
 unsafe extern "C" {
+    fn huddlewool_reverse_complement(
+        read: *const u8,
+        read_length: usize,
+        out: *mut u8,
+        out_length: usize,
+        number: *mut u32,
+    ) -> usize;
     fn huddlewool_sketch(
         letters: *const u8,
         letters_length: usize,
@@ -88,6 +95,10 @@ unsafe extern "C" {
 
 // SAFETY, in each function: a pointer and the length behind it are those of one slice, what is written overlaps nothing else, as
 // Rust's `&mut` says, and all stay lent during the call.
+
+pub fn reverse_complement(read: &[u8], out: &mut [u8], number: &mut u32) -> usize {
+    unsafe { huddlewool_reverse_complement(read.as_ptr(), read.len(), out.as_mut_ptr(), out.len(), number) }
+}
 
 pub fn sketch(letters: &[u8], k: u32, w: u32, codes: &mut [u32], positions: &mut [u32], number: &mut u32) -> usize {
     let (codes_at, positions_at) = (codes.as_mut_ptr(), positions.as_mut_ptr());

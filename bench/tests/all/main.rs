@@ -2,6 +2,7 @@
 
 use std::thread;
 
+mod complement;
 mod session;
 mod sketch;
 mod strike;

@@ -11,8 +11,10 @@ use std::io::Write;
 use std::process::{Command, ExitCode, Stdio};
 use std::thread;
 
-const CALLS: [&str; 10] =
-    ["nothing", "sketch", "count", "strike", "strike of the read", "save", "load", "start", "step", "per mille"];
+const CALLS: [&str; 11] = [
+    "nothing", "reverse complement", "sketch", "count", "strike", "strike of the read", "save", "load", "start", "step",
+    "per mille",
+];
 
 /// In KiB: a page, the least stack that a thread is given, and the most that a call may need.
 const PAGE: usize = 4;
@@ -48,6 +50,10 @@ fn task() -> (Vec<u32>, Vec<u32>, Vec<u32>) {
 fn call(name: &str) -> Call {
     let mut number = u32::MAX;
     match name {
+        "reverse complement" => {
+            let (read, mut out) = (letters(LETTERS), vec![0; LETTERS]);
+            Box::new(move || exported::reverse_complement(&read, &mut out, &mut number) == LETTERS && number == 0)
+        }
         "sketch" => {
             // Buffers shorter than the letters, so that the entries are counted before they are written.
             let letters = letters(LETTERS);

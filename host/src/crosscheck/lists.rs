@@ -19,13 +19,13 @@ const LEAST: Least = Least { lists: 19_900, medium: 8_500, mappings: 75_000 };
 const LENGTHS: [(usize, usize, usize); 4] = [(0, 8, 5), (9, 24, 8), (9, 24, 16), (25, 50, 20)];
 
 /// What a task is made of, before its sketches.
-struct Made {
-    text: Vec<u8>,
-    read: Vec<u8>,
-    k: u32,
-    w: u32,
-    c: u32,
-    weights: (u32, u32),
+pub struct Made {
+    pub text: Vec<u8>,
+    pub read: Vec<u8>,
+    pub k: u32,
+    pub w: u32,
+    pub c: u32,
+    pub weights: (u32, u32),
 }
 
 /// Text and read, random or a cluster, with about so many letters that they have the entries wanted.
@@ -42,8 +42,8 @@ fn letters_for(random: &mut Random, k: u32, w: u32) -> (Vec<u8>, Vec<u8>) {
     (letters(random, text, alphabet), letters(random, read, alphabet))
 }
 
-/// Few letters and small k make few codes and many repeats.
-fn made(random: &mut Random) -> Made {
+/// Text and read that `letters` makes for a k and a w. Few letters and small k make few codes and many repeats.
+pub fn made(random: &mut Random, letters: impl FnOnce(&mut Random, u32, u32) -> (Vec<u8>, Vec<u8>)) -> Made {
     let k = if random.once_in(10) { random.between(0, 16) } else { random.between(1, 3) } as u32;
     let w = if random.once_in(10) { random.between(0, 65) } else { random.between(1, 4) } as u32;
     let c = match random.below(20) {
@@ -51,7 +51,7 @@ fn made(random: &mut Random) -> Made {
         1..10 => random.between(1, 12) as u32,
         _ => random.one_of(&[100, 65_535]),
     };
-    let (text, read) = letters_for(random, k, w);
+    let (text, read) = letters(random, k, w);
     Made { text, read, k, w, c, weights: weights(random) }
 }
 
@@ -59,7 +59,7 @@ fn made(random: &mut Random) -> Made {
 type Sketch = (Vec<u32>, Vec<u32>);
 
 /// The codes of a text and of a pattern, and how many the read lost.
-type Codes = (Vec<u32>, Vec<u32>, usize);
+pub type Codes = (Vec<u32>, Vec<u32>, usize);
 
 /// How many tasks there were whose read lost entries, but not all of them, and whose read lost all.
 #[derive(Default)]
@@ -109,7 +109,7 @@ fn proved_strike_read(text: &Sketch, (codes, positions): &Sketch, c: u32) -> Hel
 }
 
 /// The codes of struck text and read, by the proved functions, each held to the reference; none where a call is refused.
-fn proved_codes(made: &Made, met: &mut Met) -> Result<Option<Codes>, Difference> {
+pub fn proved_codes(made: &Made, met: &mut Met) -> Result<Option<Codes>, Difference> {
     let mut accepted = |call: &'static str, held: Held<Sketch>| -> Result<Option<Sketch>, Difference> {
         Ok(held?.map_err(|refusal| met.no_list(call, refusal)).ok())
     };
@@ -122,7 +122,7 @@ fn proved_codes(made: &Made, met: &mut Met) -> Result<Option<Codes>, Difference>
 }
 
 fn hold(random: &mut Random, met: &mut Met, struck: &mut Struck) -> Result<(), Difference> {
-    let made = made(random);
+    let made = made(random, letters_for);
     let Some((text, pattern, lost)) = proved_codes(&made, met)? else {
         return Ok(());
     };

@@ -1,6 +1,7 @@
 //! The proved functions beside a brute force on random small tasks and at the limits of document 01's table.
 
 mod codes;
+mod complements;
 mod lists;
 mod numbers;
 mod per_mille;
@@ -14,6 +15,7 @@ mod stores;
 mod strikes;
 mod tally;
 mod tasks;
+mod two_strands;
 
 use tally::Tally;
 
@@ -23,13 +25,16 @@ pub fn run() -> bool {
     let mut tally = Tally::default();
     println!("Random cases, small, each beside the brute force");
     lists::random(&mut tally);
+    two_strands::random(&mut tally);
     codes::random(&mut tally);
+    complements::random(&mut tally);
     sketches::random(&mut tally);
     strikes::random(&mut tally);
     read_strikes::random(&mut tally);
     stores::random(&mut tally);
     per_mille::random(&mut tally);
     println!("\nCases at the limits");
+    complements::limits(&mut tally);
     sketches::limits(&mut tally);
     sketches::block_ends(&mut tally);
     strikes::limits(&mut tally);

@@ -1,4 +1,4 @@
-//! Document 01's table of refusals, with the strike of the read of document 02, and how often each number was met by which call.
+//! Document 01's table of refusals, with the calls of document 02, and how often each number was met by which call.
 
 use std::collections::BTreeMap;
 
@@ -7,7 +7,7 @@ const TABLE: [(u32, &[&str]); 16] = [
     (1, &["count", "save", "sketch"]),
     (2, &["count", "save", "sketch"]),
     (3, &["count", "sketch"]),
-    (4, &["load", "save", "sketch", "strike", "strike of the read"]),
+    (4, &["load", "reverse complement", "save", "sketch", "strike", "strike of the read"]),
     (5, &["save", "strike", "strike of the read"]),
     (6, &["strike", "strike of the read"]),
     (7, &["start"]),

@@ -1,7 +1,8 @@
-//! The proved calls beside the reference: each is made with buffers of known content, and its answer and every word afterwards are
-//! compared.
+//! The proved calls beside the reference: each is made with buffers of known content, and its answer and every word and byte
+//! afterwards are compared.
 
 pub mod buffer;
+pub mod complement;
 pub mod session;
 pub mod sketch;
 pub mod store;

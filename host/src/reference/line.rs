@@ -1,5 +1,7 @@
 //! The line of a mapping, and the numbers in it.
 
+use super::strand::Strand;
+
 /// A number in decimal without leading zeros.
 pub fn decimal(number: u64) -> Vec<u8> {
     let mut digits = Vec::new();
@@ -19,11 +21,16 @@ pub fn signed(number: i64) -> Vec<u8> {
     bytes
 }
 
-/// "first letter, last letter, score, m, per mille", one space between them and a line feed after.
-pub fn line(first: u32, last: u32, score: i32, m: u32, per_mille: u32) -> Vec<u8> {
+/// "first letter, last letter, score, m, per mille" and the strand, one space between them and a line feed after.
+pub fn line(first: u32, last: u32, score: i32, m: u32, per_mille: u32, strand: Strand) -> Vec<u8> {
     let unsigned = |number: u32| decimal(u64::from(number));
-    let fields = [unsigned(first), unsigned(last), signed(i64::from(score)), unsigned(m), unsigned(per_mille)];
-    let mut line = fields.join(&32);
-    line.push(10);
+    let numbers = [unsigned(first), unsigned(last), signed(i64::from(score)), unsigned(m), unsigned(per_mille)];
+    let mut line = numbers.join(&32);
+    line.extend([32, strand.sign(), 10]);
     line
+}
+
+/// The part of a buffer of this length that the line writer returns: "if the line is longer than the buffer it returns the empty part".
+pub fn written_part(line: Vec<u8>, room: usize) -> Vec<u8> {
+    if line.len() > room { Vec::new() } else { line }
 }

@@ -3,6 +3,7 @@
 
 use std::thread;
 
+mod complement;
 mod count;
 mod definition1;
 mod frames;
@@ -10,6 +11,7 @@ mod maplist_inputs;
 mod maplist_large;
 mod maplist_random;
 mod maplist_repeats;
+mod maplist_strands;
 mod maplist_vectors;
 mod per_mille;
 mod proved_vectors;

@@ -35,18 +35,18 @@ fn as_many_hits_as_are_allowed() {
 /// A pattern that is struck has no hits to be too many: what is left of it decides.
 #[test]
 fn hits_that_are_struck() {
-    let nothing = b"first last score shared permille\nfound 0 cells 0\n";
+    let nothing = b"first last score shared permille strand\nfound 0 cells 0\n";
     for hits in [2049, 4096] {
         let text = with_hits(hits);
         let (all, fewer) = (format!("1 1 {hits} 1 1 0"), format!("1 1 {} 1 1 0", hits - 1));
         assert_eq!(hold("not struck", &all, &text, b"A"), b"refused 11\n");
         assert_eq!(hold("struck", &fewer, &text, b"A"), b"refused 9\n");
         assert_eq!(hold("struck, a full read", &fewer, &text, &[b'A'; 4096]), b"refused 9\n");
-        assert_eq!(hold("struck but for one letter", &fewer, &text, b"AAG"), nothing);
+        assert_eq!(hold("struck but for one letter", &fewer, &text, b"AAT"), nothing);
     }
 }
 
-/// Reads of 4,096 entries that lose some of them: A is struck, and C, G and T are 1,996 hits.
+/// Reads of 4,096 entries that lose some of them on either strand: A is struck, and C, G and T are 1,996 hits.
 #[test]
 fn full_patterns_that_are_struck() {
     let mut random = Random::new(2200);
@@ -59,7 +59,7 @@ fn full_patterns_that_are_struck() {
         read[..2000].fill(letter);
         for (c, threshold) in [(2099, i32::MIN), (1500, -500), (1000, 0)] {
             let printed = hold("a full read", &format!("1 1 {c} 1 1 {threshold}"), &text, &read);
-            assert!(printed.ends_with(b" cells 1993006\n"), "{}", printed.escape_ascii());
+            assert!(printed.ends_with(b" cells 3986012\n"), "{}", printed.escape_ascii());
         }
         assert_eq!(hold("a full read", "1 1 2100 1 1 0", &text, &read), b"refused 11\n");
     }

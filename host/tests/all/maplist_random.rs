@@ -6,7 +6,7 @@ use host::program::sweep;
 use host::random::Random;
 use host::reference::faster::finals;
 use host::reference::input::{Settings, input};
-use host::reference::output::prepared;
+use host::reference::output::{Prepared, prepared_run};
 
 /// What a sweep of random cases met, so that it can't pass on empty lists alone.
 #[derive(Default)]
@@ -15,7 +15,14 @@ struct Met {
     several: usize,
     ties: usize,
     negative: usize,
+    /// cases with a mapping on each strand
+    strands: usize,
     refused: usize,
+}
+
+/// The scores of both lists.
+fn scores(run: &[Prepared; 2]) -> [Vec<i64>; 2] {
+    run.each_ref().map(|of| finals(&of.task).iter().map(|mapping| mapping.score).collect())
 }
 
 /// A case whose threshold is, mostly, at a score that some interval has, or one beside it.
@@ -24,23 +31,25 @@ fn case(random: &mut Random, longest: usize) -> Vec<u8> {
     let mut settings = settings(random, longest);
     let open = Settings { threshold: i32::MIN, ..settings };
     let all = input(&three_lines(&open, &text, &read)).expect("three lines");
-    if let Ok((task, _, _)) = prepared(&all)
+    if let Ok(run) = prepared_run(&all)
         && random.below(4) > 0
-        && let found @ [_, ..] = finals(&task).as_slice()
+        && let found @ [_, ..] = scores(&run).concat().as_slice()
     {
-        let lowest = found.iter().map(|mapping| mapping.score).min().expect("a mapping");
-        let score = if random.once_in(3) { lowest } else { found[random.below(found.len())].score } as i32;
+        let lowest = *found.iter().min().expect("a score");
+        let score = if random.once_in(3) { lowest } else { found[random.below(found.len())] } as i32;
         settings.threshold = score + random.below(3) as i32 - 1;
     }
     three_lines(&settings, &text, &read)
 }
 
 fn meet(met: &mut Met, bytes: &[u8]) {
-    let Ok((task, _, _)) = prepared(&input(bytes).expect("three lines")) else {
+    let Ok(run) = prepared_run(&input(bytes).expect("three lines")) else {
         met.refused += 1;
         return;
     };
-    let mut scores: Vec<i64> = finals(&task).iter().map(|mapping| mapping.score).collect();
+    let [mut scores, reverse] = scores(&run);
+    met.strands += usize::from(!scores.is_empty() && !reverse.is_empty());
+    scores.extend(reverse);
     met.mapped += usize::from(!scores.is_empty());
     met.several += usize::from(scores.len() > 1);
     met.negative += usize::from(scores.iter().any(|&score| score < 0));
@@ -56,6 +65,7 @@ fn sweep_many(seeds: std::ops::Range<u64>, longest: usize) {
     assert!(met.several > 200, "cases with several mappings: {}", met.several);
     assert!(met.ties > 100, "cases with equal scores: {}", met.ties);
     assert!(met.negative > 50, "cases with a negative score: {}", met.negative);
+    assert!(met.strands > 100, "cases with a mapping on each strand: {}", met.strands);
     assert!(met.refused > 20, "refused cases: {}", met.refused);
 }
 

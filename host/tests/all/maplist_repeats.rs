@@ -8,9 +8,10 @@ use host::random::Random;
 use host::reference::definition1::Mapping;
 use host::reference::faster::finals;
 use host::reference::input::{Input, Settings, input};
-use host::reference::output::{output, prepared};
+use host::reference::output::{Prepared, output, prepared, prepared_run};
 use host::reference::score::Task;
 use host::reference::sketch::{codes, sketch};
+use host::reference::strand::Strand;
 
 /// Holds the reference and the program to this list.
 fn hold(input: &[u8], expected: &str) {
@@ -19,18 +20,19 @@ fn hold(input: &[u8], expected: &str) {
 }
 
 fn listed(lines: &str) -> String {
-    format!("first last score shared permille\n{lines}\n")
+    format!("first last score shared permille strand\n{lines}\n")
 }
 
-/// A three times is struck by c 2, from the text and from the read: |p| is 2, for the score and for the per mille.
+/// A three times is struck by c 2, from the text and from the read: |p| is 2, for the score and for the per mille. The complement has no
+/// A, and keeps its entries.
 #[test]
 fn size_of_what_is_left() {
-    hold(b"1 1 2 1 1 1\nAAACG\nAACG\n", &listed("3 4 2 2 1000\nfound 1 cells 3"));
-    hold(b"1 1 2 5 3 -2147483648\nAAACG\nAAAAAAAAAACG\n", &listed("3 4 10 2 1000\nfound 1 cells 3"));
-    hold(b"1 1 3 1 1 0\nAAACG\nAACG\n", &listed("1 4 4 4 1000\nfound 1 cells 15"));
+    hold(b"1 1 2 1 1 1\nAAACG\nAACG\n", &listed("3 4 2 2 1000 +\nfound 1 cells 6"));
+    hold(b"1 1 2 5 3 -2147483648\nAAACG\nAAAAAAAAAACG\n", &listed("3 4 10 2 1000 +\n3 4 -20 2 167 -\nfound 2 cells 6"));
+    hold(b"1 1 3 1 1 0\nAAACG\nAACG\n", &listed("1 4 4 4 1000 +\n3 4 0 2 500 -\nfound 2 cells 18"));
     // G is what the text lacks, and stays
-    hold(b"1 1 2 1 1 0\nAAAC\nAACG\n", &listed("3 3 0 1 500\nfound 1 cells 1"));
-    hold(b"1 1 2 1 1 1\nAAAC\nAACG\n", &listed("found 0 cells 1"));
+    hold(b"1 1 2 1 1 0\nAAAC\nAACG\n", &listed("3 3 0 1 500 +\nfound 1 cells 2"));
+    hold(b"1 1 2 1 1 1\nAAAC\nAACG\n", &listed("found 0 cells 2"));
 }
 
 #[test]
@@ -40,7 +42,7 @@ fn emptied_patterns() {
         hold(format!("1 1 2 1 1 -2147483648\nAAcA\n{read}\n").as_bytes(), "refused 9\n");
     }
     hold(b"1 1 1 1 1 -9\nAA\nAC\n", &listed("found 0 cells 0"));
-    hold(b"1 1 2 1 1 -9\nAA\nA\n", &listed("1 1 1 1 1000\n0 0 1 1 1000\nfound 2 cells 3"));
+    hold(b"1 1 2 1 1 -9\nAA\nA\n", &listed("1 1 1 1 1000 +\n0 0 1 1 1000 +\nfound 2 cells 3"));
     hold(b"3 1 1 1 1 -9\nACGNACG\nACG\n", "refused 9\n");
     hold(b"3 2 1 1 1 -9\nACGTACG\nNNNN\n", "refused 9\n");
 }
@@ -49,7 +51,7 @@ fn emptied_patterns() {
 #[test]
 fn counts_are_those_of_the_whole_text() {
     hold(b"1 1 2 1 1 1\nCAAA\nCCCCA\n", &listed("found 0 cells 1"));
-    hold(b"1 1 2 1 1 -2\nCAAA\nCCCCA\n", &listed("0 0 -2 1 250\nfound 1 cells 1"));
+    hold(b"1 1 2 1 1 -2\nCAAA\nCCCCA\n", &listed("0 0 -2 1 250 +\nfound 1 cells 1"));
     hold(b"1 1 4 1 1 -9\nAAAAA\nACCCCCC\n", &listed("found 0 cells 0"));
 }
 
@@ -87,8 +89,8 @@ fn codes_at_the_limit() {
         for (times, left) in [(c - 1, 2), (c, 2), (c + 1, 1)] {
             let text = format!("C{}", "A".repeat(times));
             let bytes = format!("1 1 {c} 1 1 -2147483648\n{text}\nCA\n").into_bytes();
-            let (task, _, _) = prepared(&input(&bytes).expect("three lines")).expect("an accepted input");
-            assert_eq!(task.pattern.len(), left, "c {c}, {times} times");
+            let forward = prepared(&input(&bytes).expect("three lines"), Strand::Forward).expect("an accepted read");
+            assert_eq!(forward.task.pattern.len(), left, "c {c}, {times} times");
             expect("at the limit", &bytes, &run_on(&bytes), &output(&bytes));
         }
     }
@@ -97,26 +99,27 @@ fn codes_at_the_limit() {
 /// What a sweep met, so that it can't pass on reads that lose nothing.
 #[derive(Debug, Default)]
 struct Met {
-    /// lists of a read that lost some of its entries
+    /// lists of a strand whose read lost some of its entries
     shortened: usize,
     /// such lists with a mapping that is not listed where the read keeps its entries
     gained: usize,
-    /// reads that lost all entries
+    /// strands whose read lost all entries
     emptied: usize,
 }
 
-/// The task of an input with the read's whole sketch as its pattern.
-fn with_whole_read(input: &Input, task: &Task) -> Task {
-    Task { pattern: codes(&sketch(&input.read, input.settings.k, input.settings.w)), ..task.clone() }
+/// The whole sketch of the read on a strand, with k and w that are accepted.
+fn whole_read(input: &Input, strand: Strand) -> Vec<u32> {
+    let Settings { k, w, .. } = input.settings;
+    codes(&sketch(&strand.letters(&input.read), k.clamp(1, 15), w.clamp(1, 64)))
 }
 
-/// A case whose threshold is, mostly, at a score that some interval has, or one beside it.
+/// A case whose threshold is, mostly, at a score that some interval has on either strand, or one beside it.
 fn case(random: &mut Random, longest: usize) -> Vec<u8> {
     let (text, read) = through_a_repeat(random, longest);
     let mut settings = Settings { c: random.between(1, 6) as u32, ..settings(random, longest) };
     let open = three_lines(&Settings { threshold: i32::MIN, ..settings }, &text, &read);
-    if let Ok((task, _, _)) = prepared(&input(&open).expect("three lines"))
-        && let found @ [_, ..] = finals(&task).as_slice()
+    if let Ok(run) = prepared_run(&input(&open).expect("three lines"))
+        && let found @ [_, ..] = run.map(|of| finals(&of.task)).concat().as_slice()
         && random.below(4) > 0
     {
         settings.threshold = found[random.below(found.len())].score as i32 - random.below(3) as i32;
@@ -126,27 +129,33 @@ fn case(random: &mut Random, longest: usize) -> Vec<u8> {
 
 /// Each entry that the read loses raises every score by v, and changes nothing else: the list is that of the whole read with the
 /// threshold lower by so much. Asks that it is, and takes note of what was met.
-fn meet(met: &mut Met, bytes: &[u8]) {
-    let input = input(bytes).expect("three lines");
-    let whole = sketch(&input.read, input.settings.k.clamp(1, 15), input.settings.w.clamp(1, 64));
-    let Ok((task, _, _)) = prepared(&input) else {
-        met.emptied += usize::from(output(bytes) == b"refused 9\n" && !whole.is_empty());
-        return;
-    };
-    let lost = whole.len() - task.pattern.len();
+fn meet_list(met: &mut Met, of: &Prepared, whole: Vec<u32>, bytes: &[u8]) {
+    let lost = whole.len() - of.task.pattern.len();
     if lost == 0 {
         return;
     }
-    let raised = i64::from(task.v) * lost as i64;
+    let raised = i64::from(of.task.v) * lost as i64;
     let raise = |mapping: &Mapping| Mapping { score: mapping.score + raised, ..*mapping };
-    let (list, whole) = (finals(&task), with_whole_read(&input, &task));
-    let lower = i64::from(task.threshold) - raised;
+    let (list, whole) = (finals(&of.task), Task { pattern: whole, ..of.task.clone() });
+    let lower = i64::from(of.task.threshold) - raised;
     if let Ok(threshold) = i32::try_from(lower) {
         let all: Vec<Mapping> = finals(&Task { threshold, ..whole.clone() }).iter().map(raise).collect();
-        assert_eq!(list, all, "{}", bytes.escape_ascii());
+        assert_eq!(list, all, "{:?}, {}", of.strand, bytes.escape_ascii());
     }
     met.shortened += 1;
     met.gained += usize::from(finals(&whole).len() < list.len());
+}
+
+/// Takes note of both strands, whether the run is refused or not.
+fn meet(met: &mut Met, bytes: &[u8]) {
+    let input = input(bytes).expect("three lines");
+    for strand in Strand::BOTH {
+        let whole = whole_read(&input, strand);
+        match prepared(&input, strand) {
+            Ok(of) => meet_list(met, &of, whole, bytes),
+            Err(refusal) => met.emptied += usize::from(refusal.number == 9 && !whole.is_empty()),
+        }
+    }
 }
 
 /// Sweeps so many cases, and asks that enough of each kind were met.
@@ -159,20 +168,20 @@ fn sweep_many(seeds: std::ops::Range<u64>, longest: usize, least: Met) {
 
 #[test]
 fn short_texts() {
-    sweep_many(60_000..61_000, 40, Met { shortened: 300, gained: 220, emptied: 280 });
+    sweep_many(60_000..61_000, 40, Met { shortened: 500, gained: 270, emptied: 390 });
 }
 
 #[test]
 fn texts() {
-    sweep_many(62_000..63_000, 200, Met { shortened: 300, gained: 220, emptied: 200 });
+    sweep_many(62_000..63_000, 200, Met { shortened: 440, gained: 240, emptied: 290 });
 }
 
 #[test]
 fn longer_texts() {
-    sweep_many(64_000..64_500, 600, Met { shortened: 210, gained: 160, emptied: 110 });
+    sweep_many(64_000..64_500, 600, Met { shortened: 320, gained: 190, emptied: 160 });
 }
 
 #[test]
 fn full_lines() {
-    sweep_many(66_000..66_030, 4096, Met { shortened: 14, gained: 11, emptied: 10 });
+    sweep_many(66_000..66_030, 4096, Met { shortened: 24, gained: 15, emptied: 17 });
 }

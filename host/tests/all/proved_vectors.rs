@@ -1,5 +1,5 @@
-//! The proved functions beside the vectors in data/vectors: each answer as the vector has it, and every word of the lent buffers
-//! beside the reference.
+//! The proved functions beside the vectors in data/vectors: each answer as the vector has it, and every word and byte of the lent
+//! buffers beside the reference.
 //! Assumes that the folder stands at its place in the repository.
 
 use host::calls::{self, Loaded, Stepped};
@@ -11,7 +11,9 @@ use host::reference::sketch::Entry;
 use host::reference::steps::Step;
 
 use crate::on_small_stack;
-use crate::vector_files::{Vector, entries, lines, session, sketch_of, store, strikes, struck, written};
+use crate::vector_files::{
+    Vector, complemented, complements, entries, lines, session, sketch_of, store, strikes, struck, written,
+};
 
 /// The first n entries of two buffers.
 fn first(codes: &[u32], positions: &[u32], n: usize) -> Vec<Entry> {
@@ -27,6 +29,21 @@ fn shown(codes: &[u32], positions: &[u32], n: usize) -> String {
 /// What was held. Panics where something differs.
 fn same<T>(held: Result<T, Difference>, line: &[String]) -> T {
     held.unwrap_or_else(|wrong| panic!("{wrong}: {line:?}"))
+}
+
+#[test]
+fn reverse_complements() {
+    let mut random = Random::new(2950);
+    for (read, room, expected) in complements() {
+        let mut out = vec![7; room];
+        let answer = calls::reverse_complement(&read, &mut out);
+        assert_eq!(complemented(&answer.map(|n| out[..n].to_vec())), expected, "{read:?}, room {room}");
+        for room in [room, read.len(), read.len() + 9, read.len().saturating_sub(1)] {
+            let held = held::complement::reverse_complement(&mut random, &read, room);
+            let needed = if room < read.len() { Err(refused_with(4, read.len())) } else { Ok(read.len()) };
+            assert_eq!(held, Ok(needed), "{read:?}, room {room}");
+        }
+    }
 }
 
 #[test]

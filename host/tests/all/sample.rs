@@ -6,15 +6,16 @@ use std::path::Path;
 use std::process::{Command, Stdio};
 
 use host::program::{expect, run_on};
-use host::reference::cells::cells;
+use host::reference::cells::{cells, hits};
 use host::reference::definition1::{Mapping, mapping_of};
 use host::reference::faster::finals;
 use host::reference::input::{Input, input};
-use host::reference::output::{output, prepared};
+use host::reference::output::{Prepared, output, prepared};
 use host::reference::score::{Task, times};
 use host::reference::sketch::{codes, sketch};
+use host::reference::strand::Strand;
 
-const SAMPLES: [&str; 2] = ["two_copies", "through_a_repeat"];
+const SAMPLES: [&str; 3] = ["two_copies", "through_a_repeat", "both_strands"];
 
 fn file(name: &str) -> Vec<u8> {
     fs::read(Path::new(env!("CARGO_MANIFEST_DIR")).join("../data/sample").join(name)).expect("a file of the sample")
@@ -31,6 +32,11 @@ fn listed(name: &str) -> (Option<i32>, Vec<u8>, bool) {
     script.arg(name).current_dir(root.join("data")).stdin(Stdio::null());
     let ended = script.output().expect("the script starts");
     (ended.status.code(), ended.stdout, String::from_utf8_lossy(&ended.stderr).contains("proving"))
+}
+
+/// What an accepted sample has mapped on a strand.
+fn on(strand: Strand, input: &Input) -> Prepared {
+    prepared(input, strand).expect("an accepted sample")
 }
 
 /// The first letter, the last letter and the score of each mapping of a task, by the definition's faster form.
@@ -71,11 +77,14 @@ fn copies_of_the_gene() {
 
 #[test]
 fn each_copy_once() {
-    let (task, positions, h) = prepared(&sample("two_copies")).expect("an accepted sample");
+    let input = sample("two_copies");
+    let Prepared { task, positions, h, .. } = on(Strand::Forward, &input);
     assert_eq!(mapped(&task, &positions, 7), [(186, 261, 22), (43, 118, 22)]);
     assert_eq!(h * (h + 1) / 2, 4278);
     assert_eq!(cells(&task).iter().filter(|&&(a, b)| mapping_of(&task, a, b).score >= 10).count(), 58);
     assert_eq!(mapped(&Task { threshold: 1, ..task }, &positions, 7)[0], (329, 399, 1));
+    let reverse = on(Strand::Reverse, &input);
+    assert_eq!((reverse.h, finals(&reverse.task).len()), (2, 0));
 }
 
 #[test]
@@ -96,7 +105,7 @@ fn copies_through_a_repeat() {
 #[test]
 fn copy_that_is_listed_since_the_read_is_struck() {
     let input = sample("through_a_repeat");
-    let (task, positions, _) = prepared(&input).expect("an accepted sample");
+    let Prepared { task, positions, .. } = on(Strand::Forward, &input);
     let whole = Task { pattern: codes(&sketch(&input.read, input.settings.k, input.settings.w)), ..task.clone() };
     assert_eq!((whole.pattern.len(), task.pattern.len()), (49, 39));
     let text = codes(&sketch(&input.text, input.settings.k, input.settings.w));
@@ -105,6 +114,30 @@ fn copy_that_is_listed_since_the_read_is_struck() {
     assert_eq!(mapped(&task, &positions, 9), [(324, 431, 14), (79, 186, 26)]);
     assert_eq!(mapped(&whole, &positions, 9), [(79, 186, 16)]);
     assert_eq!(mapped(&Task { threshold: 4, ..whole }, &positions, 9), [(324, 431, 4), (79, 186, 16)]);
+}
+
+#[test]
+fn copy_on_the_other_strand() {
+    let input = sample("both_strands");
+    let (gene, copy) = (&input.text[60..150], &input.text[250..340]);
+    assert_eq!(input.text.len(), 400);
+    assert_eq!(differences(gene, &Strand::Reverse.letters(copy)), 2);
+    assert_eq!(differences(gene, &input.read), 1);
+    let upper: Vec<usize> = (0..400).filter(|&at| input.text[at].is_ascii_uppercase()).collect();
+    assert_eq!(upper, (60..150).chain(250..340).collect::<Vec<usize>>(), "gene and copy alone are in upper case");
+}
+
+/// Each strand has the hits of one place, and lists that place from its first to its last letter.
+#[test]
+fn a_place_on_each_strand() {
+    let input = sample("both_strands");
+    for (strand, h, place) in [(Strand::Forward, 39, (60, 149, 30)), (Strand::Reverse, 34, (250, 339, 14))] {
+        let of = on(strand, &input);
+        assert_eq!(mapped(&of.task, &of.positions, 9), [place]);
+        let letters = hits(&of.task).iter().map(|&hit| of.positions[hit]).collect::<Vec<u32>>();
+        assert_eq!(letters.len(), h);
+        assert!(letters.iter().all(|&first| place.0 <= first && first + 8 <= place.1), "{letters:?}");
+    }
 }
 
 // One test, since two runs of the prover in one folder disturb each other.

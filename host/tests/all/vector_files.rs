@@ -9,6 +9,7 @@ use host::reference::refusal::Refusal;
 use host::reference::score::Task;
 use host::reference::sketch::Entry;
 use host::reference::steps::{Answer, Step};
+use host::reference::strand::Strand;
 
 fn folder() -> PathBuf {
     Path::new(env!("CARGO_MANIFEST_DIR")).join("../data/vectors")
@@ -57,6 +58,14 @@ pub fn entries(list: &[Entry]) -> String {
     entries.join(" ")
 }
 
+/// A refusal as the vectors write it.
+fn refused(refusal: &Refusal) -> String {
+    match refusal {
+        Refusal { number, value: None } => format!("refused {number}"),
+        Refusal { number, value: Some(value) } => format!("refused {number} {value}"),
+    }
+}
+
 /// The lines of permille.tsv: m, len, |p|, and the answer. The last column holds once texts may be longer.
 pub fn per_milles() -> Vec<(u32, u32, u32, i32)> {
     let vector = |line: Vec<String>| {
@@ -65,6 +74,64 @@ pub fn per_milles() -> Vec<(u32, u32, u32, i32)> {
         (number(m), number(len), number(size), expected.parse().expect("an answer"))
     };
     lines("permille.tsv", 150).into_iter().map(vector).collect()
+}
+
+/// The lines of revcomp.tsv: the read, the room, and the answer as text.
+pub fn complements() -> Vec<(Vec<u8>, usize, String)> {
+    let vector = |line: Vec<String>| {
+        let [read, room, expected] = line.as_slice() else { panic!("three columns: {line:?}") };
+        (bytes(read), room.parse().expect("room"), expected.clone())
+    };
+    lines("revcomp.tsv", 150).into_iter().map(vector).collect()
+}
+
+/// What the reverse complement answered, as the vectors write it: the bytes or the refusal.
+pub fn complemented(answer: &Result<Vec<u8>, Refusal>) -> String {
+    match answer {
+        Ok(bytes) if bytes.is_empty() => "-".to_string(),
+        Ok(bytes) => bytes.iter().map(|byte| format!("{byte:02x}")).collect(),
+        Err(refusal) => refused(refusal),
+    }
+}
+
+/// A line to be written, the room for it, and the part that is written.
+#[derive(Debug)]
+pub struct Written {
+    pub first: u32,
+    pub last: u32,
+    pub score: i32,
+    pub m: u32,
+    pub per_mille: u32,
+    pub strand: Strand,
+    pub room: usize,
+    pub expected: Vec<u8>,
+}
+
+/// A line of lines.tsv with a linear score; those with a slash in the score's place hold from 4/13 on.
+fn linear_line(line: &[String]) -> Option<Written> {
+    let [first, last, score, m, per_mille, strand, room, expected] = line else { panic!("eight columns: {line:?}") };
+    if score.contains('/') {
+        return None;
+    }
+    let number = |text: &String| text.parse().expect("a number");
+    let strand = Strand::BOTH.into_iter().find(|known| strand.as_bytes() == [known.sign()]).expect("a strand");
+    Some(Written {
+        first: number(first),
+        last: number(last),
+        score: score.parse().expect("a score"),
+        m: number(m),
+        per_mille: number(per_mille),
+        strand,
+        room: room.parse().expect("room"),
+        expected: bytes(expected),
+    })
+}
+
+/// The lines of lines.tsv with a linear score.
+pub fn linear_lines() -> Vec<Written> {
+    let linear: Vec<Written> = lines("lines.tsv", 150).iter().filter_map(|line| linear_line(line)).collect();
+    assert_eq!(linear.len(), 83, "lines of lines.tsv with a linear score");
+    linear
 }
 
 /// A call of a strike: of a read where there is a text, and else of a text.
@@ -120,8 +187,7 @@ pub fn struck(answer: &Result<Vec<Entry>, Refusal>) -> String {
     match answer {
         Ok(rest) if rest.is_empty() => "-".to_string(),
         Ok(rest) => entries(rest),
-        Err(Refusal { number, value: None }) => format!("refused {number}"),
-        Err(Refusal { number, value: Some(value) }) => format!("refused {number} {value}"),
+        Err(refusal) => refused(refusal),
     }
 }
 

@@ -1,6 +1,8 @@
 //! The reference beside the vectors in data/vectors, which another brute force made.
 //! Assumes that the folder stands at its place in the repository.
 
+use host::reference::complement::reverse_complement_call;
+use host::reference::line::{line, written_part};
 use host::reference::output::output;
 use host::reference::refusal::Refusal;
 use host::reference::sketch::sketch;
@@ -9,7 +11,24 @@ use host::reference::steps::answers;
 use host::reference::store::load;
 use host::reference::strike::{strike_call, strike_read_call};
 
-use crate::vector_files::{Vector, entries, lines, lists, session, sketch_of, store, strikes, struck, written};
+use crate::vector_files::{
+    Vector, complemented, complements, entries, linear_lines, lines, lists, session, sketch_of, store, strikes, struck, written,
+};
+
+#[test]
+fn reverse_complements() {
+    for (read, room, expected) in complements() {
+        assert_eq!(complemented(&reverse_complement_call(&read, room)), expected, "{read:?}, room {room}");
+    }
+}
+
+#[test]
+fn lines_with_a_strand() {
+    for vector in linear_lines() {
+        let line = line(vector.first, vector.last, vector.score, vector.m, vector.per_mille, vector.strand);
+        assert_eq!(written_part(line, vector.room), vector.expected, "{vector:?}");
+    }
+}
 
 #[test]
 fn sketches() {
