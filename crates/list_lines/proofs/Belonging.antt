@@ -13,14 +13,15 @@ use Rattle.mapper.specs.Promise.{Accepts}
 use Rattle.mapper.proofs.Accepted.{Admitted, admitted}
 use Rattle.strands.specs.declared.Strand.{Strand}
 use Rattle.list_lines.specs.Lines.{mappingLines}
-use Rattle.list_lines.specs.Pieces.{Belongs, cellLimit, foundLimit, finalsAfter, linesAfter, isHeld, Done, Full, Stuck, Piece}
+use Rattle.list_lines.specs.Pieces.{Belongs, cellLimit, finalsAfter, linesAfter, isHeld, Done, Full, Stuck, Piece}
 use Rattle.list_lines.specs.declared.filling.Filled.{Filled}
 use Rattle.list_lines.proofs.Numbers.{held-true}
 use Rattle.list_lines.proofs.Going.{printed}
 use Rattle.list_lines.proofs.Left.{few-cells}
 use Rattle.list_lines.proofs.Rest.{all-passed, left-final, Fitting, fitting-final}
 
-module _ (task : Task) (before places : List ℕ) (k size : ℕ) (strand : Strand) (q found : ℕ) (accepts : Accepts task before) (belongs : Belongs task places k size)
+module _ (task : Task) (before places : List ℕ) (k size : ℕ) (strand : Strand) (q found : ℕ)
+    (accepts : Accepts task before) (belongs : Belongs task places k size)
     (counted : found ≤ cellLimit + q) where
   limits : Admitted task (length before) (hitCount task ∷ [])
   limits = admitted task (length before) (hitCount task ∷ []) (accepts .accepts)

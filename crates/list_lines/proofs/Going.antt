@@ -2,12 +2,12 @@
 use Prim.Native.Nat.{ℕ, suc, _+_, _-_, _≤_, _<_}
 use native.Mathlib.Nat.{le-refl, sub-zero}
 use native.Mathlib.Omega.{arith}
-use mathlib.Core.Path.{_≡_, refl, sym, ap, ap₂, _∙_}
+use mathlib.Core.Path.{_≡_, refl, sym, ap, _∙_}
 use mathlib.Core.Logic.{inl, inr}
 use mathlib.Core.Bool.{Bool, true, false}
 use mathlib.Core.List.{List, [], _∷_, _++_, append-assoc, append-nil}
 use lib.IntN.{ℤ}
-use lib.ListN.{length, getD, take, drop, length-append}
+use lib.ListN.{length, take, drop, length-append}
 use borrow.Author.Tests.{le-ltb, lt-ltb, le-leb, lt-leb}
 use Rattle.base.specs.Limits.{workWords, hitLimit}
 use Rattle.mappings.specs.Score.{Task}
@@ -21,7 +21,7 @@ use Rattle.mapper.specs.Answers.{answerOf}
 use Rattle.mapper.specs.Step.{tooFewWords}
 use Rattle.mapper.specs.Promise.{Accepts, StepPromise}
 use Rattle.mapper.proofs.Accepted.{Admitted, admitted}
-use Rattle.mapper.proofs.StepPromise.{InSession, in-session}
+use Rattle.mapper.proofs.StepPromise.{in-session}
 use Rattle.list_line.specs.Line.{line}
 use Rattle.list_line.specs.Writing.{Written}
 use Rattle.list_line.proofs.Buffers.{written-index}
@@ -31,7 +31,7 @@ use Rattle.strands.specs.declared.Strand.{Strand}
 use Rattle.list_lines.specs.Pieces.{MappingWritten, finalsAfter, linesAfter, cellsLeft, isHeld, isPrinted, linesIn, cellLimit, foundLimit}
 use Rattle.list_lines.specs.Pieces.{stepBudget, passedFor, Piece, refusedWords, Unmoved, Fills}
 use Rattle.list_lines.specs.declared.filling.Filled.{Filled}
-use Rattle.list_line.proofs.Writers.{take-written, drop-later, written-onward, written-inside, written-past}
+use Rattle.list_line.proofs.Writers.{take-written, drop-later}
 use Rattle.list_lines.proofs.Rest.{found-next, found-within, finished-next, never-spent, never-refused}
 use Rattle.list_lines.proofs.Left.{few-cells, left-few}
 use Rattle.list_lines.proofs.Numbers.{held-facts}
@@ -170,7 +170,8 @@ fills work₀ places k size strand found₀ out₀ out work at count going same-
 
 -- ---- a turn with room for a line
 
-module _ (work₀ places : List ℕ) (k size : ℕ) (strand : Strand) (found₀ : ℕ) (out₀ out work : List ℕ) (at count : ℕ) (inside : at ≤ length out)
+module _ (work₀ places : List ℕ) (k size : ℕ) (strand : Strand) (found₀ : ℕ) (out₀ out work : List ℕ) (at count : ℕ)
+    (inside : at ≤ length out)
     (same : length out ≡ length out₀)
     (room : 64 ≤ length out - at) (going : Going work₀ places k size strand found₀ out₀ out work at count) where
   refused-now : (answer : Stepped) (work′ : List ℕ) → StepPromise work stepBudget answer work′ → refusedWords work₀ ≡ true
@@ -358,7 +359,8 @@ module _ (work₀ places : List ℕ) (k size : ℕ) (strand : Strand) (found₀ 
     not-other (Found a b score m cells) o work′ promise = o
     not-other (Finished cells) o work′ promise = o
     not-other (Spent n) o work′ promise =
-        never-spent task q stepBudget (on .among) n (let f : total task ≤ cellLimit = few-cells (hitCount task) (limits .few-hits) in omega arith) (ruled (Spent n) work′ promise .0)
+        let few : total task ≤ cellLimit = few-cells (hitCount task) (limits .few-hits) in
+        never-spent task q stepBudget (on .among) n (omega arith) (ruled (Spent n) work′ promise .0)
     not-other TooFewWords o work′ promise = never-refused task q stepBudget (on .among) 10 (ruled TooFewWords work′ promise .0)
     not-other BadWords o work′ promise = never-refused task q stepBudget (on .among) 15 (ruled BadWords work′ promise .0)
 
@@ -395,14 +397,16 @@ module _ (work₀ places : List ℕ) (k size : ℕ) (strand : Strand) (found₀ 
         → isPrinted places k size count (record { a = a; b = b; score = score; m = m }) ≡ false → (out′ : List ℕ) → out′ ≡ out
         → r .written ≡ at → r .found ≡ count → r .left ≡ 0 → Fills work₀ places k size strand found₀ out₀ r work′ out′
     fills-stopped a b score m cells work′ promise unprinted out′ eo ew ef el =
-        fills work₀ places k size strand found₀ out₀ out work at count going same number r work′ out′ (promise .number) (promise .beyond) (ap length eo)
+        fills work₀ places k size strand found₀ out₀ out work at count going same number r work′ out′ (promise .number)
+        (promise .beyond) (ap length eo)
         (omega arith) (omega arith) (ap (drop (r .written)) eo) (omega arith) (λ e. absurd (not-found a b score m cells work′ promise e))
         (λ task before q₀ p. stuck-piece task before q₀ p a b score m cells work′ promise unprinted out′ eo r ew ef el)
 
-    pub fills-finished : (cells : ℕ) (work′ : List ℕ) → StepPromise work stepBudget (Finished cells) work′ → r .written ≡ at → r .found ≡ count
-        → r .left ≡ 1 → Fills work₀ places k size strand found₀ out₀ r work′ out
+    pub fills-finished : (cells : ℕ) (work′ : List ℕ) → StepPromise work stepBudget (Finished cells) work′
+        → r .written ≡ at → r .found ≡ count → r .left ≡ 1 → Fills work₀ places k size strand found₀ out₀ r work′ out
     fills-finished cells work′ promise ew ef el =
-        fills work₀ places k size strand found₀ out₀ out work at count going same number r work′ out (promise .number) (promise .beyond) refl (omega arith)
+        fills work₀ places k size strand found₀ out₀ out work at count going same number r work′ out (promise .number)
+        (promise .beyond) refl (omega arith)
         (omega arith) refl (omega arith) (λ e. absurd (not-finished cells work′ promise e))
         (λ task before q₀ p. finished-piece task before q₀ p cells work′ promise r ew ef el)
 
@@ -410,7 +414,8 @@ module _ (work₀ places : List ℕ) (k size : ℕ) (strand : Strand) (found₀ 
         → r .written ≡ at → r .found ≡ count
         → r .left ≡ 0 → Fills work₀ places k size strand found₀ out₀ r work′ out
     fills-other answer other work′ promise ew ef el =
-        fills work₀ places k size strand found₀ out₀ out work at count going same number r work′ out (promise .number) (promise .beyond) refl (omega arith)
+        fills work₀ places k size strand found₀ out₀ out work at count going same number r work′ out (promise .number)
+        (promise .beyond) refl (omega arith)
         (omega arith) refl (omega arith) unmoved (λ task before q₀ p. absurd (not-other task before q₀ p answer other work′ promise))
       where
         unmoved : refusedWords work₀ ≡ true → Unmoved work₀ found₀ out₀ r work′ out
@@ -441,7 +446,8 @@ session-left task before q work a l e =
     )
 
 module _ (work₀ places : List ℕ) (k size : ℕ) (strand : Strand) (found₀ : ℕ) (out₀ out work : List ℕ) (at count : ℕ)
-    (going : Going work₀ places k size strand found₀ out₀ out work at count) (none : length out - at < 64) (same : length out ≡ length out₀) (r : Filled)
+    (going : Going work₀ places k size strand found₀ out₀ out work at count) (none : length out - at < 64)
+    (same : length out ≡ length out₀) (r : Filled)
     (ew : r .written ≡ at) (ef : r .found ≡ count) (el : r .left ≡ cellsLeft work) where
   full-piece : (task : Task) (before : List ℕ) (q₀ : ℕ) → InPiece task before work₀ q₀
       → (q′ : ℕ) × Piece task places k size strand q₀ found₀ out₀ r out q′ before work

@@ -11,7 +11,7 @@ use Rattle.base.specs.Lists.{keep}
 use Rattle.base.proofs.Lists.{keep-append, map-append}
 use Rattle.mappings.specs.Score.{Task, lengthOf}
 use Rattle.mappings.specs.Definition1.{Final}
-use Rattle.mappings.specs.Cells.{Cell, Mapping, cells, cellsOf, hitCount, cellCount, mappingOf, leftEnd, rightEnd}
+use Rattle.mappings.specs.Cells.{Cell, Mapping, cells, cellsOf, hitCount, mappingOf, leftEnd, rightEnd}
 use Rattle.mappings.specs.FinalTest.{isFinalCell}
 use Rattle.mappings.specs.Rule.{Answer, found, finished, spent, refused, reported, ruleAnswer, handedOut}
 use Rattle.mappings.proofs.Cells.{drop-all-cells}

@@ -52,7 +52,8 @@ pub record EndOf (places : List ℕ) (k size a b end : ℕ) : Type 0 where
   pub held : Holds places k size a b → end ≡ getD places b 0 + k
 
 -- what `put_mapping` leaves: the mapping's line where its numbers hold it, else nothing
-pub record MappingWritten (places : List ℕ) (k size : ℕ) (strand : Strand) (a b : ℕ) (score : ℤ) (m at : ℕ) (before after : List ℕ) (next : ℕ) : Type 0 where
+pub record MappingWritten (places : List ℕ) (k size : ℕ) (strand : Strand) (a b : ℕ) (score : ℤ) (m at : ℕ) (before after : List ℕ)
+    (next : ℕ) : Type 0 where
   pub inside : at ≤ length before → next ≤ length before
   pub onward : at ≤ next
   pub past : at ≤ length before → drop next after ≡ drop next before
@@ -178,7 +179,8 @@ pub record Unmoved (work : List ℕ) (found : ℕ) (out : List ℕ) (r : Filled)
 
 -- what `fill_lines` answers and leaves. For words that no start and steps made it is open which bytes it writes and what it answers, as step's
 -- answer is; all other bytes, and the words beyond the first 16,384, keep their content
-pub record Fills (work places : List ℕ) (k size : ℕ) (strand : Strand) (found : ℕ) (out : List ℕ) (r : Filled) (work′ out′ : List ℕ) : Type 0 where
+pub record Fills (work places : List ℕ) (k size : ℕ) (strand : Strand) (found : ℕ) (out : List ℕ) (r : Filled) (work′ out′ : List ℕ) :
+    Type 0 where
   pub inside : r .written ≤ length out′
   pub long : length out′ ≡ length out
   pub past : drop (r .written) out′ ≡ drop (r .written) out

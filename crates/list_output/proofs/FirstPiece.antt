@@ -22,7 +22,8 @@ begins bytes places forward reverse out o o₁ r places′ forward′ reverse′
 
 -- the piece is the whole output
 pub whole-begins : (o : Sessions) (forward′ reverse′ out out′ : List ℕ) (r : Begun) (n : ℕ) → Written (firstLine o) 0 out out′ n
-    → (r .written ≡ n) × (r .k ≡ kOf o) × (r .size ≡ sizeOf o) × (r .«reverse_size» ≡ reverseSizeOf o) × (r .left ≡ leftOf o forward′ reverse′)
+    → (r .written ≡ n) × (r .k ≡ kOf o) × (r .size ≡ sizeOf o)
+    × (r .«reverse_size» ≡ reverseSizeOf o) × (r .left ≡ leftOf o forward′ reverse′)
     → BeginsWith o forward′ reverse′ out r out′
 whole-begins o forward′ reverse′ out out′ r n w e =
     record {

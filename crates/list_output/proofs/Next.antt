@@ -38,7 +38,8 @@ After bytes places forward reverse k size size′ found left done =
 
 -- ---- lists joined in another order
 
-onward : (done new more end : List ℕ) {lines end′ : List ℕ} → new ++ more ≡ lines → end ≡ end′ → (done ++ new) ++ (more ++ end) ≡ done ++ (lines ++ end′)
+onward : (done new more end : List ℕ) {lines end′ : List ℕ} → new ++ more ≡ lines → end ≡ end′
+    → (done ++ new) ++ (more ++ end) ≡ done ++ (lines ++ end′)
 onward done new more end h e =
     append-assoc done new (more ++ end) ∙ ap (λ (l : List ℕ). done ++ l) (sym (append-assoc new more end) ∙ ap₂ _++_ h e)
 
@@ -132,7 +133,8 @@ module _ {bytes places forward reverse : List ℕ} {k size size′ found left : 
               remaining = now;
               rest =
                   onward done (take (r .written) out′) (linesAfter task places k size Forward q₁ ++ lines′) (ending q₁ q′)
-                  (sym (append-assoc (take (r .written) out′) (linesAfter task places k size Forward q₁) lines′) ∙ ap (λ (l : List ℕ). l ++ lines′) printed)
+                  (sym (append-assoc (take (r .written) out′) (linesAfter task places k size Forward q₁) lines′)
+                  ∙ ap (λ (l : List ℕ). l ++ lines′) printed)
                   (ap (λ (n : ℕ). lastLine n (total task + total task′)) count)
                   ∙ p .rest;
             }),
@@ -158,7 +160,8 @@ module _ {bytes places forward reverse : List ℕ} {k size size′ found left : 
       ≡ found + length (finalsAfter task q) + length (finalsAfter task′ q′) = omega arith in
       let printed : take (r .written) out′ ++ linesAfter task′ places k size′ Reverse q₁ ≡ linesAfter task′ places k size′ Reverse q′ =
       ap (λ (n : ℕ). take n out′ ++ linesAfter task′ places k size′ Reverse q₁) (made .0 .written-is) ∙ w .bytes in
-      let none : finalsAfter task q ≡ [] = none-after task q gone in (
+      let none : finalsAfter task q ≡ [] = none-after task q gone in
+      let lines₁ : List ℕ = linesAfter task′ places k size′ Reverse q₁ in (
         omega (arith, p .remaining, w .further),
         inr
             (record {
@@ -171,8 +174,8 @@ module _ {bytes places forward reverse : List ℕ} {k size size′ found left : 
               counted = omega (arith, made .0 .found-is);
               remaining = now ∙ omega arith;
               rest =
-                  onward done (take (r .written) out′) (linesAfter task places k size Forward q ++ linesAfter task′ places k size′ Reverse q₁) (ending q q₁)
-                  (ap (λ (l : List Mapping). take (r .written) out′ ++ (mappingLines places k size Forward l ++ linesAfter task′ places k size′ Reverse q₁)) none
+                  onward done (take (r .written) out′) (linesAfter task places k size Forward q ++ lines₁) (ending q q₁)
+                  (ap (λ (l : List Mapping). take (r .written) out′ ++ (mappingLines places k size Forward l ++ lines₁)) none
                   ∙ printed
                   ∙ sym (ap (λ (l : List Mapping). mappingLines places k size Forward l ++ linesAfter task′ places k size′ Reverse q′) none))
                   (ap (λ (n : ℕ). lastLine n (total task + total task′)) count)

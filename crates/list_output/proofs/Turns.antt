@@ -9,13 +9,12 @@ use lib.ListN.{length, getD}
 use borrow.Author.Tests.{eq-eqb, ne-eqb}
 use Rattle.mappings.specs.Cells.{cellCount}
 use Rattle.session_words.specs.FirstWords.{passedAt}
-use Rattle.strands.specs.declared.Strand.{Strand}
 use Rattle.strands.specs.declared.Strand.the-variants.{Forward, Reverse}
 use Rattle.list_line.proofs.Writers.{written-inside}
 use Rattle.list_lines.specs.Pieces.{cellsLeft, cellLimit, Fills}
 use Rattle.list_lines.specs.declared.filling.Filled.{Filled}
 use Rattle.list_lines.proofs.Left.{few-cells, left-some, left-few}
-use Rattle.list_output.specs.Filling.{leftWith, Part, Last, FillsRun}
+use Rattle.list_output.specs.Filling.{leftWith, Last, FillsRun}
 
 -- what is left of one session with the other's
 pub with-other : (left other : ℕ) → left ≢ 0 → leftWith left other ≡ left + other
@@ -74,7 +73,8 @@ module _ (forward reverse places : List ℕ) (k size size′ found : ℕ) (out :
           }
 
       -- lines of the other one
-      pub fills-reverse : (reverse′ out′ : List ℕ) → ahead ≤ 1 → 1 < behind → Fills reverse places k size′ Reverse found out part reverse′ out′
+      pub fills-reverse : (reverse′ out′ : List ℕ) → ahead ≤ 1 → 1 < behind
+          → Fills reverse places k size′ Reverse found out part reverse′ out′
           → r .left ≡ leftWith (part .left) ahead → FillsRun forward reverse places k size size′ found out r forward reverse′ out′
       fills-reverse reverse′ out′ no-more more fills left =
           record {

@@ -1,5 +1,5 @@
 -- The pieces make up the output: the first one that `begin` writes is the front of it, and those that `fill` writes follow, until nothing is left.
-use Prim.Native.Nat.{ℕ, suc, _+_, _-_, _≤_, _<_, zero-le}
+use Prim.Native.Nat.{ℕ, _+_, _-_, _≤_, zero-le}
 use native.Mathlib.Omega.{arith}
 use native.Mathlib.Nat.{zero-add}
 use mathlib.Core.Path.{_≡_, refl, sym, ap, ap₂, _∙_, subst}
@@ -9,7 +9,6 @@ use lib.ListN.{length, take, length-append, length-map}
 use Rattle.base.specs.Replies.{Reply, accepted, refused, over}
 use Rattle.base.specs.Limits.{workWords, lineLimit}
 use Rattle.kmers.specs.Kmers.{positions}
-use Rattle.mappings.specs.Score.{Task}
 use Rattle.mappings.specs.Cells.{cellsOf, hitCount, mappingOf}
 use Rattle.mappings.proofs.Cells.{length-cells}
 use Rattle.mappings.proofs.Rule.{total}
@@ -19,7 +18,6 @@ use Rattle.mapper.specs.Promise.{Accepts}
 use Rattle.strands.specs.declared.Strand.{Strand}
 use Rattle.strands.specs.declared.Strand.the-variants.{Forward, Reverse}
 use Rattle.strands.specs.Complement.{reverseComplement}
-use Rattle.strands.specs.Strands.{readOn}
 use Rattle.requests.specs.declared.Settings.{Settings}
 use Rattle.requests.specs.Requests.{textOf, patternOf, taskOf, taskOn}
 use Rattle.list_input.specs.Input.{inputLimit, Input, malformed, given, inputOf}
@@ -95,7 +93,8 @@ module _ (s : Settings) (text read places forward reverse values values′ : Lis
 module _ (bytes places forward reverse out : List ℕ) (room : length places ≡ lineLimit) (lent : length forward ≡ workWords)
     (lent′ : length reverse ≡ workWords) (long : 64 ≤ length out) where
   module _ (r : Begun) (out′ : List ℕ) where
-    first-printed : (o : Sessions) (forward′ reverse′ : List ℕ) → BeginsWith o forward′ reverse′ out r out′ → take (r .written) out′ ≡ firstLine o
+    first-printed : (o : Sessions) (forward′ reverse′ : List ℕ) → BeginsWith o forward′ reverse′ out r out′
+        → take (r .written) out′ ≡ firstLine o
     first-printed o forward′ reverse′ b = take-written (b .first) (let l : length (firstLine o) ≤ 64 = first-short o in omega arith)
 
     module _ (s : Settings) (text read : List ℕ) (input : inputOf bytes ≡ given s text read) where

@@ -19,8 +19,8 @@ abbrev pub leftWith : ℕ → ℕ → ℕ
 leftWith left other = cond (eqb left 0) 0 (left + other)
 
 -- a piece of one session's lines, given what is left of the other session
-pub record Part (work places : List ℕ) (k size : ℕ) (strand : Strand) (found : ℕ) (out : List ℕ) (other : ℕ) (r : Filled) (work′ out′ : List ℕ) :
-    Type 0 where
+pub record Part (work places : List ℕ) (k size : ℕ) (strand : Strand) (found : ℕ) (out : List ℕ) (other : ℕ) (r : Filled)
+    (work′ out′ : List ℕ) : Type 0 where
   pub part : Filled
   pub fills : Fills work places k size strand found out part work′ out′
   pub written-is : r .written ≡ part .written

@@ -21,7 +21,8 @@ use Rattle.list_sessions.specs.declared.Sessions.the-variants.{Refused, 
 
 -- ---- the answer of one strand
 
-opened-refused : (reply : Reply) (size number : ℕ) → openedBy reply size ≡ StrandRefused number → (values : List ℕ) × (reply ≡ refused number values)
+opened-refused : (reply : Reply) (size number : ℕ) → openedBy reply size ≡ StrandRefused number
+    → (values : List ℕ) × (reply ≡ refused number values)
 opened-refused (accepted values) size number e = absurd (let z : _≡_ {A = ℕ} 0 1 = cc in omega arith)
 opened-refused (refused n values) size number e = let same : n ≡ number = cc in (values, ap (λ (i : ℕ). refused i values) same)
 

@@ -5,7 +5,6 @@ use mathlib.Core.List.{List}
 use lib.ListN.{length}
 use Rattle.base.specs.Replies.{Reply, accepted, refused}
 use Rattle.strands.specs.Complement.{reverseComplement}
-use Rattle.requests.specs.declared.Settings.{Settings}
 use Rattle.requests.specs.Requests.{patternOf}
 use Rattle.list_input.specs.Input.{Input, malformed, given}
 use Rattle.list_open.specs.Calls.{callsReply, strandsReply}

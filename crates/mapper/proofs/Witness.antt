@@ -91,7 +91,7 @@ promise-kept work budget = number (ltb (length work) workWords) refl
     number true e = (TooFewWords, work, few-promise work budget (ltb-true (length work) workWords e))
     number false e = words (badWords work) refl (ltb-false (length work) workWords e)
 
-runs : (work : List ℕ) (steps : List Step) → (heard : List Answer) × (states : List (List ℕ)) × Ran work steps heard states
+pub runs : (work : List ℕ) (steps : List Step) → (heard : List Answer) × (states : List (List ℕ)) × Ran work steps heard states
 runs work [] = ([], [], none)
 runs work (step ∷ steps) =
     let one = promise-kept (take (step .lent) work) (step .budget) in

@@ -1,7 +1,6 @@
 -- `open_sessions` meets its contract: what stands in the input, and then the calls of both strands.
 use Prim.Native.Nat.{ℕ, _-_, _≤_}
 use native.Mathlib.Omega.{arith}
-use mathlib.Core.Path.{_≡_}
 use mathlib.Core.List.{List}
 use lib.ListN.{length, take, drop, length-take}
 use Rattle.list_input.specs.Answers.{LinesInside}

@@ -22,7 +22,8 @@ use Rattle.list_lines.proofs.filling.fill_lines.Tie as tie
 
 abbrev Inv-loop : tie.InvT-loop
 Inv-loop work₀ positions k size strand found out₀ at₀ count₀ work out at count =
-    (at ≤ length out) × (length work ≡ length work₀) × (length out ≡ length out₀) × Going work₀ positions k size strand found out₀ out work at count
+    (at ≤ length out) × (length work ≡ length work₀) × (length out ≡ length out₀)
+    × Going work₀ positions k size strand found out₀ out work at count
 
 abbrev μ-loop : tie.MeasureT-loop
 μ-loop work₀ positions k size strand found out₀ at₀ count₀ work out at count = length out - at

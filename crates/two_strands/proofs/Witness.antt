@@ -1,0 +1,82 @@
+-- The hypotheses of a two-strand run can be met: for document 01's own example the calls accept the read and its complement, and any two lists
+-- of steps can be run.
+use Prim.Native.Nat.{ℕ}
+use native.Mathlib.Omega.{arith}
+use mathlib.Core.Path.{_≡_, refl, ap, _∙_}
+use mathlib.Core.List.{List, [], _∷_}
+use lib.ListN.{length-replicate}
+use Rattle.base.specs.Replies.{accepted}
+use Rattle.base.specs.Limits.{workWords}
+use Rattle.mappings.specs.Rule.{Step}
+use Rattle.mappings.proofs.Compute.{mappings-compute}
+use Rattle.strands.specs.declared.Strand.{Strand}
+use Rattle.strands.specs.declared.Strand.the-variants.{Forward, Reverse}
+use Rattle.strands.specs.Strands.{readOn}
+use Rattle.strands.proofs.Compute.{strands-compute}
+use Rattle.strike.proofs.Compute.{strike-computes}
+use Rattle.session_start.specs.Start.{badWeights, startReply, startWords}
+use Rattle.mapper.specs.Sessions.{AllAccept}
+use Rattle.mapper.specs.Sessions.{textCodes, textPositions, readCodes, readPositions, struckCodes, patternCodes, startTask}
+use Rattle.mapper.proofs.Witness.{asked, text, read, buffers, all-accept, runs}
+use Rattle.two_strands.specs.TwoStrands.{Session, RunsBoth, Demand3Both}
+use Rattle.two_strands.proofs.Demand3.{demand3-both}
+
+-- CGT, the complement of ACG
+abbrev back : List ℕ
+back = 67 ∷ 71 ∷ 84 ∷ []
+
+is-back : readOn Reverse read ≡ back
+unfolding strands-compute
+is-back = refl
+
+unfoldable calls-compute : Unit {0}
+unfolding textCodes textPositions readCodes readPositions struckCodes patternCodes startTask
+calls-compute = tt
+
+-- start with the number of work words written out, so that no list of them is computed
+starts : startReply (startTask asked text back buffers 4 3 4 3) workWords ≡ accepted (2 ∷ [])
+unfolding strike-computes mappings-compute badWeights startReply calls-compute
+starts = refl
+
+-- the strikes keep all entries of the text and of the complement, and C and G are hits
+back-accepts : AllAccept asked text back buffers 4 3 4 3 2
+unfolding strike-computes mappings-compute calls-compute
+back-accepts = record {
+  sketch-text = refl;
+  sketch-read = refl;
+  strike-text = refl;
+  strike-read = refl;
+  start = ap (startReply (startTask asked text back buffers 4 3 4 3)) (length-replicate {A = ℕ} workWords 0) ∙ starts;
+  threshold-fits = omega arith;
+}
+
+-- any two lists of steps have a run, and demand 3 speaks of both
+module _ (steps : Strand → List Step) where
+  abbrev begun : List ℕ → List ℕ
+  begun letters = startWords (startTask asked text letters buffers 4 3 4 3) (buffers .work)
+
+  abbrev session : ℕ → List ℕ → Strand → Session
+  session h letters strand =
+      record {
+        lent = buffers;
+        n = 4;
+        m = 3;
+        s = 4;
+        r = 3;
+        h = h;
+        steps = steps strand;
+        answers = runs (begun letters) (steps strand) .0;
+        states = runs (begun letters) (steps strand) .1;
+      }
+
+  abbrev pub sessions : Strand → Session
+  sessions Forward = session 4 read Forward
+  sessions Reverse = session 2 back Reverse
+
+  both-run : RunsBoth asked text read sessions
+  both-run Forward = record { accepts = all-accept; ran = runs (begun read) (steps Forward) .2 }
+  both-run Reverse =
+      rw is-back (record { accepts = back-accepts; ran = runs (begun back) (steps Reverse) .2 })
+
+  pub demand3-both-met : RunsBoth asked text read sessions × Demand3Both asked text read sessions
+  demand3-both-met = (both-run, demand3-both asked text read sessions both-run)

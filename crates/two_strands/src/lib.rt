@@ -1,0 +1,1 @@
+// Runs on both strands: definitions and theorems, no code.
