@@ -8,7 +8,6 @@ use Rattle.sketch.specs.Replies.{sketchReply}
 use Rattle.strike.specs.Strike.{strikeReply}
 use Rattle.session_start.specs.Start.{startReply}
 use Rattle.base.specs.Limits.{lineLimit}
-use Rattle.strands.specs.Complement.{reverseComplement}
 use Rattle.requests.specs.declared.Settings.{Settings}
 use Rattle.requests.specs.Requests.{taskOf}
 
@@ -36,8 +35,3 @@ patternReply s text read room =
 
 unfoldable pub callsReply : Settings → List ℕ → List ℕ → ℕ → ℕ → Reply
 callsReply s text read room lent = andThen (patternReply s text read room) (startReply (taskOf s text read) lent)
-
--- of a two-strand run: the calls for the read, then those for its reverse complement; each strand has its own work words. If either is refused
--- so is the run, with the forward read's number if both are
-unfoldable pub strandsReply : Settings → List ℕ → List ℕ → ℕ → ℕ → ℕ → Reply
-strandsReply s text read room lent lent′ = andThen (callsReply s text read room lent) (callsReply s text (reverseComplement read) room lent′)

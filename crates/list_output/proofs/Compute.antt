@@ -6,7 +6,8 @@ use Rattle.list_line.proofs.Compute.{list-line-computes}
 use Rattle.requests.specs.Requests.{textOf, patternOf, taskOf}
 use Rattle.list_input.proofs.Compute.{list-input-computes}
 use Rattle.session_start.specs.Start.{badWeights, startReply}
-use Rattle.list_open.specs.Calls.{sketchesReply, strikingReply, patternReply, callsReply, strandsReply}
+use Rattle.list_open.specs.Calls.{sketchesReply, strikingReply, patternReply, callsReply}
+use Rattle.list_sessions.specs.Calls.{strandsReply}
 use Rattle.list_lines.specs.Lines.{mappingLine}
 use Rattle.list_output.specs.Output.{finalCells, lastLine, strandLines, listOf, outputOf}
 

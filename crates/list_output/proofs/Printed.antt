@@ -19,7 +19,7 @@ use Rattle.strands.specs.Strands.{readOn}
 use Rattle.requests.specs.declared.Settings.{Settings}
 use Rattle.requests.specs.Requests.{textOf, patternOf, taskOn}
 use Rattle.list_input.specs.Input.{given, inputOf}
-use Rattle.list_open.specs.Calls.{strandsReply}
+use Rattle.list_sessions.specs.Calls.{strandsReply}
 use Rattle.list_lines.specs.Lines.{mappingLines}
 use Rattle.list_output.specs.Output.{headerLine, lastLine, finalCells, strandLines, foundOn, cellsOn, listOf, printedFor, unlessRefused, outputOf}
 use Rattle.list_output.specs.Printed.{PrintsFinals}

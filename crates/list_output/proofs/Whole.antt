@@ -26,9 +26,10 @@ use Rattle.list_line.specs.Line.{decimal}
 use Rattle.list_line.proofs.Decimal.{length-decimal}
 use Rattle.list_line.proofs.Writers.{take-written}
 use Rattle.list_lines.specs.Pieces.{finalsAfter, linesAfter, Belongs}
-use Rattle.list_open.specs.Calls.{callsReply, strandsReply}
+use Rattle.list_open.specs.Calls.{callsReply}
 use Rattle.list_open.specs.Opening.{workAfter, whereAccepted}
 use Rattle.list_open.proofs.Accepted.{and-accepted}
+use Rattle.list_sessions.specs.Calls.{strandsReply}
 use Rattle.list_sessions.specs.Sessions.{sessionsBy, sessionsOf, placesAfter, forwardAfter, reverseAfter}
 use Rattle.list_sessions.specs.declared.Sessions.{Sessions}
 use Rattle.list_sessions.specs.declared.Sessions.the-variants.{Malformed, Refused, Both}

@@ -18,7 +18,7 @@ use Rattle.list_line.specs.Line.{decimal}
 use Rattle.list_lines.specs.Lines.{mappingLines}
 use Rattle.base.specs.Bytes.{asBytes, lineFeed}
 use Rattle.list_input.specs.Input.{Input, malformed, given, inputOf}
-use Rattle.list_open.specs.Calls.{strandsReply}
+use Rattle.list_sessions.specs.Calls.{strandsReply}
 
 -- the header
 abbrev pub headerLine : List ℕ

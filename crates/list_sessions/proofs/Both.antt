@@ -11,11 +11,12 @@ use Rattle.strands.specs.Complement.{reverseComplement}
 use Rattle.requests.specs.declared.Settings.{Settings}
 use Rattle.requests.specs.Requests.{textOf, patternOf}
 use Rattle.list_input.specs.Input.{given}
-use Rattle.list_open.specs.Calls.{andThen, strikingReply, callsReply, strandsReply}
+use Rattle.list_open.specs.Calls.{andThen, strikingReply, callsReply}
 use Rattle.list_open.specs.Opening.{openedBy, openedOf, positionsAfter, workAfter, whereAccepted, Opens}
 use Rattle.list_open.specs.declared.calls.Opened.{Opened}
 use Rattle.list_open.specs.declared.calls.Opened.the-variants.{Refused as StrandRefused, Session}
 use Rattle.list_open.proofs.Accepted.{strike-accepts}
+use Rattle.list_sessions.specs.Calls.{strandsReply}
 use Rattle.list_sessions.specs.Sessions.{sessionsBy, sessionsOf, placesAfter, forwardAfter, reverseAfter, OpensBoth}
 use Rattle.list_sessions.specs.declared.Sessions.the-variants.{Refused, Both}
 

@@ -7,8 +7,9 @@ use Rattle.base.specs.Replies.{Reply, accepted, refused}
 use Rattle.strands.specs.Complement.{reverseComplement}
 use Rattle.requests.specs.Requests.{patternOf}
 use Rattle.list_input.specs.Input.{Input, malformed, given}
-use Rattle.list_open.specs.Calls.{callsReply, strandsReply}
+use Rattle.list_open.specs.Calls.{callsReply}
 use Rattle.list_open.specs.Opening.{positionsAfter, workAfter, whereAccepted}
+use Rattle.list_sessions.specs.Calls.{strandsReply}
 use Rattle.list_sessions.specs.declared.Sessions.{Sessions}
 use Rattle.list_sessions.specs.declared.Sessions.the-variants.{Malformed, Refused, Both}
 

@@ -4,10 +4,12 @@ use mathlib.Core.List.{[], _∷_}
 use lib.IntN.{negsuc}
 use Rattle.base.specs.Bytes.{asBytes}
 use Rattle.kmers.specs.Kmers.{codes, positions}
+use Rattle.strands.specs.declared.Strand.the-variants.{Forward, Reverse}
+use Rattle.strands.proofs.Compute.{strands-compute}
 use Rattle.strike.proofs.Compute.{strike-computes}
 use Rattle.mappings.specs.Score.{taskWith}
 use Rattle.requests.specs.declared.Settings.{Settings}
-use Rattle.requests.specs.Requests.{textOf, patternOf, taskOf}
+use Rattle.requests.specs.Requests.{textOf, patternOf, taskOf, taskOn}
 
 -- k 1, w 1, c 1, u 2, v 3, threshold −4
 abbrev asked : Settings
@@ -26,6 +28,9 @@ pub record RequestExamples : Type 0 where
   pub task : taskOf asked (asBytes "ACAG") (asBytes "AACG") ≡ taskWith (1 ∷ 2 ∷ []) (1 ∷ 2 ∷ []) 2 3 (negsuc 3)
   -- with c 2 it stays in both
   pub milder-task : taskOf milder (asBytes "ACAG") (asBytes "AACG") ≡ taskWith (0 ∷ 1 ∷ 0 ∷ 2 ∷ []) (0 ∷ 0 ∷ 1 ∷ 2 ∷ []) 2 3 (negsuc 3)
+  -- CGTT, whose complement is AACG, on both strands: of CGTT itself C and G are in the text, and T is not
+  pub forward-task : taskOn asked (asBytes "ACAG") (asBytes "CGTT") Forward ≡ taskWith (1 ∷ 2 ∷ []) (1 ∷ 2 ∷ 3 ∷ 3 ∷ []) 2 3 (negsuc 3)
+  pub reverse-task : taskOn asked (asBytes "ACAG") (asBytes "CGTT") Reverse ≡ taskWith (1 ∷ 2 ∷ []) (1 ∷ 2 ∷ []) 2 3 (negsuc 3)
   -- what is struck keeps the positions of the rest, in text and read
   pub text-positions : positions (textOf asked (asBytes "ACAG")) ≡ 1 ∷ 3 ∷ []
   pub read-positions : positions (patternOf asked (asBytes "ACAG") (asBytes "AACG")) ≡ 2 ∷ 3 ∷ []
@@ -39,11 +44,13 @@ pub record RequestExamples : Type 0 where
   pub longer-text : codes (textOf longer (asBytes "TACG")) ≡ 12 ∷ 1 ∷ 6 ∷ []
 
 pub request-examples : RequestExamples
-unfolding strike-computes textOf patternOf taskOf
+unfolding strands-compute strike-computes textOf patternOf taskOf
 request-examples =
     record {
       task = refl;
       milder-task = refl;
+      forward-task = refl;
+      reverse-task = refl;
       text-positions = refl;
       read-positions = refl;
       repeated = refl;

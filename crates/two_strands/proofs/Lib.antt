@@ -1,3 +1,4 @@
--- Demand 3 of both strands, and that its hypotheses can be met.
+-- Demand 3 of both strands, that its hypotheses can be met, and an example that computes.
 pub mod Demand3
 pub mod Witness
+pub mod Cases
