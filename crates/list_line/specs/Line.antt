@@ -33,11 +33,7 @@ sign Reverse = minus
 -- first letter, last letter, score, m, per mille, strand, one space between them and a line feed after
 unfoldable pub line : ℕ → ℕ → ℤ → ℕ → ℕ → Strand → List ℕ
 line first last score m perMille strand =
-    decimal first
-    ++ space ∷ decimal last
-    ++ space ∷ signed score
-    ++ space ∷ decimal m
-    ++ space ∷ decimal perMille
+    decimal first ++ space ∷ decimal last ++ space ∷ signed score ++ space ∷ decimal m ++ space ∷ decimal perMille
     ++ space ∷ sign strand ∷ lineFeed ∷ []
 
 -- the part of the caller's buffer that is written, given the buffer's length: the empty part where these bytes are longer

@@ -14,6 +14,7 @@ use Rattle.mappings.proofs.Rule.{total}
 use Rattle.session_words.specs.FirstWords.{passedAt}
 use Rattle.mapper.proofs.Accepted.{admitted}
 use Rattle.mapper.proofs.StepPromise.{in-session}
+use Rattle.strands.specs.declared.Strand.{Strand}
 use Rattle.strands.specs.declared.Strand.the-variants.{Forward, Reverse}
 use Rattle.list_line.specs.Line.{decimal}
 use Rattle.list_line.proofs.Buffers.{written-index}
@@ -27,7 +28,7 @@ use Rattle.list_lines.proofs.Rest.{all-passed}
 use Rattle.list_lines.proofs.Going.{session-left}
 use Rattle.list_lines.proofs.Belonging.{went}
 use Rattle.list_output.specs.Output.{lastLine, outputOf}
-use Rattle.list_output.specs.Filling.{FillsRun}
+use Rattle.list_output.specs.Filling.{Part, FillsRun}
 use Rattle.list_output.specs.Whole.{InHand, Printing}
 use Rattle.list_output.proofs.Turns.{with-other}
 
@@ -58,6 +59,42 @@ module _ {task : Task} {places : List ℕ} {k size : ℕ} {work : List ℕ} {q :
 -- no cell remains, and so no mapping
 none-after : (task : Task) (q : ℕ) → q ≡ total task → finalsAfter task q ≡ []
 none-after task q e = ap (finalsAfter task) e ∙ all-passed task
+
+-- ---- a piece of one session
+
+-- it comes to q₁ cells; what was printed and what is left make up what was left before
+record Moved (task : Task) (places : List ℕ) (k size : ℕ) (strand : Strand) (q found other : ℕ) (r : Filled) (work′ out′ : List ℕ) : Type 0 where
+  q₁ : ℕ
+  in-hand : InHand task places k size work′ q₁
+  further : q < q₁
+  grown : r .found + q ≤ found + q₁
+  left-is : r .left ≡ suc (total task - q₁) + other
+  tally : r .found + length (finalsAfter task q₁) ≡ found + length (finalsAfter task q)
+  printed : take (r .written) out′ ++ linesAfter task places k size strand q₁ ≡ linesAfter task places k size strand q
+
+moved : {task : Task} {work places : List ℕ} {k size : ℕ} {strand : Strand} {q found : ℕ} {out : List ℕ} {other : ℕ} {r : Filled} {work′ out′ : List ℕ}
+    → InHand task places k size work q → found ≤ cellLimit + q → 64 ≤ length out → q < total task
+    → Part work places k size strand found out other r work′ out′ → Moved task places k size strand q found other r work′ out′
+moved {task} {places = places} {k} {size} {strand} {q} {found} {other = other} {r} {out′ = out′} h counted long some made =
+    let step = made .fills .session task (h .before) q (h .accepts) (h .among) (h .words) in
+    let q₁ : ℕ = step .0 in
+    let w = went task (h .before) places k size strand q found (h .accepts) (h .belongs) counted (step .1) long some in
+    let grown : made .part .found + q ≤ found + q₁ = step .1 .counted in
+    record {
+      q₁ = q₁;
+      in-hand = record { before = h .before; accepts = h .accepts; belongs = h .belongs; among = step .1 .among; words = step .1 .words };
+      further = w .further;
+      grown = omega (arith, made .found-is);
+      left-is =
+          made .left-is ∙ with-other (made .part .left) other (λ z. omega (arith, w .left-is)) ∙ ap (λ (n : ℕ). n + other) (w .left-is);
+      tally = omega (arith, made .found-is, w .tally);
+      printed = ap (λ (n : ℕ). take n out′ ++ linesAfter task places k size strand q₁) (made .written-is) ∙ w .bytes;
+    }
+
+-- a session in hand whose words stay
+stays : {task : Task} {places : List ℕ} {k size : ℕ} {work work′ : List ℕ} {q : ℕ} → InHand task places k size work q → work′ ≡ work
+    → InHand task places k size work′ q
+stays h e = record { before = h .before; accepts = h .accepts; belongs = h .belongs; among = h .among; words = e ∙ h .words }
 
 -- ---- the last line
 
@@ -101,40 +138,28 @@ module _ {bytes places forward reverse : List ℕ} {k size size′ found left : 
   -- lines of the forward session
   goes-forward : q < total task → Goes
   goes-forward some =
-      let h = p .ahead in
-      let g = p .behind in
-      let most : total task′ ≤ cellLimit = few g in
-      let counted : found ≤ q + q′ = p .counted in
-      let among′ : q′ ≤ total task′ = g .among in
       let made = f .of-forward (omega (arith, forward-left)) (omega (arith, reverse-left)) in
-      let step = made .0 .fills .session task (h .before) q (h .accepts) (h .among) (h .words) in
-      let q₁ : ℕ = step .0 in
-      let w = went task (h .before) places k size Forward q found (h .accepts) (h .belongs) (omega arith) (step .1) long some in
-      let among₁ : q₁ ≤ total task = step .1 .among in
-      let grown : made .0 .part .found + q ≤ found + q₁ = step .1 .counted in
-      let now : r .left ≡ suc (total task - q₁) + suc (total task′ - q′) =
-      made .0 .left-is ∙ with-other (made .0 .part .left) (cellsLeft reverse) (λ z. omega (arith, w .left-is)) ∙ ap₂ _+_ (w .left-is) reverse-left in
-      let tally : r .found + length (finalsAfter task q₁) ≡ found + length (finalsAfter task q) = omega (arith, made .0 .found-is, w .tally) in
-      let count : r .found + length (finalsAfter task q₁) + length (finalsAfter task′ q′)
-      ≡ found + length (finalsAfter task q) + length (finalsAfter task′ q′) = omega arith in
-      let printed : take (r .written) out′ ++ linesAfter task places k size Forward q₁ ≡ linesAfter task places k size Forward q =
-      ap (λ (n : ℕ). take n out′ ++ linesAfter task places k size Forward q₁) (made .0 .written-is) ∙ w .bytes in
-      let lines′ : List ℕ = linesAfter task′ places k size′ Reverse q′ in (
-        omega (arith, p .remaining, w .further),
+      let most : total task′ ≤ cellLimit = few (p .behind) in
+      let m = moved (p .ahead) (omega (arith, p .counted, p .behind .among)) long some (made .0) in
+      let new : List ℕ = take (r .written) out′ in
+      let lines₁ : List ℕ = linesAfter task places k size Forward (m .q₁) in
+      let lines′ : List ℕ = linesAfter task′ places k size′ Reverse q′ in
+      let count : r .found + length (finalsAfter task (m .q₁)) + length (finalsAfter task′ q′)
+      ≡ found + length (finalsAfter task q) + length (finalsAfter task′ q′) = omega (arith, m .tally) in (
+        omega (arith, p .remaining, m .left-is, reverse-left, m .further, m .in-hand .among),
         inr
             (record {
               task = task;
               task′ = task′;
-              q = q₁;
+              q = m .q₁;
               q′ = q′;
-              ahead = record { before = h .before; accepts = h .accepts; belongs = h .belongs; among = among₁; words = step .1 .words };
-              behind = record { before = g .before; accepts = g .accepts; belongs = g .belongs; among = among′; words = made .1 ∙ g .words };
-              counted = omega (arith, made .0 .found-is);
-              remaining = now;
+              ahead = m .in-hand;
+              behind = stays (p .behind) (made .1);
+              counted = omega (arith, m .grown, p .counted);
+              remaining = m .left-is ∙ ap (λ (n : ℕ). suc (total task - m .q₁) + n) reverse-left;
               rest =
-                  onward done (take (r .written) out′) (linesAfter task places k size Forward q₁ ++ lines′) (ending q₁ q′)
-                  (sym (append-assoc (take (r .written) out′) (linesAfter task places k size Forward q₁) lines′)
-                  ∙ ap (λ (l : List ℕ). l ++ lines′) printed)
+                  onward done new (lines₁ ++ lines′) (ending (m .q₁) q′)
+                  (sym (append-assoc new lines₁ lines′) ∙ ap (λ (l : List ℕ). l ++ lines′) (m .printed))
                   (ap (λ (n : ℕ). lastLine n (total task + total task′)) count)
                   ∙ p .rest;
             }),
@@ -143,41 +168,31 @@ module _ {bytes places forward reverse : List ℕ} {k size size′ found left : 
   -- lines of the other session, when no cell of the forward one remains
   goes-reverse : q ≡ total task → q′ < total task′ → Goes
   goes-reverse gone some =
-      let h = p .ahead in
-      let g = p .behind in
-      let most : total task ≤ cellLimit = few h in
-      let counted : found ≤ q + q′ = p .counted in
       let made = f .of-reverse (omega (arith, forward-left)) (omega (arith, reverse-left)) in
-      let step = made .0 .fills .session task′ (g .before) q′ (g .accepts) (g .among) (g .words) in
-      let q₁ : ℕ = step .0 in
-      let w = went task′ (g .before) places k size′ Reverse q′ found (g .accepts) (g .belongs) (omega arith) (step .1) long some in
-      let among₁ : q₁ ≤ total task′ = step .1 .among in
-      let grown : made .0 .part .found + q′ ≤ found + q₁ = step .1 .counted in
-      let now : r .left ≡ suc (total task′ - q₁) + suc (total task - q) =
-      made .0 .left-is ∙ with-other (made .0 .part .left) (cellsLeft forward) (λ z. omega (arith, w .left-is)) ∙ ap₂ _+_ (w .left-is) forward-left in
-      let tally : r .found + length (finalsAfter task′ q₁) ≡ found + length (finalsAfter task′ q′) = omega (arith, made .0 .found-is, w .tally) in
-      let count : r .found + length (finalsAfter task q) + length (finalsAfter task′ q₁)
-      ≡ found + length (finalsAfter task q) + length (finalsAfter task′ q′) = omega arith in
-      let printed : take (r .written) out′ ++ linesAfter task′ places k size′ Reverse q₁ ≡ linesAfter task′ places k size′ Reverse q′ =
-      ap (λ (n : ℕ). take n out′ ++ linesAfter task′ places k size′ Reverse q₁) (made .0 .written-is) ∙ w .bytes in
+      let most : total task ≤ cellLimit = few (p .ahead) in
+      let m = moved (p .behind) (omega (arith, p .counted)) long some (made .0) in
       let none : finalsAfter task q ≡ [] = none-after task q gone in
-      let lines₁ : List ℕ = linesAfter task′ places k size′ Reverse q₁ in (
-        omega (arith, p .remaining, w .further),
+      let after-none : List ℕ → List Mapping → List ℕ = λ lines l. mappingLines places k size Forward l ++ lines in
+      let new : List ℕ = take (r .written) out′ in
+      let lines₁ : List ℕ = linesAfter task′ places k size′ Reverse (m .q₁) in
+      let lines′ : List ℕ = linesAfter task′ places k size′ Reverse q′ in
+      let count : r .found + length (finalsAfter task q) + length (finalsAfter task′ (m .q₁))
+      ≡ found + length (finalsAfter task q) + length (finalsAfter task′ q′) = omega (arith, m .tally) in
+      let now : r .left ≡ suc (total task - q) + suc (total task′ - m .q₁) = omega (arith, m .left-is, forward-left) in (
+        omega (arith, p .remaining, m .further, m .in-hand .among),
         inr
             (record {
               task = task;
               task′ = task′;
               q = q;
-              q′ = q₁;
-              ahead = record { before = h .before; accepts = h .accepts; belongs = h .belongs; among = h .among; words = made .1 ∙ h .words };
-              behind = record { before = g .before; accepts = g .accepts; belongs = g .belongs; among = among₁; words = step .1 .words };
-              counted = omega (arith, made .0 .found-is);
-              remaining = now ∙ omega arith;
+              q′ = m .q₁;
+              ahead = stays (p .ahead) (made .1);
+              behind = m .in-hand;
+              counted = omega (arith, m .grown, p .counted);
+              remaining = now;
               rest =
-                  onward done (take (r .written) out′) (linesAfter task places k size Forward q ++ lines₁) (ending q q₁)
-                  (ap (λ (l : List Mapping). take (r .written) out′ ++ (mappingLines places k size Forward l ++ lines₁)) none
-                  ∙ printed
-                  ∙ sym (ap (λ (l : List Mapping). mappingLines places k size Forward l ++ linesAfter task′ places k size′ Reverse q′) none))
+                  onward done new (linesAfter task places k size Forward q ++ lines₁) (ending q (m .q₁))
+                  (ap (λ (l : List Mapping). new ++ after-none lines₁ l) none ∙ m .printed ∙ sym (ap (after-none lines′) none))
                   (ap (λ (n : ℕ). lastLine n (total task + total task′)) count)
                   ∙ p .rest;
             }),

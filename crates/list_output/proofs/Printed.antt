@@ -17,7 +17,8 @@ use Rattle.strands.specs.declared.Strand.{Strand}
 use Rattle.strands.specs.declared.Strand.the-variants.{Forward, Reverse}
 use Rattle.strands.specs.Strands.{readOn}
 use Rattle.requests.specs.declared.Settings.{Settings}
-use Rattle.requests.specs.Requests.{textOf, patternOf, taskOn}
+use Rattle.requests.specs.Requests.{textOf, patternOf}
+use Rattle.requests.specs.Strands.{taskOn}
 use Rattle.list_input.specs.Input.{given, inputOf}
 use Rattle.list_sessions.specs.Calls.{strandsReply}
 use Rattle.list_lines.specs.Lines.{mappingLines}

@@ -19,7 +19,8 @@ use Rattle.strands.specs.declared.Strand.{Strand}
 use Rattle.strands.specs.declared.Strand.the-variants.{Forward, Reverse}
 use Rattle.strands.specs.Complement.{reverseComplement}
 use Rattle.requests.specs.declared.Settings.{Settings}
-use Rattle.requests.specs.Requests.{textOf, patternOf, taskOf, taskOn}
+use Rattle.requests.specs.Requests.{textOf, patternOf, taskOf}
+use Rattle.requests.specs.Strands.{taskOn}
 use Rattle.list_input.specs.Input.{inputLimit, Input, malformed, given, inputOf}
 use Rattle.list_input.proofs.Enough.{enough-bytes}
 use Rattle.list_line.specs.Line.{decimal}

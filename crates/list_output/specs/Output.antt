@@ -10,7 +10,8 @@ use Rattle.mappings.specs.Score.{Task}
 use Rattle.mappings.specs.Cells.{Cell, cellsOf, mappingOf}
 use Rattle.mappings.specs.FinalTest.{isFinalCell}
 use Rattle.requests.specs.declared.Settings.{Settings}
-use Rattle.requests.specs.Requests.{textOf, patternOf, taskOn}
+use Rattle.requests.specs.Requests.{textOf, patternOf}
+use Rattle.requests.specs.Strands.{taskOn}
 use Rattle.strands.specs.declared.Strand.{Strand}
 use Rattle.strands.specs.declared.Strand.the-variants.{Forward, Reverse}
 use Rattle.strands.specs.Strands.{readOn}

@@ -11,7 +11,8 @@ use Rattle.strands.specs.declared.Strand.{Strand}
 use Rattle.strands.specs.declared.Strand.the-variants.{Forward, Reverse}
 use Rattle.strands.specs.Complement.{reverseComplement}
 use Rattle.requests.specs.declared.Settings.{Settings}
-use Rattle.requests.specs.Requests.{textOf, patternOf, taskOn}
+use Rattle.requests.specs.Requests.{textOf, patternOf}
+use Rattle.requests.specs.Strands.{taskOn}
 use Rattle.list_lines.specs.Lines.{mappingLines}
 use Rattle.list_output.specs.Output.{headerLine, lastLine}
 

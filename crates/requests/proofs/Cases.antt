@@ -9,7 +9,8 @@ use Rattle.strands.proofs.Compute.{strands-compute}
 use Rattle.strike.proofs.Compute.{strike-computes}
 use Rattle.mappings.specs.Score.{taskWith}
 use Rattle.requests.specs.declared.Settings.{Settings}
-use Rattle.requests.specs.Requests.{textOf, patternOf, taskOf, taskOn}
+use Rattle.requests.specs.Requests.{textOf, patternOf, taskOf}
+use Rattle.requests.specs.Strands.{taskOn}
 
 -- k 1, w 1, c 1, u 2, v 3, threshold −4
 abbrev asked : Settings

@@ -1,2 +1,3 @@
 -- What is asked of a run, and the task of it.
 pub mod Requests
+pub mod Strands

@@ -3,8 +3,6 @@ use Prim.Native.Nat.{ℕ}
 use mathlib.Core.List.{List}
 use Rattle.kmers.specs.Kmers.{Entry, codes}
 use Rattle.minimizers.specs.Sketch.{sketch}
-use Rattle.strands.specs.declared.Strand.{Strand}
-use Rattle.strands.specs.Strands.{readOn}
 use Rattle.strike.specs.Strike.{strike, struck}
 use Rattle.requests.specs.declared.Settings.{Settings}
 use Rattle.mappings.specs.Score.{Task, taskWith}
@@ -20,7 +18,3 @@ patternOf s text read = strike (codes (sketch (s .k) (s .w) text)) (s .c) (sketc
 -- what is mapped: the codes of both, the weights and the threshold
 unfoldable pub taskOf : Settings → List ℕ → List ℕ → Task
 taskOf s text read = taskWith (codes (textOf s text)) (codes (patternOf s text read)) (s .u) (s .v) (s .threshold)
-
--- and on a strand: the read itself on the forward strand, its reverse complement on the other
-abbrev pub taskOn : Settings → List ℕ → List ℕ → Strand → Task
-taskOn s text read strand = taskOf s text (readOn strand read)

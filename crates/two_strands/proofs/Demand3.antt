@@ -14,7 +14,7 @@ use Rattle.mappings.proofs.Demanded.{demanded-all, demanded-last}
 use Rattle.strands.specs.declared.Strand.{Strand}
 use Rattle.strands.specs.Strands.{readOn}
 use Rattle.requests.specs.declared.Settings.{Settings}
-use Rattle.requests.specs.Requests.{taskOn}
+use Rattle.requests.specs.Strands.{taskOn}
 use Rattle.mapper.proofs.Demand3.{demand3}
 use Rattle.two_strands.specs.TwoStrands.{Session, RunsBoth, Demand3Both, listOf, ListsFinals}
 

@@ -10,7 +10,7 @@ use Rattle.strands.specs.declared.Strand.{Strand}
 use Rattle.strands.specs.declared.Strand.the-variants.{Forward, Reverse}
 use Rattle.strands.specs.Strands.{readOn}
 use Rattle.requests.specs.declared.Settings.{Settings}
-use Rattle.requests.specs.Requests.{taskOn}
+use Rattle.requests.specs.Strands.{taskOn}
 use Rattle.session_start.specs.Start.{startWords}
 use Rattle.mapper.specs.Sessions.{Lent, startTask, AllAccept, Ran, Demand3}
 
