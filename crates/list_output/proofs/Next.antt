@@ -72,8 +72,8 @@ record Moved (task : Task) (places : List ℕ) (k size : ℕ) (strand : Strand) 
   tally : r .found + length (finalsAfter task q₁) ≡ found + length (finalsAfter task q)
   printed : take (r .written) out′ ++ linesAfter task places k size strand q₁ ≡ linesAfter task places k size strand q
 
-moved : {task : Task} {work places : List ℕ} {k size : ℕ} {strand : Strand} {q found : ℕ} {out : List ℕ} {other : ℕ} {r : Filled} {work′ out′ : List ℕ}
-    → InHand task places k size work q → found ≤ cellLimit + q → 64 ≤ length out → q < total task
+moved : {task : Task} {work places : List ℕ} {k size : ℕ} {strand : Strand} {q found : ℕ} {out : List ℕ} {other : ℕ}
+    {r : Filled} {work′ out′ : List ℕ} → InHand task places k size work q → found ≤ cellLimit + q → 64 ≤ length out → q < total task
     → Part work places k size strand found out other r work′ out′ → Moved task places k size strand q found other r work′ out′
 moved {task} {places = places} {k} {size} {strand} {q} {found} {other = other} {r} {out′ = out′} h counted long some made =
     let step = made .fills .session task (h .before) q (h .accepts) (h .among) (h .words) in
