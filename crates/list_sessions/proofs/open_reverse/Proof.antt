@@ -13,8 +13,11 @@ use Rattle.list_sessions.proofs.open_reverse.Statement.{statement}
 use Rattle.list_sessions.proofs.open_reverse.Tie as tie
 
 -- the places that the proofs below speak of, each from a later one
+abbrev lent : tie.After-slice-known4 → tie.After-positions
+lent c = c .before .before .before
+
 abbrev at-open : tie.After-slice-known4 → tie.After-open
-at-open c = c .before .before .before .before
+at-open c = lent c .before
 
 abbrev at-letters : tie.After-open → tie.After-letters3
 at-letters c = c .before .before .before
@@ -42,39 +45,30 @@ module _ (c : tie.After-letters3) where
       let room : length read ≤ length (at-bytes .line-bytes .result) = omega (arith, entry .pre, at-bytes .line-bytes .ensures) in
       ap (take (length read)) (at-complement .reverse-complement .ensures .1) ∙ front-complement read (at-bytes .line-bytes .result) room
 
--- src/lib.rt:49:23
 line-bytes-requires : tie.Need-line-bytes-requires
 line-bytes-requires c κs = search needs
 
--- src/lib.rt:50:30
 slice-aggregate-reverse-complement : tie.Need-slice-aggregate-reverse-complement
 slice-aggregate-reverse-complement c = search needs
 
--- src/lib.rt:50:5
 reverse-complement-requires : tie.Need-reverse-complement-requires
 reverse-complement-requires c κs = search needs
 
--- src/lib.rt:51:16
 array-share-prefix-letters : tie.Need-array-share-prefix-letters
 array-share-prefix-letters c = search needs
 
--- src/lib.rt:51:16
 slice-aggregate-open : tie.Need-slice-aggregate-open
 slice-aggregate-open c = sym (ap length (front c) ∙ length-complement (read c))
 
--- src/lib.rt:51:5
 open-requires : tie.Need-open-requires
 open-requires c κs = search needs
 
--- src/lib.rt:37:1
 same-length : tie.Need-same-length
 same-length c = search needs
 
--- src/lib.rt:37:1
 same-length-2 : tie.Need-same-length-2
 same-length-2 c = search needs
 
--- src/lib.rt:37:1
 returns : tie.Need-returns
 returns c =
     let opened = at-open c in

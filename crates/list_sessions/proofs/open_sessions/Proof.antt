@@ -27,10 +27,10 @@ abbrev at-lines : tie.After-open-both-arg5 → tie.After-open-both-arg2
 at-lines c = c .before .before .before
 
 abbrev at-both : tie.After-slice-known6 → tie.After-open-both
-at-both c = positions c .before
+at-both c = lent c .before .before .before
   where
-    positions : tie.After-slice-known6 → tie.After-positions
-    positions d = d .before .before .before .before .before
+    lent : tie.After-slice-known6 → tie.After-forward
+    lent d = d .before .before .before
 
 -- where the two lines lie
 lines-lie : (c : tie.After-known-told)
@@ -41,47 +41,36 @@ lines-lie c = lines-inside _ _ (at-read c .read-input .ensures) _ _ _ _ _ _ _ _ 
 part-short : (bytes : List ℕ) (from end limit : ℕ) → end - from ≤ limit → length (take (end - from) (drop from bytes)) ≤ limit
 part-short bytes from end limit h = simp length-take (omega arith)
 
--- src/lib.rt:92:11
 read-input-requires : tie.Need-read-input-requires
 read-input-requires c κs = search needs
 
--- src/lib.rt:93:31
 enum-told : tie.Need-enum-told
 enum-told c = search needs
 
--- src/lib.rt:95:13
 enum-known-k : tie.Need-enum-known-k
 enum-known-k c = search needs
 
--- src/lib.rt:106:13
 sub-open-both : tie.Need-sub-open-both
 sub-open-both c = lines-lie c .text-order
 
--- src/lib.rt:106:13
 part-open-both-start : tie.Need-part-open-both-start
 part-open-both-start c = lines-lie c .text-order
 
--- src/lib.rt:106:13
 part-open-both-end : tie.Need-part-open-both-end
 part-open-both-end c = lines-lie c .text-inside
 
--- src/lib.rt:107:13
 sub-open-both-2 : tie.Need-sub-open-both-2
 sub-open-both-2 c = lines-lie (c .before) .read-order
 
--- src/lib.rt:107:13
 part-open-both-start-2 : tie.Need-part-open-both-start-2
 part-open-both-start-2 c = lines-lie (c .before) .read-order
 
--- src/lib.rt:107:13
 part-open-both-end-2 : tie.Need-part-open-both-end-2
 part-open-both-end-2 c = lines-lie (c .before) .read-inside
 
--- src/lib.rt:105:14
 open-both-requires : tie.Need-open-both-requires
 open-both-requires c κs = part-short _ _ _ _ (lines-lie (told (at-lines c)) .read-short)
 
--- src/lib.rt:82:1
 returns : tie.Need-returns
 returns c =
     let read = c .before .before in
@@ -89,19 +78,15 @@ returns c =
     opens-malformed (args .bytes .now) (read .read-input .result) (read .read-input .ensures) (c .enum-told .given .1) (args .positions .now)
     (args .forward .now) (args .reverse .now)
 
--- src/lib.rt:82:1
 same-length : tie.Need-same-length
 same-length c = search needs
 
--- src/lib.rt:82:1
 same-length-2 : tie.Need-same-length-2
 same-length-2 c = search needs
 
--- src/lib.rt:82:1
 same-length-3 : tie.Need-same-length-3
 same-length-3 c = search needs
 
--- src/lib.rt:82:1
 returns-2 : tie.Need-returns-2
 returns-2 c =
     let both = at-both c in

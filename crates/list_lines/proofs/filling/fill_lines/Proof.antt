@@ -75,35 +75,27 @@ module _ (c : tie.After-slice-known4 Inv-loop μ-loop) where
   abbrev stepped : tie.After-slice-known3 Inv-loop μ-loop
   stepped = known .before .before
 
--- src/filling.rt:154:5
 loop-holds : tie.Need-loop-holds Inv-loop μ-loop
 loop-holds c = (omega arith, refl, refl, going-start _ _ _ _ _ _ _)
 
--- src/filling.rt:154:24
 sub-loop : tie.Need-sub-loop Inv-loop μ-loop
 sub-loop c = search needs
 
--- src/filling.rt:155:15
 step-requires : tie.Need-step-requires Inv-loop μ-loop
 step-requires c κs = search needs
 
--- src/filling.rt:156:30
 enum-known-a : tie.Need-enum-known-a Inv-loop μ-loop
 enum-known-a c = search needs
 
--- src/filling.rt:158:21
 stopped-requires : tie.Need-stopped-requires Inv-loop μ-loop
 stopped-requires c κs = search needs
 
--- src/filling.rt:158:21
 same-length : tie.Need-same-length Inv-loop μ-loop
 same-length c = search needs
 
--- src/filling.rt:158:21
 same-length-2 : tie.Need-same-length-2 Inv-loop μ-loop
 same-length-2 c = search needs
 
--- src/filling.rt:158:21
 returns : tie.Need-returns Inv-loop μ-loop
 returns c =
     let told = c .before .before in
@@ -112,23 +104,18 @@ returns c =
     (at-turn .loop .inv .1) (c .stopped .result) _ _ _ _ _ _ (promise (told .before .before .before) (told .before .a .given .1))
     (too-many _ _ _ _ _ (c .before .if1 .taken)) _ refl (c .stopped .ensures .0) (c .stopped .ensures .1) (c .stopped .ensures .2)
 
--- src/filling.rt:160:21
 put-mapping-requires : tie.Need-put-mapping-requires Inv-loop μ-loop
 put-mapping-requires c κs = search needs
 
--- src/filling.rt:162:21
 stopped-requires-2 : tie.Need-stopped-requires-2 Inv-loop μ-loop
 stopped-requires-2 c κs = search needs
 
--- src/filling.rt:162:21
 same-length-3 : tie.Need-same-length-3 Inv-loop μ-loop
 same-length-3 c = search needs
 
--- src/filling.rt:162:21
 same-length-4 : tie.Need-same-length-4 Inv-loop μ-loop
 same-length-4 c = search needs
 
--- src/filling.rt:162:21
 returns-2 : tie.Need-returns-2 Inv-loop μ-loop
 returns-2 c =
     let at = c .before .before in
@@ -141,15 +128,12 @@ returns-2 c =
     (not-printed _ _ _ _ _ (else1 at .if1 .left) not-held) _ (at .before .before .put-mapping .ensures .none not-held .1)
     (c .stopped2 .ensures .0) (c .stopped2 .ensures .1) (c .stopped2 .ensures .2)
 
--- src/filling.rt:165:17
 add-count : tie.Need-add-count Inv-loop μ-loop
 add-count c = search needs
 
--- src/filling.rt:154:5
 loop-less : tie.Need-loop-less Inv-loop μ-loop
 loop-less c = search needs
 
--- src/filling.rt:154:5
 loop-again : tie.Need-loop-again Inv-loop μ-loop
 loop-again c =
     let at = c .before in
@@ -163,38 +147,30 @@ loop-again c =
           (else1 at .if1 .left) (c .if2 .left),
     )
 
--- src/filling.rt:168:36
 enum-told : tie.Need-enum-told Inv-loop μ-loop
 enum-told c = search needs
 
--- src/filling.rt:169:17
 same-length-5 : tie.Need-same-length-5 Inv-loop μ-loop
 same-length-5 c = search needs
 
--- src/filling.rt:169:17
 same-length-6 : tie.Need-same-length-6 Inv-loop μ-loop
 same-length-6 c = search needs
 
--- src/filling.rt:169:17
 returns-3 : tie.Need-returns-3 Inv-loop μ-loop
 returns-3 c =
     let at-turn = at-loop (c .before .before) in
     fills-finished _ _ _ _ _ _ _ _ _ _ _ (at-turn .loop .inv .0) (at-turn .loop .inv .2) (roomy (c .before .before)) (at-turn .loop .inv .3)
     (at-turn .loop .inv .1) _ _ _ (promise (c .before .before) (c .enum-told .given .1)) refl refl refl
 
--- src/filling.rt:171:18
 stopped-requires-3 : tie.Need-stopped-requires-3 Inv-loop μ-loop
 stopped-requires-3 c κs = search needs
 
--- src/filling.rt:171:18
 same-length-7 : tie.Need-same-length-7 Inv-loop μ-loop
 same-length-7 c = search needs
 
--- src/filling.rt:171:18
 same-length-8 : tie.Need-same-length-8 Inv-loop μ-loop
 same-length-8 c = search needs
 
--- src/filling.rt:171:18
 returns-4 : tie.Need-returns-4 Inv-loop μ-loop
 returns-4 c =
     let at = c .before .before in
@@ -203,19 +179,15 @@ returns-4 c =
     (c .stopped3 .result) _ (others (at-step at .step .result) (c .before .match .keys3)) _ (at-step at .step .ensures) (c .stopped3 .ensures .0)
     (c .stopped3 .ensures .1) (c .stopped3 .ensures .2)
 
--- src/filling.rt:177:15
 cells-left-requires : tie.Need-cells-left-requires Inv-loop μ-loop
 cells-left-requires c κs = search needs
 
--- src/filling.rt:142:1
 same-length-9 : tie.Need-same-length-9 Inv-loop μ-loop
 same-length-9 c = search needs
 
--- src/filling.rt:142:1
 same-length-10 : tie.Need-same-length-10 Inv-loop μ-loop
 same-length-10 c = search needs
 
--- src/filling.rt:142:1
 returns-5 : tie.Need-returns-5 Inv-loop μ-loop
 returns-5 c =
     let at-turn = c .before .before .before in

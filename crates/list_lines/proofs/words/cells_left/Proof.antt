@@ -61,41 +61,32 @@ module _ (h h′ : ℕ) (e : h ≡ h′) (few : h ≤ hitLimit) where
   unfolding cellCount
   count-is = let s : h + 1 ≡ suc h = omega arith in ap (λ (n : ℕ). h * n / 2) s ∙ ap (λ (n : ℕ). n * suc n / 2) e
 
--- src/filling.rt:44:9
 returns : tie.Need-returns
 returns c = short (c .before .before .args .work .now) (c .if1 .taken)
 
--- src/filling.rt:46:18
 shared-slice-read-wide : tie.Need-shared-slice-read-wide
 shared-slice-read-wide c = search needs
 
--- src/filling.rt:46:9
 wide-requires : tie.Need-wide-requires
 wide-requires c κs = search needs
 
--- src/filling.rt:48:9
 returns-2 : tie.Need-returns-2
 returns-2 c =
     many (entry (c .before) .args .work .now) (c .before .before .before .if1 .left)
     (omega (arith, c .before .wide .ensures .0, c .if2 .taken))
 
--- src/filling.rt:50:22
 add-cells : tie.Need-add-cells
 add-cells c = search needs
 
--- src/filling.rt:50:17
 mul-cells : tie.Need-mul-cells
 mul-cells c = omega (arith, product (c .before .wide .result) _ (c .before .wide .ensures .0) (c .if2 .left))
 
--- src/filling.rt:51:23
 shared-slice-read-wide-2 : tie.Need-shared-slice-read-wide-2
 shared-slice-read-wide-2 c = search needs
 
--- src/filling.rt:51:9
 wide-requires-2 : tie.Need-wide-requires-2
 wide-requires-2 c κs = search needs
 
--- src/filling.rt:53:9
 returns-3 : tie.Need-returns-3
 returns-3 c =
     let at-wide = at-wide-place (c .before) in
@@ -106,7 +97,6 @@ returns-3 c =
     let passed : c .before .wide2 .result ≡ getD work passedAt 0 = c .before .wide2 .ensures .0 in
     over work (at-wide .before .before .if1 .left) few (omega (arith, c .if3 .taken))
 
--- src/filling.rt:55:6
 add-result : tie.Need-add-result
 add-result c =
     let at-wide = at-wide-place (c .before) in
@@ -117,7 +107,6 @@ add-result c =
     let passed : c .before .wide2 .result ≡ getD work passedAt 0 = c .before .wide2 .ensures .0 in
     let most : cellCount (getD work hitsAt 0) ≤ cellLimit = few-cells (getD work hitsAt 0) few in omega arith
 
--- src/filling.rt:55:5
 cast-result : tie.Need-cast-result
 cast-result c =
     let at-wide = at-wide-place (c .before) in
@@ -128,7 +117,6 @@ cast-result c =
     let passed : c .before .wide2 .result ≡ getD work passedAt 0 = c .before .wide2 .ensures .0 in
     let most : cellCount (getD work hitsAt 0) ≤ cellLimit = few-cells (getD work hitsAt 0) few in omega arith
 
--- src/filling.rt:40:1
 returns-4 : tie.Need-returns-4
 returns-4 c =
     let at-wide = at-wide-place (c .before) in

@@ -5,15 +5,12 @@ use borrow.Author.Needs.{needs}
 use Rattle.list_lines.proofs.words.cells_passed.Statement.{statement}
 use Rattle.list_lines.proofs.words.cells_passed.Tie as tie
 
--- src/filling.rt:63:9
 returns : tie.Need-returns
 returns c = sym (List·getD-eq-default (c .before .args .work .now) 0 (c .if1 .taken))
 
--- src/filling.rt:65:5
 shared-slice-read-result : tie.Need-shared-slice-read-result
 shared-slice-read-result c = search needs
 
--- src/filling.rt:59:1
 returns-2 : tie.Need-returns-2
 returns-2 c = search needs
 

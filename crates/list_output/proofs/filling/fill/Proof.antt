@@ -13,13 +13,19 @@ abbrev ahead : tie.After-cells-left2 → tie.After-cells-left
 ahead c = c .before .before
 
 abbrev in-forward : tie.After-slice-known5 → tie.After-fill-lines
-in-forward c = c .before .before .before .before
+in-forward c = lent c .before
+  where
+    lent : tie.After-slice-known5 → tie.After-forward
+    lent d = d .before .before .before
 
 abbrev to-forward : tie.After-fill-lines → tie.Then3
 to-forward c = c .before .before .before
 
 abbrev in-reverse : tie.After-slice-known7 → tie.After-fill-lines2
-in-reverse c = c .before .before .before .before
+in-reverse c = lent c .before
+  where
+    lent : tie.After-slice-known7 → tie.After-reverse
+    lent d = d .before .before .before
 
 abbrev to-reverse : tie.After-fill-lines2 → tie.Then4
 to-reverse c = c .before .before .before

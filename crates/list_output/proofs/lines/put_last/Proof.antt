@@ -88,72 +88,55 @@ module _ (c : tie.After-put-byte) where
       let h : length printed ≤ 64 = short in
       omega arith
 
--- src/lines.rt:38:27
 slice-aggregate-put-bytes : tie.Need-slice-aggregate-put-bytes
 slice-aggregate-put-bytes c = search needs
 
--- src/lines.rt:38:41
 slice-aggregate-put-bytes-2 : tie.Need-slice-aggregate-put-bytes-2
 slice-aggregate-put-bytes-2 c = search needs
 
--- src/lines.rt:38:9
 put-bytes-requires : tie.Need-put-bytes-requires
 put-bytes-requires c κs = search needs
 
--- src/lines.rt:39:21
 slice-aggregate-put-decimal : tie.Need-slice-aggregate-put-decimal
 slice-aggregate-put-decimal c = search needs
 
--- src/lines.rt:39:5
 put-decimal-requires : tie.Need-put-decimal-requires
 put-decimal-requires c κs = search needs
 
--- src/lines.rt:40:19
 slice-aggregate-put-bytes-3 : tie.Need-slice-aggregate-put-bytes-3
 slice-aggregate-put-bytes-3 c = search needs
 
--- src/lines.rt:40:33
 slice-aggregate-put-bytes-4 : tie.Need-slice-aggregate-put-bytes-4
 slice-aggregate-put-bytes-4 c = search needs
 
--- src/lines.rt:40:5
 put-bytes-requires-2 : tie.Need-put-bytes-requires-2
 put-bytes-requires-2 c κs = search needs
 
--- src/lines.rt:41:21
 slice-aggregate-put-decimal-2 : tie.Need-slice-aggregate-put-decimal-2
 slice-aggregate-put-decimal-2 c = search needs
 
--- src/lines.rt:41:5
 put-decimal-requires-2 : tie.Need-put-decimal-requires-2
 put-decimal-requires-2 c κs = search needs
 
--- src/lines.rt:42:18
 slice-aggregate-put-byte : tie.Need-slice-aggregate-put-byte
 slice-aggregate-put-byte c = search needs
 
--- src/lines.rt:42:5
 put-byte-requires : tie.Need-put-byte-requires
 put-byte-requires c κs = search needs
 
--- src/lines.rt:43:24
 array-share-prefix-text : tie.Need-array-share-prefix-text
 array-share-prefix-text c = inside (c .before .before)
 
--- src/lines.rt:43:24
 slice-aggregate-put-bytes-5 : tie.Need-slice-aggregate-put-bytes-5
 slice-aggregate-put-bytes-5 c =
     let at-line = c .before .before .before in sym (length-take-le (at-line .put-byte .result) (at-line .put-byte .last .0) (inside at-line))
 
--- src/lines.rt:43:5
 put-bytes-requires-3 : tie.Need-put-bytes-requires-3
 put-bytes-requires-3 c κs = search needs
 
--- src/lines.rt:34:1
 same-length : tie.Need-same-length
 same-length c = search needs
 
--- src/lines.rt:34:1
 returns : tie.Need-returns
 returns c =
     let at-line = at-put-byte c in same-bytes (start-part (text-is at-line) (short at-line))

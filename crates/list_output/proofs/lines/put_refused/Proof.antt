@@ -63,52 +63,40 @@ module _ (c : tie.After-put-byte) where
       let h : length printed ≤ 32 = short in
       omega arith
 
--- src/lines.rt:28:27
 slice-aggregate-put-bytes : tie.Need-slice-aggregate-put-bytes
 slice-aggregate-put-bytes c = search needs
 
--- src/lines.rt:28:41
 slice-aggregate-put-bytes-2 : tie.Need-slice-aggregate-put-bytes-2
 slice-aggregate-put-bytes-2 c = search needs
 
--- src/lines.rt:28:9
 put-bytes-requires : tie.Need-put-bytes-requires
 put-bytes-requires c κs = search needs
 
--- src/lines.rt:29:21
 slice-aggregate-put-decimal : tie.Need-slice-aggregate-put-decimal
 slice-aggregate-put-decimal c = search needs
 
--- src/lines.rt:29:5
 put-decimal-requires : tie.Need-put-decimal-requires
 put-decimal-requires c κs = search needs
 
--- src/lines.rt:30:18
 slice-aggregate-put-byte : tie.Need-slice-aggregate-put-byte
 slice-aggregate-put-byte c = search needs
 
--- src/lines.rt:30:5
 put-byte-requires : tie.Need-put-byte-requires
 put-byte-requires c κs = search needs
 
--- src/lines.rt:31:24
 array-share-prefix-text : tie.Need-array-share-prefix-text
 array-share-prefix-text c = inside (c .before .before)
 
--- src/lines.rt:31:24
 slice-aggregate-put-bytes-3 : tie.Need-slice-aggregate-put-bytes-3
 slice-aggregate-put-bytes-3 c =
     let at-line = c .before .before .before in sym (length-take-le (at-line .put-byte .result) (at-line .put-byte .last .0) (inside at-line))
 
--- src/lines.rt:31:5
 put-bytes-requires-2 : tie.Need-put-bytes-requires-2
 put-bytes-requires-2 c κs = search needs
 
--- src/lines.rt:24:1
 same-length : tie.Need-same-length
 same-length c = search needs
 
--- src/lines.rt:24:1
 returns : tie.Need-returns
 returns c =
     let at-line = at-put-byte c in same-bytes (start-part (text-is at-line) (short at-line))
