@@ -1,7 +1,7 @@
 -- Demand 3 of a two-strand run, and what its list is when both sessions have finished.
 use Prim.Native.Nat.{ℕ, zero, suc, _≤_, zero-le}
 use native.Mathlib.Omega.{arith}
-use mathlib.Core.Path.{_≡_, refl, sym, subst}
+use mathlib.Core.Path.{_≡_, refl, sym, _∙_, subst}
 use mathlib.Core.List.{List, [], _∷_}
 use lib.ListN.{take}
 use Rattle.mappings.specs.Score.{Task}
@@ -9,17 +9,17 @@ use Rattle.mappings.specs.Cells.{cellsOf}
 use Rattle.mappings.specs.Rule.{Answer, Step, passed, handedOut}
 use Rattle.mappings.specs.Demand.{FinalsAmong, HasFinished, Demanded}
 use Rattle.mappings.proofs.Rule.{total}
-use Rattle.mappings.proofs.Finals.{finals-among}
+use Rattle.mappings.proofs.Finals.{finals-among, finals-list}
 use Rattle.mappings.proofs.Demanded.{demanded-all, demanded-last}
 use Rattle.strands.specs.declared.Strand.{Strand}
 use Rattle.strands.specs.Strands.{readOn}
 use Rattle.requests.specs.declared.Settings.{Settings}
 use Rattle.requests.specs.Strands.{taskOn}
 use Rattle.mapper.proofs.Demand3.{demand3}
-use Rattle.two_strands.specs.TwoStrands.{Session, RunsBoth, Demand3Both, listOf, ListsFinals}
+use Rattle.two_strands.specs.TwoStrands.{StrandSession, RunsBoth, Demand3Both, Listed, forwardFirst, runList, ListsFinals}
 
 -- for every accepted text and read, k, w, c, weights and threshold, and any two lists of steps, one for each strand's session
-pub demand3-both : (settings : Settings) (text read : List ℕ) (sessions : Strand → Session) → RunsBoth settings text read sessions
+pub demand3-both : (settings : Settings) (text read : List ℕ) (sessions : Strand → StrandSession) → RunsBoth settings text read sessions
     → Demand3Both settings text read sessions
 demand3-both settings text read sessions runs strand =
     let x = sessions strand in
@@ -43,8 +43,8 @@ all-handed task {steps} {given} demanded (n, inside, finished) =
     subst (FinalsAmong task (cellsOf task)) (sym (demanded-all task demanded all)) (finals-among task (cellsOf task))
 
 -- when both strands have finished, the list of the run is that of exactly the final mappings of both, the forward read's first
-pub lists-finals : (settings : Settings) (text read : List ℕ) (sessions : Strand → Session) → RunsBoth settings text read sessions
-    → ((strand : Strand) → HasFinished (sessions strand .steps) (sessions strand .answers)) → ListsFinals settings text read (listOf sessions)
+pub lists-finals : (settings : Settings) (text read : List ℕ) (sessions : Strand → StrandSession) → RunsBoth settings text read sessions
+    → ((strand : Strand) → HasFinished (sessions strand .steps) (sessions strand .answers)) → ListsFinals settings text read (runList sessions)
 lists-finals settings text read sessions runs finished =
     record {
       mappings = λ strand. handedOut (sessions strand .answers);
@@ -52,3 +52,13 @@ lists-finals settings text read sessions runs finished =
           λ strand. all-handed (taskOn settings text read strand) (demand3-both settings text read sessions runs strand .demanded) (finished strand);
       listed = refl;
     }
+
+-- the statement leaves one list alone
+pub one-list : (settings : Settings) (text read : List ℕ) {one other : List Listed} → ListsFinals settings text read one
+    → ListsFinals settings text read other → one ≡ other
+one-list settings text read p q =
+    let same : (strand : Strand) → p .mappings strand ≡ q .mappings strand =
+    λ strand.
+    finals-list (taskOn settings text read strand) (p .exact strand) ∙ sym (finals-list (taskOn settings text read strand) (q .exact strand))
+    in
+    p .listed ∙ (λ i. forwardFirst (λ strand. same strand i)) ∙ sym (q .listed)

@@ -18,7 +18,7 @@ use Rattle.session_start.specs.Start.{badWeights, startReply, startWords}
 use Rattle.mapper.specs.Sessions.{AllAccept}
 use Rattle.mapper.specs.Sessions.{textCodes, textPositions, readCodes, readPositions, struckCodes, patternCodes, startTask}
 use Rattle.mapper.proofs.Witness.{asked, text, read, buffers, all-accept, runs}
-use Rattle.two_strands.specs.TwoStrands.{Session, RunsBoth, Demand3Both}
+use Rattle.two_strands.specs.TwoStrands.{StrandSession, RunsBoth, Demand3Both}
 use Rattle.two_strands.proofs.Demand3.{demand3-both}
 
 -- CGT, the complement of ACG
@@ -55,7 +55,7 @@ module _ (steps : Strand → List Step) where
   abbrev begun : List ℕ → List ℕ
   begun letters = startWords (startTask asked text letters buffers 4 3 4 3) (buffers .work)
 
-  abbrev session : ℕ → List ℕ → Strand → Session
+  abbrev session : ℕ → List ℕ → Strand → StrandSession
   session h letters strand =
       record {
         lent = buffers;
@@ -69,7 +69,7 @@ module _ (steps : Strand → List Step) where
         states = runs (begun letters) (steps strand) .1;
       }
 
-  abbrev pub sessions : Strand → Session
+  abbrev pub sessions : Strand → StrandSession
   sessions Forward = session 4 read Forward
   sessions Reverse = session 2 back Reverse
 

@@ -16,7 +16,7 @@ use Rattle.mapper.specs.Sessions.{Lent, startTask, AllAccept, Ran, Demand3}
 
 -- a strand's session: what its lent buffers held before, the entries of both sketches, those of them that are kept, and the hits, as its calls answered
 -- them; its steps, their answers, and the work words after each
-pub record Session : Type 0 where
+pub record StrandSession : Type 0 where
   pub lent : Lent
   pub n : ℕ
   pub m : ℕ
@@ -28,20 +28,20 @@ pub record Session : Type 0 where
   pub states : List (List ℕ)
 
 -- the work words of the fresh session, as start leaves them for this read
-abbrev pub fresh : Settings → List ℕ → List ℕ → Session → List ℕ
+abbrev pub fresh : Settings → List ℕ → List ℕ → StrandSession → List ℕ
 fresh settings text read x = startWords (startTask settings text read (x .lent) (x .n) (x .m) (x .s) (x .r)) (x .lent .work)
 
 -- sketch, both strikes and start accept this read, and each step keeps its promise on the words of the fresh session or of the step before it
-pub record Runs (settings : Settings) (text read : List ℕ) (x : Session) : Type 0 where
+pub record RunsOn (settings : Settings) (text read : List ℕ) (x : StrandSession) : Type 0 where
   pub accepts : AllAccept settings text read (x .lent) (x .n) (x .m) (x .s) (x .r) (x .h)
   pub ran : Ran (fresh settings text read x) (x .steps) (x .answers) (x .states)
 
 -- a two-strand run: the session of each strand runs on the read as that strand has it
-abbrev pub RunsBoth : Settings → List ℕ → List ℕ → (Strand → Session) → Type 0
-RunsBoth settings text read sessions = (strand : Strand) → Runs settings text (readOn strand read) (sessions strand)
+abbrev pub RunsBoth : Settings → List ℕ → List ℕ → (Strand → StrandSession) → Type 0
+RunsBoth settings text read sessions = (strand : Strand) → RunsOn settings text (readOn strand read) (sessions strand)
 
 -- demand 3 of both: over the sketches of the read and of its complement, each struck by the counts of the text's
-abbrev pub Demand3Both : Settings → List ℕ → List ℕ → (Strand → Session) → Type 0
+abbrev pub Demand3Both : Settings → List ℕ → List ℕ → (Strand → StrandSession) → Type 0
 Demand3Both settings text read sessions =
     (strand : Strand)
     → Demand3 (taskOn settings text read strand) (fresh settings text (readOn strand read) (sessions strand)) (sessions strand .steps)
@@ -59,8 +59,8 @@ forwardFirst mappings =
     ++ map (λ (mapping : Mapping). record { strand = Reverse; mapping = mapping }) (mappings Reverse)
 
 -- the list of a run: the mappings handed out
-abbrev pub listOf : (Strand → Session) → List Listed
-listOf sessions = forwardFirst (λ (strand : Strand). handedOut (sessions strand .answers))
+abbrev pub runList : (Strand → StrandSession) → List Listed
+runList sessions = forwardFirst (λ (strand : Strand). handedOut (sessions strand .answers))
 
 -- the list is that of exactly the final mappings of both strands, in the order of each strand's cells
 pub record ListsFinals (settings : Settings) (text read : List ℕ) (list : List Listed) : Type 0 where
