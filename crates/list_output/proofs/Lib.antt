@@ -1,10 +1,7 @@
--- Laws of what `maplist` prints, and examples that compute.
-pub mod Compute
-pub mod Cases
+-- Laws of the pieces in which the output is printed.
 pub mod Threshold
 pub mod OpenedSession
 pub mod FirstPiece
 pub mod Turns
 pub mod Next
-pub mod Printed
 pub mod Whole

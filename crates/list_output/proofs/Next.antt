@@ -27,7 +27,7 @@ use Rattle.list_lines.proofs.Left.{few-cells}
 use Rattle.list_lines.proofs.Rest.{all-passed}
 use Rattle.list_lines.proofs.Going.{session-left}
 use Rattle.list_lines.proofs.Belonging.{went}
-use Rattle.list_output.specs.Output.{lastLine, outputOf}
+use Rattle.list_printed.specs.Output.{lastLine, outputOf}
 use Rattle.list_output.specs.Filling.{Part, FillsRun}
 use Rattle.list_output.specs.Whole.{InHand, Printing}
 use Rattle.list_output.proofs.Turns.{with-other}

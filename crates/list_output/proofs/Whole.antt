@@ -34,7 +34,7 @@ use Rattle.list_sessions.specs.Calls.{strandsReply}
 use Rattle.list_sessions.specs.Sessions.{sessionsBy, sessionsOf, placesAfter, forwardAfter, reverseAfter}
 use Rattle.list_sessions.specs.declared.Sessions.{Sessions}
 use Rattle.list_sessions.specs.declared.Sessions.the-variants.{Malformed, Refused, Both}
-use Rattle.list_output.specs.Output.{headerLine, lastLine, finalCells, strandLines, foundOn, cellsOn, unlessRefused, listOf, printedFor, outputOf}
+use Rattle.list_printed.specs.Output.{headerLine, lastLine, finalCells, strandLines, foundOn, cellsOn, unlessRefused, listOf, printedFor, outputOf}
 use Rattle.list_output.specs.Beginning.{firstLine, BeginsWith, Begins}
 use Rattle.list_output.specs.Whole.{Further, no-more, one-more, Run, InHand, restOf}
 use Rattle.list_output.specs.declared.beginning.Begun.{Begun}

@@ -9,7 +9,7 @@ use Rattle.list_lines.specs.Pieces.{cellsLeft}
 use Rattle.list_sessions.specs.Sessions.{sessionsOf, placesAfter, forwardAfter, reverseAfter}
 use Rattle.list_sessions.specs.declared.Sessions.{Sessions}
 use Rattle.list_sessions.specs.declared.Sessions.the-variants.{Malformed, Refused, Both}
-use Rattle.list_output.specs.Output.{headerLine, malformedLine, refusedLine}
+use Rattle.list_printed.specs.Output.{headerLine, malformedLine, refusedLine}
 use Rattle.list_output.specs.declared.beginning.Begun.{Begun}
 
 abbrev pub firstLine : Sessions → List ℕ

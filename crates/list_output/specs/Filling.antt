@@ -12,7 +12,7 @@ use Rattle.strands.specs.declared.Strand.the-variants.{Forward, Reverse}
 use Rattle.list_line.specs.Writing.{Written}
 use Rattle.list_lines.specs.Pieces.{cellsLeft, Fills}
 use Rattle.list_lines.specs.declared.filling.Filled.{Filled}
-use Rattle.list_output.specs.Output.{lastLine}
+use Rattle.list_printed.specs.Output.{lastLine}
 
 -- what is left with so many of the other session: nothing, where nothing can follow in the session in hand
 abbrev pub leftWith : ℕ → ℕ → ℕ

@@ -12,7 +12,7 @@ use Rattle.strands.specs.declared.Strand.the-variants.{Forward, Reverse}
 use Rattle.list_input.specs.Input.{inputLimit}
 use Rattle.list_lines.specs.Pieces.{lineRoom, finalsAfter, linesAfter, Belongs}
 use Rattle.list_lines.specs.declared.filling.Filled.{Filled}
-use Rattle.list_output.specs.Output.{lastLine, outputOf}
+use Rattle.list_printed.specs.Output.{lastLine, outputOf}
 use Rattle.list_output.specs.Beginning.{Begins}
 use Rattle.list_output.specs.Filling.{FillsRun}
 use Rattle.list_output.specs.declared.beginning.Begun.{Begun}

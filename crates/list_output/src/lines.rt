@@ -4,7 +4,7 @@ use list_line::writing::put_byte;
 use list_line::writing::put_bytes;
 use list_line::writing::put_decimal;
 ghost use Rattle.list_line.specs.Writing.{Written};
-ghost use Rattle.list_output.specs.Output.{headerLine, lastLine, malformedLine, refusedLine};
+ghost use Rattle.list_printed.specs.Output.{headerLine, lastLine, malformedLine, refusedLine};
 
 pub fn put_header(out: &mut [u8], at: usize) -> usize
     ensures { λ r. ⌜ Written headerLine at (now (out .entry)) (now (out .exit)) r ⌝ }

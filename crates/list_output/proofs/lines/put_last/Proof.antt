@@ -10,7 +10,7 @@ use Rattle.list_line.specs.Line.{decimal}
 use Rattle.list_line.specs.Writing.{Written}
 use Rattle.list_line.proofs.Buffers.{joined, same-bytes, start-index, start-part, start-length}
 use Rattle.list_line.proofs.Decimal.{length-decimal}
-use Rattle.list_output.specs.Output.{lastLine}
+use Rattle.list_printed.specs.Output.{lastLine}
 use borrow.Author.Needs.{needs}
 use Rattle.list_output.proofs.lines.put_last.Statement.{statement}
 use Rattle.list_output.proofs.lines.put_last.Tie as tie

@@ -22,8 +22,8 @@ use Rattle.requests.specs.Strands.{taskOn}
 use Rattle.list_input.specs.Input.{given, inputOf}
 use Rattle.list_sessions.specs.Calls.{strandsReply}
 use Rattle.list_lines.specs.Lines.{mappingLines}
-use Rattle.list_output.specs.Output.{headerLine, lastLine, finalCells, strandLines, foundOn, cellsOn, listOf, printedFor, unlessRefused, outputOf}
-use Rattle.list_output.specs.Printed.{PrintsFinals}
+use Rattle.list_printed.specs.Output.{headerLine, lastLine, finalCells, strandLines, foundOn, cellsOn, listOf, printedFor, unlessRefused, outputOf}
+use Rattle.list_printed.specs.Printed.{PrintsFinals}
 
 module _ (s : Settings) (text read : List ℕ) where
   abbrev task : Strand → Task

@@ -14,7 +14,7 @@ use Rattle.requests.specs.declared.Settings.{Settings}
 use Rattle.requests.specs.Requests.{textOf, patternOf}
 use Rattle.requests.specs.Strands.{taskOn}
 use Rattle.list_lines.specs.Lines.{mappingLines}
-use Rattle.list_output.specs.Output.{headerLine, lastLine}
+use Rattle.list_printed.specs.Output.{headerLine, lastLine}
 
 -- the header, the lines of exactly the final mappings of the read, then those of its reverse complement, and the last line
 pub record PrintsFinals (s : Settings) (text read output : List ℕ) : Type 0 where

@@ -9,7 +9,7 @@ use Rattle.session_start.specs.Start.{badWeights, startReply}
 use Rattle.list_open.specs.Calls.{sketchesReply, strikingReply, patternReply, callsReply}
 use Rattle.list_sessions.specs.Calls.{strandsReply}
 use Rattle.list_lines.specs.Lines.{mappingLine}
-use Rattle.list_output.specs.Output.{finalCells, lastLine, strandLines, listOf, outputOf}
+use Rattle.list_printed.specs.Output.{finalCells, lastLine, strandLines, listOf, outputOf}
 
 unfoldable pub list-output-computes : Unit {0}
 unfolding strike-computes mappings-compute list-line-computes list-input-computes badWeights startReply textOf patternOf taskOf sketchesReply strikingReply

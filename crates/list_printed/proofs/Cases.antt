@@ -3,8 +3,8 @@ use mathlib.Core.Path.{_≡_, refl}
 use mathlib.Core.List.{[], _∷_}
 use Rattle.base.specs.Bytes.{asBytes}
 use Rattle.base.specs.Replies.{refused}
-use Rattle.list_output.specs.Output.{unlessRefused, outputOf}
-use Rattle.list_output.proofs.Compute.{list-output-computes}
+use Rattle.list_printed.specs.Output.{unlessRefused, outputOf}
+use Rattle.list_printed.proofs.Compute.{list-output-computes}
 
 pub example : outputOf (asBytes "1 1 100 1 1 1\nACAG\nACG\n") ≡ asBytes "first last score shared permille strand\n1 3 3 3 1000 +\nfound 1 cells 13\n"
 unfolding list-output-computes

@@ -1,0 +1,1 @@
+// What `maplist` prints: definitions, theorems and examples, no code.
