@@ -65,6 +65,17 @@ pub fn expect(case: &str, input: &[u8], printed: &Output, expected: &[u8]) {
     );
 }
 
+/// Holds the reference and the program to an output that is written out in a test.
+pub fn hold(input: &[u8], expected: &str) {
+    assert_eq!(String::from_utf8_lossy(&output(input)), expected, "{}", input.escape_ascii());
+    expect("an output", input, &run_on(input), expected.as_bytes());
+}
+
+/// An output with these lines behind the header.
+pub fn listed(lines: &str) -> String {
+    format!("first last score shared permille strand\n{lines}\n")
+}
+
 /// Runs the program on the case of each seed, and hands on what agrees with the reference.
 pub fn sweep(seeds: Range<u64>, case: impl Fn(u64) -> Vec<u8>, mut meet: impl FnMut(&[u8])) {
     for seed in seeds {

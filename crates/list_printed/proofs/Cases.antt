@@ -1,19 +1,22 @@
 -- Document 01's example of what `maplist` prints, with the strand that document 02 adds, and further ones: all are computed.
 use mathlib.Core.Path.{_≡_, refl}
 use mathlib.Core.List.{[], _∷_}
+use lib.IntN.{pos}
 use Rattle.base.specs.Bytes.{asBytes}
 use Rattle.base.specs.Replies.{refused}
+use Rattle.requests.specs.declared.Settings.{Settings}
+use Rattle.list_sessions.specs.Calls.{strandsReply}
 use Rattle.list_printed.specs.Output.{unlessRefused, outputOf}
-use Rattle.list_printed.proofs.Compute.{list-output-computes}
+use Rattle.list_printed.proofs.Compute.{list-printed-computes}
 
 pub example : outputOf (asBytes "1 1 100 1 1 1\nACAG\nACG\n") ≡ asBytes "first last score shared permille strand\n1 3 3 3 1000 +\nfound 1 cells 13\n"
-unfolding list-output-computes
+unfolding list-printed-computes
 example = refl
 
 -- it is another with the text or the read not struck, with u and v or k and w exchanged, and with a last letter that is the k-mer's first
 pub second : outputOf (asBytes "3 2 1 2 1 -3\nCCTACGAGGTAC\nTTACTAC\n")
     ≡ asBytes "first last score shared permille strand\n1 3 2 1 1000 +\nfound 1 cells 1\n"
-unfolding list-output-computes
+unfolding list-printed-computes
 second = refl
 
 -- A occurs three times in the text: with c 2 it leaves text and read, and C and G of the read are found. Were it to stay in the read, or
@@ -24,7 +27,7 @@ pub record Striking : Type 0 where
       ≡ asBytes "first last score shared permille strand\n1 4 4 4 1000 +\n0 3 4 4 1000 +\nfound 2 cells 18\n"
 
 pub striking : Striking
-unfolding list-output-computes
+unfolding list-printed-computes
 striking = record { struck = refl; kept = refl }
 
 -- one of 16 k-mers and three of 16: 62.5 and 187.5, each printed as the even number beside it
@@ -35,7 +38,7 @@ pub record Halves : Type 0 where
       ≡ asBytes "first last score shared permille strand\n0 2 -10 3 188 +\nfound 1 cells 6\n"
 
 pub halves : Halves
-unfolding list-output-computes
+unfolding list-printed-computes
 halves = record { one-of-16 = refl; three-of-16 = refl }
 
 -- the other strand
@@ -54,8 +57,25 @@ pub record Strands : Type 0 where
       ≡ asBytes "first last score shared permille strand\n2 4 2 2 1000 -\nfound 1 cells 4\n"
 
 pub strands : Strands
-unfolding list-output-computes
+unfolding list-printed-computes
 strands = record { both = refl; reversed = refl; palindrome = refl; other-letters = refl }
+
+-- k 1, w 1, c 1, u 1, v 1, threshold 1
+abbrev asked : Settings
+asked = record { k = 1; w = 1; c = 1; u = 1; v = 1; threshold = pos 1 }
+
+-- where both strands are refused with different numbers, it is the forward read's: 10 where a session has no work words, 9 where a read is emptied
+pub record BothRefused : Type 0 where
+  -- T is struck from TT and empties the complement of A; the read itself has no work words
+  pub forward-words : strandsReply asked (asBytes "TT") (asBytes "A") 4096 0 16384 ≡ refused 10 []
+  -- A is struck from AA and empties the read; its complement has no work words
+  pub forward-emptied : strandsReply asked (asBytes "AA") (asBytes "A") 4096 16384 0 ≡ refused 9 []
+  -- the complement's, where the read is accepted
+  pub complement-words : strandsReply asked (asBytes "AC") (asBytes "A") 4096 16384 0 ≡ refused 10 []
+
+pub both-refused : BothRefused
+unfolding list-printed-computes
+both-refused = record { forward-words = refl; forward-emptied = refl; complement-words = refl }
 
 -- what is printed instead of a list
 pub record Refusals : Type 0 where
@@ -76,7 +96,7 @@ pub record Refusals : Type 0 where
   pub number-alone : unlessRefused (refused 11 (2049 ∷ [])) [] ≡ asBytes "refused 11\n"
 
 pub refusals : Refusals
-unfolding list-output-computes
+unfolding list-printed-computes
 refusals =
     record {
       no-line = refl;

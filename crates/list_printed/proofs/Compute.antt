@@ -11,7 +11,7 @@ use Rattle.list_sessions.specs.Calls.{strandsReply}
 use Rattle.list_lines.specs.Lines.{mappingLine}
 use Rattle.list_printed.specs.Output.{finalCells, lastLine, strandLines, listOf, outputOf}
 
-unfoldable pub list-output-computes : Unit {0}
+unfoldable pub list-printed-computes : Unit {0}
 unfolding strike-computes mappings-compute list-line-computes list-input-computes badWeights startReply textOf patternOf taskOf sketchesReply strikingReply
     patternReply callsReply strandsReply strands-compute mappingLine finalCells lastLine strandLines listOf outputOf
-list-output-computes = tt
+list-printed-computes = tt

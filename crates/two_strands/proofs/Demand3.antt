@@ -23,7 +23,8 @@ pub demand3-both : (settings : Settings) (text read : List ℕ) (sessions : Stra
     → Demand3Both settings text read sessions
 demand3-both settings text read sessions runs strand =
     let x = sessions strand in
-    demand3 settings text (readOn strand read) (x .lent) (x .n) (x .m) (x .s) (x .r) (x .h) (runs strand .accepts) (runs strand .ran)
+    demand3 settings text (readOn strand read) (x .lent) (x .text-entries) (x .read-entries) (x .text-kept) (x .read-kept) (x .hits)
+    (runs strand .accepts) (runs strand .ran)
 
 -- ---- the list
 

@@ -59,11 +59,11 @@ module _ (steps : Strand → List Step) where
   session h letters strand =
       record {
         lent = buffers;
-        n = 4;
-        m = 3;
-        s = 4;
-        r = 3;
-        h = h;
+        text-entries = 4;
+        read-entries = 3;
+        text-kept = 4;
+        read-kept = 3;
+        hits = h;
         steps = steps strand;
         answers = runs (begun letters) (steps strand) .0;
         states = runs (begun letters) (steps strand) .1;

@@ -14,26 +14,27 @@ use Rattle.requests.specs.Strands.{taskOn}
 use Rattle.session_start.specs.Start.{startWords}
 use Rattle.mapper.specs.Sessions.{Lent, startTask, AllAccept, Ran, Demand3}
 
--- a strand's session: what its lent buffers held before, the entries of both sketches, those of them that are kept, and the hits, as its calls answered
--- them; its steps, their answers, and the work words after each
+-- a strand's session: what its lent buffers held before; what its calls answered, the entries of both sketches, those of them that are kept, and the
+-- hits; its steps, their answers, and the work words after each
 pub record StrandSession : Type 0 where
   pub lent : Lent
-  pub n : ℕ
-  pub m : ℕ
-  pub s : ℕ
-  pub r : ℕ
-  pub h : ℕ
+  pub text-entries : ℕ
+  pub read-entries : ℕ
+  pub text-kept : ℕ
+  pub read-kept : ℕ
+  pub hits : ℕ
   pub steps : List Step
   pub answers : List Answer
   pub states : List (List ℕ)
 
 -- the work words of the fresh session, as start leaves them for this read
 abbrev pub fresh : Settings → List ℕ → List ℕ → StrandSession → List ℕ
-fresh settings text read x = startWords (startTask settings text read (x .lent) (x .n) (x .m) (x .s) (x .r)) (x .lent .work)
+fresh settings text read x =
+    startWords (startTask settings text read (x .lent) (x .text-entries) (x .read-entries) (x .text-kept) (x .read-kept)) (x .lent .work)
 
 -- sketch, both strikes and start accept this read, and each step keeps its promise on the words of the fresh session or of the step before it
 pub record RunsOn (settings : Settings) (text read : List ℕ) (x : StrandSession) : Type 0 where
-  pub accepts : AllAccept settings text read (x .lent) (x .n) (x .m) (x .s) (x .r) (x .h)
+  pub accepts : AllAccept settings text read (x .lent) (x .text-entries) (x .read-entries) (x .text-kept) (x .read-kept) (x .hits)
   pub ran : Ran (fresh settings text read x) (x .steps) (x .answers) (x .states)
 
 -- a two-strand run: the session of each strand runs on the read as that strand has it

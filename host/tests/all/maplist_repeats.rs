@@ -3,7 +3,7 @@
 //! Assumes that the program has been built.
 
 use host::cases::{settings, three_lines, through_a_repeat};
-use host::program::{expect, run_on, sweep};
+use host::program::{expect, hold, listed, run_on, sweep};
 use host::random::Random;
 use host::reference::definition1::Mapping;
 use host::reference::faster::finals;
@@ -12,16 +12,6 @@ use host::reference::output::{Prepared, output, prepared, prepared_run};
 use host::reference::score::Task;
 use host::reference::sketch::{codes, sketch};
 use host::reference::strand::Strand;
-
-/// Holds the reference and the program to this list.
-fn hold(input: &[u8], expected: &str) {
-    assert_eq!(String::from_utf8_lossy(&output(input)), expected, "{}", input.escape_ascii());
-    expect("a list", input, &run_on(input), expected.as_bytes());
-}
-
-fn listed(lines: &str) -> String {
-    format!("first last score shared permille strand\n{lines}\n")
-}
 
 /// A three times is struck by c 2, from the text and from the read: |p| is 2, for the score and for the per mille. The complement has no
 /// A, and keeps its entries.

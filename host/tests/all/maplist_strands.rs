@@ -3,23 +3,13 @@
 //! Assumes that the program has been built.
 
 use host::cases::{both_strands, palindrome, settings, three_lines};
-use host::program::{expect, run_on, sweep};
+use host::program::{expect, hold, listed, run_on, sweep};
 use host::random::Random;
 use host::reference::complement::reverse_complement;
 use host::reference::faster::finals;
 use host::reference::input::{Settings, input};
 use host::reference::output::{output, prepared, prepared_run};
 use host::reference::strand::Strand;
-
-/// Holds the reference and the program to this output.
-fn hold(input: &[u8], expected: &str) {
-    assert_eq!(String::from_utf8_lossy(&output(input)), expected, "{}", input.escape_ascii());
-    expect("an output", input, &run_on(input), expected.as_bytes());
-}
-
-fn listed(lines: &str) -> String {
-    format!("first last score shared permille strand\n{lines}\n")
-}
 
 /// The number that refuses the read as each strand has it, 0 where it is accepted.
 fn numbers(bytes: &[u8]) -> [u32; 2] {
