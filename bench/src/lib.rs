@@ -11,6 +11,7 @@ pub mod ours;
 pub mod plain;
 pub mod runs;
 pub mod sessions;
+pub mod sessions_table;
 pub mod signatures;
 pub mod steps;
 pub mod table;

@@ -2,13 +2,10 @@
 
 use crate::jobs::K;
 use crate::ours;
-use crate::plain::{
-    complement, fastest_complement, fastest_sketch, fastest_start, fastest_step, fastest_work, sketch, start, step, strike,
-};
+use crate::plain::{complement, fastest_complement, fastest_sketch, fastest_start, fastest_work, sketch, start, strike};
 use crate::runs::{as_they_are, complement_run, count_run, sketch_run, start_run, strike_read_run, strike_run};
 use crate::sessions::Session;
 use crate::signatures::{Shared, Start, Strike, StrikeRead};
-use crate::steps::{Layout, counted, step_run};
 use crate::table::Line;
 use crate::timing::{ROUNDS, Run, ask_agreement, best_times};
 
@@ -58,26 +55,4 @@ pub fn start_line(session: &Session) -> Line {
     let runs = starts.map(|(start, shared)| start_run(start, shared, text, pattern));
     let job = format!("start, {} text and {} pattern entries", text.len(), pattern.len());
     line(job, text.len(), Some(1.5), runs)
-}
-
-/// All cells of a session by steps of the greatest budget, and by steps of budget 1. All six runs take turns, since the two lines are
-/// compared.
-pub fn step_lines(kind: &str, session: &Session, goal: Option<f64>) -> [Line; 2] {
-    let runs = |budget| {
-        [
-            step_run(ours::start, ours::step(), Layout::Shared, session, budget),
-            step_run(start::start, step::step, Layout::Shared, session, budget),
-            step_run(fastest_start::start, fastest_step::step, Layout::Fastest, session, budget),
-        ]
-    };
-    let passed = counted(start::start, step::step, session);
-    let mut all: Vec<Run> = runs(u32::MAX).into_iter().chain(runs(1)).collect();
-    let best = best_times(&mut all, ROUNDS);
-    ask_agreement(&best[..3]);
-    ask_agreement(&best[3..]);
-    let line = |budget: &str, goal, at: usize| {
-        let job = format!("steps of {budget}, {kind}, {} cells, {} mappings found", passed.cells, passed.found);
-        Line { job, items: passed.cells, goal, ours: best[at], plain: best[at + 1], fastest: best[at + 2] }
-    };
-    [line("the greatest budget", goal, 0), line("budget 1", None, 3)]
 }

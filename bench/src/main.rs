@@ -1,12 +1,12 @@
-//! Times the speed table's jobs and prints the table, a second one that says how costs grow, and the goals that are missed.
+//! Times the speed tables' jobs and prints the tables, and behind them the goals that are missed.
 
 use bench::jobs::{self, LETTERS, LONG_READ, READ, TEXT};
-use bench::lines::{complement_line, count_line, sketch_line, start_line, step_lines, strike_line, strike_read_line};
+use bench::lines::{complement_line, count_line, sketch_line, start_line, strike_line, strike_read_line};
 use bench::plain::{fastest_strike, hash_strike};
-use bench::sessions::{HITS, PATTERN, cluster, random_hits};
+use bench::sessions::{HITS, PATTERN, random_hits};
 use bench::table::Table;
 use bench::timing::ROUNDS;
-use bench::{growth, letters_table, machine};
+use bench::{growth, letters_table, machine, sessions_table};
 
 /// Prints what the first table's columns mean.
 fn print_legend() {
@@ -14,11 +14,22 @@ fn print_legend() {
         "The best processor time of {ROUNDS} runs counts, taken in turn in one process, all built for release, with warm buffers."
     );
     println!("'plain' is plain Rust with the proved function's algorithm, 'fastest' the fastest other plain Rust known to us.");
-    println!("'ns each' is per letter, entry or cell. Letters are random, in one run, k 15. Weights are 3 and 2.");
+    println!("'ns each' is per letter or entry. Letters are random, in one run, k 15. Weights are 3 and 2.");
+    println!("Checksums are of every number, byte, entry and work word made, in one layout.\n");
+}
+
+/// Prints what the sessions' table shows.
+fn print_sessions_legend() {
+    println!("\nSteps over all {} cells of sessions with {HITS} hits, timed as above.", HITS * (HITS + 1) / 2);
     println!(
-        "Checksums are of every number, byte, entry, answer and work word made, in one layout; behind steps the fastest session has"
+        "'former' is plain Rust with the proved step's former algorithm, which looks at every cell. 'ns each' is per cell. The threshold"
     );
-    println!("some words of its own, so that all three are compared without these, and proved and plain in all words.\n");
+    println!(
+        "of clusters and random repeats is a third of the perfect score. Checksums are of every answer and work word; the former and the"
+    );
+    println!(
+        "fastest session have some words of their own, so that all four are compared without these, and proved and plain in all.\n"
+    );
 }
 
 /// Prints what the columns of the letter decision's table mean.
@@ -71,20 +82,6 @@ fn print_strikes(table: &mut Table) {
     }
 }
 
-fn print_sessions(table: &mut Table) {
-    let hits = random_hits(TEXT, PATTERN, HITS, i32::MAX);
-    table.print(&start_line(&hits));
-    let [single, ones] = step_lines("hits at random, threshold out of reach", &hits, Some(1.1));
-    table.print(&single);
-    table.print(&ones);
-    table.print_singles(&single, &ones, 5.0);
-    for (kind, threshold, goal) in [("threshold out of reach", i32::MAX, Some(1.1)), ("lowest threshold", i32::MIN, None)] {
-        for line in step_lines(&format!("cluster, {kind}"), &cluster(HITS, threshold), goal) {
-            table.print(&line);
-        }
-    }
-}
-
 fn main() {
     machine::print();
     print_legend();
@@ -92,7 +89,9 @@ fn main() {
     print_complements(&mut table);
     print_sketches(&mut table);
     print_strikes(&mut table);
-    print_sessions(&mut table);
+    table.print(&start_line(&random_hits(TEXT, PATTERN, HITS, 0)));
+    print_sessions_legend();
+    sessions_table::print_all(&mut table);
     print_letters_legend();
     letters_table::print_all(&mut table);
     println!(

@@ -1,19 +1,34 @@
-//! The sessions of the speed table, made from fixed seeds: hits that stand at random, and a cluster of near copies of one gene.
+//! The sessions of the speed tables, made from fixed seeds: hits that stand at random, clusters of near copies of one gene, and hits
+//! that give all cells one score.
 
-use host::cases::{gene, letters, near_copy};
 use host::random::Random;
-use host::reference::sketch::{codes, sketch};
 
-use crate::jobs::{K, spread};
+use crate::jobs::spread;
+use crate::runs::{U, V};
 
 pub const PATTERN: usize = 4_096;
 pub const HITS: usize = 2_048;
 
-/// The codes of a text and of a pattern, and the threshold.
+/// The codes of a text and of a pattern, the weights, and the threshold.
 pub struct Session {
     pub text: Vec<u32>,
     pub pattern: Vec<u32>,
+    pub u: u32,
+    pub v: u32,
     pub threshold: i32,
+}
+
+impl Session {
+    /// The same with the threshold at a third of the perfect score, u·|p|.
+    pub fn with_third(self) -> Session {
+        let threshold = (self.u as usize * self.pattern.len() / 3) as i32;
+        Session { threshold, ..self }
+    }
+}
+
+/// A code that no pattern has.
+fn foreign(random: &mut Random) -> u32 {
+    spread(1_000_000 + random.below(1 << 28))
 }
 
 /// Codes of a text and of a pattern with exactly so many hits at random. Codes of hits are few enough to repeat in both.
@@ -23,7 +38,7 @@ pub fn random_hits(entries: usize, size: usize, hits: usize, threshold: i32) -> 
     let pattern: Vec<u32> = (0..size)
         .map(|n| if n < kinds { spread(n) } else { spread(if random.once_in(4) { random.below(kinds) } else { 100_000 + n }) })
         .collect();
-    let mut text: Vec<u32> = (0..entries).map(|_| spread(1_000_000 + random.below(1 << 28))).collect();
+    let mut text: Vec<u32> = (0..entries).map(|_| foreign(&mut random)).collect();
     let mut placed = 0;
     let mut is_hit = vec![false; entries];
     while placed < hits {
@@ -34,29 +49,42 @@ pub fn random_hits(entries: usize, size: usize, hits: usize, threshold: i32) -> 
             placed += 1;
         }
     }
-    Session { text, pattern, threshold }
+    Session { text, pattern, u: U, v: V, threshold }
 }
 
-/// Of a cluster: its gene's letters, how many copies are made of it, one letter in how many is changed, and the most letters of a gap.
-const GENE: usize = 3_000;
-const COPIES: usize = 40;
-const RATE: usize = 20;
-const GAP: usize = 600;
-
-/// The sketches of near copies of a gene, some of whose pieces are repeated within it, with gaps between them, and of a read of the
-/// gene. The text ends with so many hits.
-pub fn cluster(hits: usize, threshold: i32) -> Session {
+/// Near copies of a gene with repeats, as entries: so many copies that each keep so many of a hundred entries, and between them gaps
+/// about as long in which one entry in 50 is a stray hit. The text ends with its 2,048th hit. Weights are 1, and the threshold is a third
+/// of the perfect score.
+pub fn cluster(copies: usize, kept: usize) -> Session {
     let mut random = Random::new(5);
-    let gene = gene(&mut random, GENE, b"ACGT");
-    let read = near_copy(&mut random, &gene, RATE, b"ACGT");
-    let mut copies = Vec::new();
-    for _ in 0..COPIES {
-        let gap = random.below(GAP);
-        copies.extend(letters(&mut random, gap, b"ACGT"));
-        copies.extend(near_copy(&mut random, &gene, RATE, b"ACGT"));
+    // a little less than fills the text: stray hits make up the rest
+    let size = HITS * 100 / (copies * (kept + 4));
+    let pattern: Vec<u32> = (0..size).map(|n| spread(if random.once_in(10) { random.below(n + 1) } else { n })).collect();
+    let mut text = Vec::new();
+    for _ in 0..copies {
+        for _ in 0..random.between(size / 2, size * 3 / 2) {
+            text.push(if random.once_in(50) { random.one_of(&pattern) } else { foreign(&mut random) });
+        }
+        text.extend(pattern.iter().map(|&code| if random.below(100) < kept { code } else { foreign(&mut random) }));
     }
-    let (mut text, pattern) = (codes(&sketch(&copies, K, 10)), codes(&sketch(&read, K, 10)));
-    let last = (0..text.len()).filter(|&at| pattern.contains(&text[at])).nth(hits - 1).expect("enough copies");
+    for _ in 0..HITS {
+        text.push(random.one_of(&pattern));
+        text.extend((0..20).map(|_| foreign(&mut random)));
+    }
+    let last =
+        (0..text.len()).filter(|&at| pattern.contains(&text[at])).nth(HITS - 1).expect("a stray hit for each that is missing");
     text.truncate(last + 1);
-    Session { text, pattern, threshold }
+    Session { text, pattern, u: 1, v: 1, threshold: 0 }.with_third()
+}
+
+/// The score of every cell of a flat session with so many hits.
+pub fn flat_score(hits: usize) -> i32 {
+    2 - hits as i32
+}
+
+/// So many hits of one code, which the pattern has as often, at every third entry: a cell gains by each hit what it loses by the two
+/// entries behind it, and both ends are always reasonable. Weights are 1.
+pub fn flat(hits: usize, threshold: i32) -> Session {
+    let text = (0..hits * 3 - 2).map(|at| if at % 3 == 0 { spread(0) } else { spread(1) }).collect();
+    Session { text, pattern: vec![spread(0); hits], u: 1, v: 1, threshold }
 }

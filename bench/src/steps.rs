@@ -1,23 +1,26 @@
 //! Runs of a session's steps, from a fresh session to the last cell.
 
 use std::hint::black_box;
+use std::ops::Range;
 
 use host::calls::Stepped;
 
 use crate::made::{Made, Sum};
-use crate::plain::fastest_work::AGREED;
-use crate::plain::work::WORK_WORDS;
-use crate::runs::{BEFORE, U, V};
+use crate::plain::work::{BACK, BEST, HITS, SHARED, WORK_WORDS};
+use crate::runs::BEFORE;
 use crate::sessions::Session;
 use crate::signatures::Start;
 use crate::timing::{Run, timed};
 
-/// How a session lays out its words: as docs/WORK_WORDS.md, or as the fastest session, which agrees with that only in some.
+/// How a session lays out its words: as docs/WORK_WORDS.md, or in a way of its own, which agrees with that only in some.
 #[derive(Clone, Copy)]
 pub enum Layout {
     Shared,
-    Fastest,
+    Own,
 }
+
+/// The words that every session has as docs/WORK_WORDS.md says.
+pub const AGREED: [Range<usize>; 2] = [HITS..SHARED, BACK..BEST];
 
 /// How many cells were passed, and how many mappings found.
 #[derive(Clone, Copy, Debug, Default, PartialEq, Eq)]
@@ -77,14 +80,14 @@ fn made(mut answers: Sum, work: &[u32], layout: Layout) -> Made {
     }
     let words = match layout {
         Layout::Shared => Some(Sum::of(work.iter().copied())),
-        Layout::Fastest => None,
+        Layout::Own => None,
     };
     Made { all: answers, words }
 }
 
 fn fresh(start: Start, session: &Session) -> Vec<u32> {
     let mut work = vec![BEFORE; WORK_WORDS];
-    let h = start(&session.text, &session.pattern, U, V, session.threshold, &mut work);
+    let h = start(&session.text, &session.pattern, session.u, session.v, session.threshold, &mut work);
     assert!(h >= 0, "an accepted start");
     work
 }

@@ -5,7 +5,7 @@ use crate::timing::Timed;
 /// A job's times: the proved function, plain Rust with the same algorithm, and the fastest plain Rust known to us.
 pub struct Line {
     pub job: String,
-    /// what a time is divided by: so many letters, entries or cells
+    /// what a time is divided by: so many letters or entries
     pub items: usize,
     /// the most that the proved function may take over plain Rust with the same algorithm
     pub goal: Option<f64>,
@@ -71,14 +71,6 @@ impl Table {
             each(line.ours, line.items),
             line.ours.made.shown()
         );
-    }
-
-    /// Prints how often the single step goes into the steps of budget 1 over the same cells, with its goal.
-    pub fn print_singles(&mut self, single: &Line, ones: &Line, goal: f64) {
-        let job = "steps of budget 1 over the single step, both proved";
-        let over = ratio(ones.ours, single.ours);
-        let judged = self.judged(job, over, Some(goal));
-        println!("| {job} | {} | - | {over:.2} times the single step | {judged} | - | - | - | - |", milliseconds(ones.ours));
     }
 
     /// Prints the goals that are missed, or that none is.

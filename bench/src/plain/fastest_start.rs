@@ -1,9 +1,10 @@
 //! Start with an open-addressing table of the pattern's codes in place of the search, for the fastest step.
 
-use super::fastest_work::{HIGHEST, LIFTED, NONE, SEEN};
+use super::fastest_column::put_peak;
+use super::fastest_work::{GROUNDS, LARGE, LARGE_TOPS, LIFTED, SMALL, SMALL_TOPS};
 use super::search::MAX_PATTERN;
 use super::start::{Hits, Settings, put_heading, refusal};
-use super::work::{BACK, BEST, INDEX, MAX_HITS, REACH, WHOLE, WORK_WORDS};
+use super::work::{BACK, BEST, INDEX, MAX_HITS, REACH, Words};
 
 const SLOTS: usize = 1 << 14;
 
@@ -66,12 +67,10 @@ fn collect(text: &[u32], table: &[Slot; SLOTS]) -> Hits {
     hits
 }
 
-/// Writes the blocks of these hits in one pass over them, and returns m of them all. `times` has how often the code at each first
-/// place occurs in p.
-fn put_blocks(hits: &Hits, times: &[u32; MAX_PATTERN], work: &mut [u32; WORK_WORDS]) -> u32 {
+/// Writes the tables of these hits in one pass over them. `times` has how often the code at each first place occurs in p.
+fn put_tables(hits: &Hits, times: &[u32; MAX_PATTERN], work: &mut Words) {
     let h = hits.number;
     let (mut ring, mut met) = ([0u32; MAX_PATTERN], [0u32; MAX_PATTERN]);
-    let mut whole = 0;
     for j in 0..h {
         let first = hits.slots[j] as usize;
         let slot = &mut ring[first + (met[first] % times[first]) as usize];
@@ -80,24 +79,33 @@ fn put_blocks(hits: &Hits, times: &[u32; MAX_PATTERN], work: &mut [u32; WORK_WOR
             work[REACH + *slot as usize] = j as u32;
         }
         work[BACK + j] = if full { *slot + 1 } else { 0 };
-        whole += u32::from(!full);
-        work[WHOLE + j] = whole;
         work[REACH + j] = h as u32;
         work[INDEX + j] = hits.index[j];
-        work[BEST + j] = NONE;
+        work[BEST + j] = 0;
         *slot = j as u32;
         met[first] += 1;
     }
-    whole
 }
 
-/// Writes each row's lifted score in the last column.
-fn lift(work: &mut [u32; WORK_WORDS], h: usize, scale: u32, v: u32) {
+/// Writes each row's lifted score in the last column, block by block from the last one up, and returns m of row 0.
+fn lift(work: &mut Words, h: usize, gain: u32, v: u32) -> u32 {
     let mut m = 0;
-    for i in (0..h).rev() {
-        m += u32::from(work[REACH + i] == h as u32);
-        work[LIFTED + i] = scale * m + v * work[INDEX + i];
+    for block in (0..h.div_ceil(SMALL)).rev() {
+        let rows = block * SMALL..h.min((block + 1) * SMALL);
+        work[LIFTED + rows.end..LIFTED + (block + 1) * SMALL].fill(0);
+        let behind = m;
+        for i in rows.clone().rev() {
+            m += u32::from(work[REACH + i] == h as u32);
+            work[LIFTED + i] = gain * (m - behind) + v * work[INDEX + i];
+        }
+        let rise = gain * (SMALL as u32 + behind - m);
+        for lifted in &mut work[LIFTED + rows.start..LIFTED + rows.end] {
+            *lifted += rise;
+        }
+        work[GROUNDS + block] = (gain * m).wrapping_sub(gain * SMALL as u32);
+        put_peak(work, block);
     }
+    m
 }
 
 /// Answers h, or the refusal number negated.
@@ -111,11 +119,11 @@ pub fn start(text: &[u32], pattern: &[u32], u: u32, v: u32, threshold: i32, work
     if hits.number > MAX_HITS {
         return -11;
     }
-    let work = work.first_chunk_mut().expect("16,384 words");
-    let shared = put_blocks(&hits, &times, work);
-    lift(work, hits.number, u + 2 * v, v);
-    work[SEEN] = 0;
-    work[HIGHEST] = NONE;
-    put_heading(work, hits.number, Settings { u, v, size: pattern.len(), threshold }, shared);
-    hits.number as i32
+    let (h, work) = (hits.number, work.first_chunk_mut().expect("16,384 words"));
+    put_tables(&hits, &times, work);
+    let shared = lift(work, h, u + 2 * v, v);
+    work[SMALL_TOPS..SMALL_TOPS + h.div_ceil(SMALL)].fill(0);
+    work[LARGE_TOPS..LARGE_TOPS + h.div_ceil(LARGE)].fill(0);
+    put_heading(work, h, Settings { u, v, size: pattern.len(), threshold }, shared);
+    h as i32
 }

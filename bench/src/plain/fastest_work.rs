@@ -1,31 +1,32 @@
-//! The work words of the fastest session: those of docs/WORK_WORDS.md, but for a row's best, which stands without the bias and is of
-//! that row's cells alone, and for some words that are its own.
+//! The work words of the fastest session: single words, the tables of hits and the records are those of docs/WORK_WORDS.md. In place of
+//! tops and starts it has words of its own, and m of the next cell is not kept.
 
-use std::ops::Range;
+use super::start::put_starts;
+use super::work::{BLOCK_ROWS, HITS, MAX_HITS, TOPS, WORK_WORDS};
 
-use super::work::{BACK, BEST, BIAS, HITS, MAX_HITS, SHARED, WHOLE, WORK_WORDS};
+/// The rows of a small block and of a large one.
+pub const SMALL: usize = 32;
+pub const LARGE: usize = 256;
 
-/// The greatest best of the first so many rows of the column in hand: the number of rows, and the signed score.
-pub const SEEN: usize = 10;
-pub const HIGHEST: usize = 11;
-/// A block: each row's lifted score in the column in hand, (u + 2v)·m + v·index.
+/// A table with a word for each hit, the lifted score of its row in the column in hand, 0 in the rows behind that column: v·index, and
+/// (u + 2v)·(m − m of the small block's first row + 32), which is never negative.
 pub const LIFTED: usize = 12_288;
 
-/// The words that are as docs/WORK_WORDS.md has them also behind steps.
-pub const AGREED: [Range<usize>; 4] = [0..SHARED, BACK..BEST, WHOLE..LIFTED, LIFTED + MAX_HITS..WORK_WORDS];
-
-/// Nothing yet as a best.
-pub const NONE: u32 = i32::MIN as u32;
+/// Tables with a word for each small block: (u + 2v)·(m of its first row − 32), which turns a lifted score into a score but for what the
+/// column's cells share; the greatest lifted score; and the greatest record.
+pub const GROUNDS: usize = 14_336;
+pub const PEAKS: usize = 14_400;
+pub const SMALL_TOPS: usize = 14_464;
+/// The greatest record of each large block.
+pub const LARGE_TOPS: usize = 14_528;
+const OWN_END: usize = LARGE_TOPS + MAX_HITS / LARGE;
 
 /// The words as docs/WORK_WORDS.md has them right after start, given what they held before it.
 pub fn shared_after_start(work: &[u32], before: &[u32]) -> Vec<u32> {
     let mut shared = work[..WORK_WORDS].to_vec();
     let h = work[HITS] as usize;
-    shared[SEEN] = before[SEEN];
-    shared[HIGHEST] = before[HIGHEST];
-    shared[LIFTED..LIFTED + h].copy_from_slice(&before[LIFTED..LIFTED + h]);
-    for best in &mut shared[BEST..BEST + h] {
-        *best = best.wrapping_add(BIAS);
-    }
+    shared[LIFTED..OWN_END].copy_from_slice(&before[LIFTED..OWN_END]);
+    shared[TOPS..TOPS + h.div_ceil(BLOCK_ROWS)].fill(0);
+    put_starts(h, &mut shared);
     shared
 }

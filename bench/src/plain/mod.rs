@@ -1,5 +1,5 @@
 //! Plain Rust for the jobs of the speed table: each with the algorithm of the proved function, and some by the fastest one known
-//! to us; for sketch and count the proved functions' former algorithm stands beside these.
+//! to us; for sketch and count, and for steps, the proved functions' former algorithm stands beside these.
 
 pub mod block_codes;
 pub mod blocks;
@@ -9,17 +9,23 @@ pub mod complement;
 pub mod counts;
 pub mod entries;
 pub mod events;
+pub mod fastest_column;
 pub mod fastest_complement;
 pub mod fastest_sketch;
 pub mod fastest_start;
 pub mod fastest_step;
 pub mod fastest_strike;
 pub mod fastest_work;
+pub mod former_column;
 pub mod former_sketch;
+pub mod former_start;
+pub mod former_step;
+pub mod former_walk;
 pub mod hash_strike;
 pub mod kept;
 pub mod keys;
 pub mod letters;
+pub mod line;
 pub mod marking;
 pub mod minima;
 pub mod parts;

@@ -4,7 +4,8 @@
 use super::radix::{sort_keys, word_of};
 use super::search::{MAX_PATTERN, lower_bound};
 use super::work::{
-    BACK, BEST, BIAS, COLUMNS, HITS, INDEX, KIND, MAX_HITS, PASSED, REACH, ROW, SHARED, SIZE, THRESHOLD, U, V, WHOLE, WORK_WORDS,
+    BACK, BEST, BIAS, BLOCK_ROWS, COLUMNS, HIGHEST, HITS, INDEX, KIND, MAX_HITS, PASSED, REACH, ROW, SHARED, SIZE, STARTS,
+    THRESHOLD, TOPS, U, V, WORK_WORDS,
 };
 
 /// The hits, as many as there is room for: their indices in t, and the slot of each, the first place of its code in the sorted copy.
@@ -76,8 +77,8 @@ fn backs(sorted: &[u32], slots: &[u32]) -> [u32; MAX_HITS] {
     backs
 }
 
-/// Writes the blocks of these hits, and returns m of them all.
-fn put_blocks(index: &[u32], backs: &[u32], work: &mut [u32]) -> u32 {
+/// Writes the tables of these hits.
+fn put_tables(index: &[u32], backs: &[u32], work: &mut [u32]) {
     let h = index.len();
     work[BACK..BACK + h].copy_from_slice(backs);
     work[INDEX..INDEX + h].copy_from_slice(index);
@@ -89,10 +90,17 @@ fn put_blocks(index: &[u32], backs: &[u32], work: &mut [u32]) -> u32 {
         }
     }
     work[BEST..BEST + h].fill(0);
+    work[TOPS..TOPS + h.div_ceil(BLOCK_ROWS)].fill(0);
+}
+
+/// Writes m at the first row of each block in the last column, and returns that of row 0. From the last row up, m grows by one with
+/// each that is reasonable as a left end there.
+pub fn put_starts(h: usize, work: &mut [u32]) -> u32 {
+    work[STARTS + h.div_ceil(BLOCK_ROWS)] = 0;
     let mut m = 0;
-    for (whole, &back) in work[WHOLE..WHOLE + h].iter_mut().zip(backs) {
-        m += u32::from(back == 0);
-        *whole = m;
+    for row in (0..h).rev() {
+        m += u32::from(work[REACH + row] == h as u32);
+        work[STARTS + row / BLOCK_ROWS] = m;
     }
     m
 }
@@ -105,10 +113,12 @@ pub fn put_heading(work: &mut [u32], h: usize, settings: Settings, shared: u32) 
     work[PASSED] = 0;
     work[KIND] = 0;
     work[SIZE] = settings.size as u32;
-    work[THRESHOLD] = (settings.threshold as u32).wrapping_add(BIAS);
+    let threshold = (settings.threshold as u32).wrapping_add(BIAS);
+    work[THRESHOLD] = threshold;
     work[COLUMNS] = h as u32;
     work[ROW] = 0;
     work[SHARED] = shared;
+    work[HIGHEST] = threshold;
 }
 
 /// Answers h, or the refusal number negated.
@@ -126,7 +136,8 @@ pub fn start(text: &[u32], pattern: &[u32], u: u32, v: u32, threshold: i32, work
         return -11;
     }
     let backs = backs(sorted, &hits.slots[..h]);
-    let shared = put_blocks(&hits.index[..h], &backs[..h], work);
+    put_tables(&hits.index[..h], &backs[..h], work);
+    let shared = put_starts(h, work);
     put_heading(work, h, Settings { u, v, size: pattern.len(), threshold }, shared);
     h as i32
 }

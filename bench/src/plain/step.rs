@@ -1,62 +1,80 @@
-//! Step by the algorithm of the proved function: the place is read once and written once, and each cell costs one turn of a loop
-//! over a column.
+//! Step by the algorithm of the proved function: the place is read once and written once, blocks of rows are skipped where none of
+//! their cells can matter, and each other cell costs one turn of a loop.
 //! Assumes, for its answers, words that start and steps made.
 
 use host::calls::Stepped;
 
-use super::column::{Line, Passed, Terms, pass, pass_one};
-use super::walk::{Place, found, walk};
-use super::work::{BACK, HITS, INDEX, MAX_HITS, PASSED, SIZE, THRESHOLD, U, V, WORK_WORDS, Words, part};
+use super::column::{Passed, pass, pass_one};
+use super::line::{Line, Terms};
+use super::walk::{Columns, Place, found, walk};
+use super::work::{
+    BACK, BLOCK_ROWS, COLUMNS, HITS, INDEX, MAX_HITS, PASSED, ROW, SIZE, STARTS, THRESHOLD, U, V, WORK_WORDS, Words, part,
+};
 
-/// The words and the place of the session in them, or what step answers without passing a cell: a refusal, or spent where the place
-/// lies in no column.
+/// The words of the session, or what step answers without passing a cell: a refusal, or spent where the place lies in no column.
 #[inline(always)]
-pub fn judged(work: &mut [u32]) -> Result<(&mut Words, Place), Stepped> {
+pub fn judged(work: &mut [u32]) -> Result<&mut Words, Stepped> {
     let Some(words) = work.first_chunk_mut::<WORK_WORDS>() else { return Err(Stepped::Refused(10)) };
     let (h, passed) = (words[HITS], words[PASSED]);
     let weights = (1..=1_000).contains(&words[U]) && (1..=1_000).contains(&words[V]);
     if h as usize > MAX_HITS || !weights || passed > h * (h + 1) / 2 {
         return Err(Stepped::Refused(15));
     }
-    let place = Place::read(words);
-    if place.columns > h as usize || place.row > place.columns { Err(Stepped::Spent(0)) } else { Ok((words, place)) }
+    if words[COLUMNS] > h || words[ROW] > words[COLUMNS] { Err(Stepped::Spent(0)) } else { Ok(words) }
 }
 
-fn line(words: &Words, column: usize) -> Line {
+#[inline(always)]
+pub fn line(words: &Words, column: usize) -> Line {
     let terms = Terms { u: words[U], v: words[V], size: words[SIZE], threshold: words[THRESHOLD] };
     Line::new(terms, column, words[INDEX + column], words[BACK + column])
 }
 
-/// Passes cells of the place's column, at most so many.
-fn update(words: &mut Words, place: Place, left: usize) -> Passed {
-    let line = line(words, place.columns - 1);
-    let to = place.row + left.min(place.columns - place.row);
-    pass(&mut part(words), &line, place.row, to, place.m)
+/// By blocks of 64 rows.
+struct Blocks;
+
+impl Columns for Blocks {
+    #[inline(always)]
+    fn update(&self, words: &mut Words, place: Place, left: usize) -> Passed {
+        let line = line(words, place.columns - 1);
+        let to = place.at.row + left.min(place.columns - place.at.row);
+        pass(&mut part(words), &line, place.at, to)
+    }
+
+    /// m falls by one in the rows from the hit's back up to its own.
+    #[inline(always)]
+    fn leave(&self, words: &mut Words, column: usize) -> u32 {
+        let (from, to) = ((words[BACK + column] as usize).div_ceil(BLOCK_ROWS), column / BLOCK_ROWS + 1);
+        for start in &mut words[STARTS + from.min(to)..STARTS + to] {
+            *start = start.wrapping_sub(1);
+        }
+        words[STARTS]
+    }
 }
 
 /// The step of more cells. Kept apart, so that a step of one cell saves few registers.
 #[inline(never)]
 fn walk_on(words: &mut Words, place: Place, budget: u32) -> Stepped {
-    walk(words, place, budget, update)
+    walk(words, place, budget, Blocks)
 }
 
 /// The step of one cell in a column that has a further row.
+#[inline(always)]
 fn walk_one(words: &mut Words, place: Place) -> Stepped {
     let line = line(words, place.columns - 1);
-    let passed = pass_one(&mut part(words), &line, place.row, place.m);
-    let m = passed.m.wrapping_sub(u32::from(passed.found.is_some()));
-    Place { row: passed.row, m, ..place }.save(words, 1);
-    match passed.found {
-        Some(score) => found(words, place.columns, passed.row, passed.m, score, 1),
+    let Passed { at, found: score } = pass_one(&mut part(words), &line, place.at);
+    Place { at, ..place }.save(words, 1);
+    match score {
+        Some(score) => found(words, place.columns, at, score, 1),
         None => Stepped::Spent(1),
     }
 }
 
 /// Passes cells until one is final, none remains or the budget is spent.
 pub fn step(work: &mut [u32], budget: u32) -> Stepped {
-    match judged(work) {
-        Err(answer) => answer,
-        Ok((words, place)) if budget == 1 && place.row + 1 < place.columns => walk_one(words, place),
-        Ok((words, place)) => walk_on(words, place, budget),
-    }
+    let words = match judged(work) {
+        Ok(words) => words,
+        Err(answer) => return answer,
+    };
+    let place = Place::read(words);
+    if budget == 1 && place.at.row + 1 < place.columns { walk_one(words, place) } else { walk_on(words, place, budget) }
 }

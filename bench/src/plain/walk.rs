@@ -2,66 +2,72 @@
 
 use host::calls::Stepped;
 
-use super::column::Passed;
-use super::work::{COLUMNS, INDEX, PASSED, ROW, SHARED, WHOLE, Words};
+use super::column::{At, Passed};
+use super::work::{COLUMNS, HIGHEST, INDEX, PASSED, ROW, SHARED, THRESHOLD, Words};
 
-/// The place of a session: how many columns are left, and the row and the m of the next cell.
+/// The place of a session: how many columns are left, and the place in the last of them.
 #[derive(Clone, Copy)]
 pub struct Place {
     pub columns: usize,
-    pub row: usize,
-    pub m: u32,
+    pub at: At,
 }
 
 impl Place {
-    pub fn read(work: &Words) -> Place {
-        Place { columns: work[COLUMNS] as usize, row: work[ROW] as usize, m: work[SHARED] }
+    #[inline(always)]
+    pub fn read(words: &Words) -> Place {
+        let at = At { row: words[ROW] as usize, m: words[SHARED], highest: words[HIGHEST] };
+        Place { columns: words[COLUMNS] as usize, at }
     }
 
     /// Writes the place, and adds the cells passed.
-    pub fn save(self, work: &mut Words, cells: u32) {
-        work[PASSED] += cells;
-        work[COLUMNS] = self.columns as u32;
-        work[ROW] = self.row as u32;
-        work[SHARED] = self.m;
-    }
-
-    /// The top of this many columns' last one.
-    fn top(work: &Words, columns: usize) -> Place {
-        Place { columns, row: 0, m: if columns == 0 { 0 } else { work[WHOLE + columns - 1] } }
-    }
-
-    /// The place itself, or the top of the next column where its column is passed.
-    fn settled(self, work: &Words) -> Place {
-        if self.row < self.columns { self } else { Place::top(work, self.columns - 1) }
+    #[inline(always)]
+    pub fn save(self, words: &mut Words, cells: u32) {
+        words[PASSED] += cells;
+        words[COLUMNS] = self.columns as u32;
+        words[ROW] = self.at.row as u32;
+        words[SHARED] = self.at.m;
+        words[HIGHEST] = self.at.highest;
     }
 }
 
-/// The answer for a final cell of this m and score that was passed last, in the row before this one.
-pub fn found(work: &Words, columns: usize, row: usize, m: u32, score: i32, cells: u32) -> Stepped {
-    Stepped::Found { a: work[INDEX + row - 1], b: work[INDEX + columns - 1], score, m, cells }
-}
-
-/// The cells from this place on, at most `budget` of them. `update` passes cells of the place's column, at most so many.
+/// The answer for a final cell with this score, which was passed last, `at` being the place behind it.
 #[inline(always)]
-pub fn walk(work: &mut Words, start: Place, budget: u32, update: impl Fn(&mut Words, Place, usize) -> Passed) -> Stepped {
+pub fn found(words: &Words, columns: usize, at: At, score: i32, cells: u32) -> Stepped {
+    Stepped::Found { a: words[INDEX + at.row - 1], b: words[INDEX + columns - 1], score, m: at.m.wrapping_add(1), cells }
+}
+
+/// How the cells of a column are passed, and how it is left.
+pub trait Columns {
+    /// Passes cells of the place's column, at most so many.
+    fn update(&self, words: &mut Words, place: Place, left: usize) -> Passed;
+
+    /// Leaves a column all of whose cells are passed, and gives m of the first cell of the next one, 0 where there is none.
+    fn leave(&self, words: &mut Words, column: usize) -> u32;
+}
+
+/// The cells from this place on, at most `budget` of them.
+#[inline(always)]
+pub fn walk(words: &mut Words, start: Place, budget: u32, by: impl Columns) -> Stepped {
     let mut place = start;
     let mut left = budget;
     while place.columns > 0 {
         if left == 0 {
-            place.save(work, budget);
+            place.save(words, budget);
             return Stepped::Spent(budget);
         }
-        let passed = update(work, place, left as usize);
-        left -= (passed.row - place.row) as u32;
-        let cells = budget - left;
-        if let Some(score) = passed.found {
-            let answer = found(work, place.columns, passed.row, passed.m, score, cells);
-            Place { row: passed.row, m: passed.m.wrapping_sub(1), ..place }.settled(work).save(work, cells);
-            return answer;
+        let (columns, row) = (place.columns, place.at.row);
+        let Passed { at, found: score } = by.update(words, place, left as usize);
+        left -= (at.row - row) as u32;
+        place = Place { columns, at };
+        if at.row == columns {
+            let m = by.leave(words, columns - 1);
+            place = Place { columns: columns - 1, at: At { row: 0, m, highest: words[THRESHOLD] } };
         }
-        place = Place { row: passed.row, m: passed.m, ..place }.settled(work);
+        if let Some(score) = score {
+            place.save(words, budget - left);
+            return found(words, columns, at, score, budget - left);
+        }
     }
-    place.save(work, budget - left);
+    place.save(words, budget - left);
     Stepped::Finished(budget - left)
 }

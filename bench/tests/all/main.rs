@@ -2,10 +2,12 @@
 
 use std::thread;
 
+mod blocks;
 mod complement;
 mod session;
 mod sketch;
 mod strike;
+mod tested;
 
 /// Runs a test on a stack of 1.5 MiB, which no call may need more than: a host calls from threads.
 fn on_small_stack(test: impl FnOnce() + Send + 'static) {

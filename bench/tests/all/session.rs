@@ -1,47 +1,16 @@
 //! Start and step beside the reference's rule, and their work words beside the reference's.
 
-use bench::ours;
 use bench::plain::work::WORK_WORDS;
-use bench::plain::{fastest_start, fastest_step, fastest_work, start, step};
-use bench::runs::as_they_are;
-use bench::signatures::{Shared, Start, Step as StepOf};
-use bench::steps::Layout;
-use host::calls::{self, Stepped};
+use bench::signatures::Step as StepOf;
+use host::calls::Stepped;
 use host::random::Random;
-use host::reference::definition1::Mapping;
 use host::reference::score::Task;
 use host::reference::start::start_call;
-use host::reference::steps::{self, Step, answers};
+use host::reference::steps::{Answer, Step, answers};
 use host::reference::work_words::WorkWords;
 
 use crate::on_small_stack;
-
-/// A session's functions, what brings its words behind start into the layout of docs/WORK_WORDS.md, and how they lie behind steps.
-struct Tested {
-    name: &'static str,
-    start: Start,
-    step: StepOf,
-    shared: Shared,
-    layout: Layout,
-}
-
-fn sessions() -> [Tested; 3] {
-    let same = |name, start: Start, step: StepOf| Tested { name, start, step, shared: as_they_are, layout: Layout::Shared };
-    let (start, step) = (fastest_start::start, fastest_step::step);
-    [
-        same("the same algorithm", start::start, step::step),
-        Tested { name: "the fastest", start, step, shared: fastest_work::shared_after_start, layout: Layout::Fastest },
-        same("the proved one", ours::start, calls::step),
-    ]
-}
-
-/// The words that lie as docs/WORK_WORDS.md says behind steps.
-fn laid_out_alike(work: &[u32], layout: Layout) -> Vec<u32> {
-    match layout {
-        Layout::Shared => work[..WORK_WORDS].to_vec(),
-        Layout::Fastest => fastest_work::AGREED.into_iter().flat_map(|agreed| work[agreed].to_vec()).collect(),
-    }
-}
+use crate::tested::{Tested, as_reference, sessions};
 
 fn task(random: &mut Random) -> Task {
     let kinds = random.one_of(&[2, 4, 10, 60]);
@@ -63,24 +32,12 @@ fn list(random: &mut Random) -> Vec<Step> {
     (0..random.below(60)).map(|_| step(random)).collect()
 }
 
-fn as_reference(answer: Stepped) -> steps::Answer {
-    match answer {
-        Stepped::Found { a, b, score, m, cells } => {
-            let mapping = Mapping { a: a as usize, b: b as usize, score: i64::from(score), m: m as usize };
-            steps::Answer::Found(mapping, cells as usize)
-        }
-        Stepped::Finished(cells) => steps::Answer::Finished(cells as usize),
-        Stepped::Spent(cells) => steps::Answer::Spent(cells as usize),
-        Stepped::Refused(number) => steps::Answer::Refused(number),
-    }
-}
-
 /// The answers of a list of steps. A refused step changes nothing.
-fn given(step: StepOf, work: &mut [u32], list: &[Step]) -> Vec<steps::Answer> {
+fn given(step: StepOf, work: &mut [u32], list: &[Step]) -> Vec<Answer> {
     let one = |s: &Step| {
         let before = work.to_vec();
         let answer = as_reference(step(&mut work[..s.lent], s.budget));
-        assert!(!matches!(answer, steps::Answer::Refused(_)) || before == work);
+        assert!(!matches!(answer, Answer::Refused(_)) || before == work);
         answer
     };
     list.iter().map(one).collect()
@@ -97,18 +54,18 @@ fn lists_of_steps() {
             let before = vec![0xaaaa_aaaa; WORK_WORDS + 1];
             let mut words = WorkWords::new(&task, &before);
             let (fresh, after) = (words.after(0).to_vec(), words.after(q).to_vec());
-            for Tested { name, start, step, shared, layout } in sessions() {
-                let mut work = before.clone();
-                assert_eq!(start(&task.text, &task.pattern, task.u, task.v, task.threshold, &mut work), h as i32);
-                assert_eq!(shared(&work, &before)[..WORK_WORDS], fresh[..WORK_WORDS], "{name}, seed {seed}: {task:?}");
+            let case = format!("seed {seed}: {task:?}");
+            for session in sessions() {
+                let Tested { name, step, .. } = session;
+                let mut work = session.start(&case, &task, &before, h, &fresh);
                 // a session that is copied halfway goes on from there
                 let half = list.len() / 2;
                 let mut answers = given(step, &mut work, &list[..half]);
                 let mut copy = work.clone();
                 answers.extend(given(step, &mut work, &list[half..]));
-                assert_eq!(answers, expected, "{name}, seed {seed}: {task:?}");
-                assert_eq!(given(step, &mut copy, &list[half..]), expected[half..], "{name}, seed {seed}: {task:?}");
-                assert_eq!(laid_out_alike(&work, layout), laid_out_alike(&after, layout), "{name}, seed {seed}: {task:?}");
+                assert_eq!(answers, expected, "{name}, {case}");
+                assert_eq!(given(step, &mut copy, &list[half..]), expected[half..], "{name}, {case}");
+                session.hold_words(&case, &work, &after);
                 assert_eq!(work[WORK_WORDS], 0xaaaa_aaaa);
             }
         }

@@ -1,11 +1,10 @@
 -- Laws about the work words, the column's update and sessions, and examples that compute.
 pub mod Signed
 pub mod Deciding
+pub mod Decided
 pub mod Walking
 pub mod Places
-pub mod Best
-pub mod CellTests
-pub mod Chunk
+pub mod Middles
 pub mod SessionWords
 pub mod WalkRule
 pub mod StepTests

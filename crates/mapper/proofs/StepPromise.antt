@@ -6,7 +6,7 @@ use mathlib.Core.Path.{_≡_, refl, sym, ap, _∙_, subst}
 use mathlib.Core.Logic.{_⊎_, inl, inr}
 use mathlib.Core.Bool.{Bool, true, false, cond}
 use mathlib.Core.List.{List, [], _∷_}
-use lib.Dec.{ltb}
+use lib.Dec.{leb, ltb}
 use lib.ListN.{length, getD}
 use borrow.Author.Tests.{lt-ltb, le-ltb, ltb-true}
 use Rattle.base.specs.Limits.{weightLimit, hitLimit, workWords}
@@ -17,22 +17,25 @@ use Rattle.mappings.specs.Rule.{Answer, reported, ruleAnswer}
 use Rattle.mappings.specs.Steps.{moreCells}
 use Rattle.mappings.proofs.Cells.{cellAt, stands}
 use Rattle.mappings.proofs.HitCodes.{cell-shared}
-use Rattle.session_words.specs.FirstWords.{hitsAt}
-use Rattle.session_words.specs.Layout.{columnsAt, rowAt, mAt}
+use Rattle.session_words.specs.FirstWords.{hitsAt, passedAt}
+use Rattle.session_words.specs.Layout.{columnsAt, rowAt, mAt, highestAt}
+use Rattle.session_records.proofs.Numbers.{number-order}
+use Rattle.session_records.proofs.Highest.{before-none}
 use Rattle.session_start.specs.Start.{badWeights}
-use Rattle.session_start.specs.WorkWords.{columnsLeft, nextRow, nextShared, sessionWords}
+use Rattle.session_start.specs.WorkWords.{columnsLeft, nextRow, nextShared, bestAfter, highestAfter, sessionWords}
 use Rattle.session_start.proofs.WorkWords.{Holds, words-hold}
 use Rattle.mapper.specs.declared.answer.Stepped.the-variants.{Spent, TooFewWords, BadWords}
 use Rattle.mapper.specs.Answers.{answerOf}
 use Rattle.mapper.specs.Step.{tooFewWords, badWords}
-use Rattle.mapper.specs.Walking.{Walk, termsIn, walkOn}
+use Rattle.session_rule.proofs.Knowing.{least}
+use Rattle.session_rule.proofs.Chunk.{more-none}
+use Rattle.mapper.specs.Walking.{placeOf, termsIn, Walk, walkOn, oneWalk}
 use Rattle.mapper.specs.Promise.{Accepts, StepPromise}
 use Rattle.mapper.proofs.Accepted.{Admitted, admitted}
-use Rattle.mapper.proofs.Chunk.{more-none}
 use Rattle.mapper.proofs.Places.{at-cell, at-end}
-use Rattle.mapper.proofs.CellTests.{termsOf}
-use Rattle.mapper.proofs.WalkRule.{PlaceAt, Ruled, walk-rule}
-use Rattle.mapper.proofs.Within.{Kept, kept-walk}
+use Rattle.mapper.proofs.Decided.{termsOf}
+use Rattle.mapper.proofs.WalkRule.{PlaceAt, Settled, Ruled, walk-rule, one-rule}
+use Rattle.mapper.proofs.Within.{Kept, kept-walk, kept-one}
 
 -- ---- the words of a session
 
@@ -73,24 +76,26 @@ row-within (suc j) q = go (ltb q (suc j)) refl (row-within j (q - suc j))
 
 -- the place after q cells
 placed : (task : Task) (q : ℕ) → q ≤ cellCount (hitCount task)
-    → PlaceAt task q (columnsLeft (hitCount task) q) (nextRow (hitCount task) q) (nextShared task (columnsLeft (hitCount task) q) (nextRow (hitCount task) q))
+    → PlaceAt task q (columnsLeft (hitCount task) q) (nextRow (hitCount task) q)
+    (nextShared task (columnsLeft (hitCount task) q) (nextRow (hitCount task) q)) (highestAfter task q)
+unfolding highestAfter
 placed task q l = go (eq-or-ne q (cellCount (hitCount task)))
   where
     go : (q ≡ cellCount (hitCount task)) ⊎ (q ≡ cellCount (hitCount task) → ⊥)
         → PlaceAt task q (columnsLeft (hitCount task) q) (nextRow (hitCount task) q)
-        (nextShared task (columnsLeft (hitCount task) q) (nextRow (hitCount task) q))
+        (nextShared task (columnsLeft (hitCount task) q) (nextRow (hitCount task) q)) (highestAfter task q)
     go (inl e) =
         let at = at-end (hitCount task) in
         let c : columnsLeft (hitCount task) q ≡ 0 = ap (columnsLeft (hitCount task)) e ∙ at .columns-are in
         let r : nextRow (hitCount task) q ≡ 0 = ap (nextRow (hitCount task)) e ∙ at .row-is in
-        rw (c, r) (e, refl, refl)
+        rw (c, r) (e, refl, refl, before-none leb number-order (least task) (bestAfter task q))
     go (inr n) =
         let cell = getD (cells (hitCount task)) q (cellAt 0 0) in
         let s = stands (hitCount task) q (cellAt 0 0) (omega arith) in
         let at = at-cell (hitCount task) (cell .row) (cell .column) (s .ordered) (s .within) in
         let c : columnsLeft (hitCount task) q ≡ suc (cell .column) = ap (columnsLeft (hitCount task)) (sym (s .number)) ∙ at .columns-are in
         let r : nextRow (hitCount task) q ≡ cell .row = ap (nextRow (hitCount task)) (sym (s .number)) ∙ at .row-is in
-        rw (c, r) (s .within, s .ordered, s .number, cell-shared task (cell .row) (cell .column) (s .ordered) (s .within))
+        rw (c, r) (s .within, s .ordered, s .number, cell-shared task (cell .row) (cell .column) (s .ordered) (s .within), refl)
 
 -- a session's words are not bad
 good-session : (task : Task) (before : List ℕ) (q : ℕ) (work : List ℕ) → InSession task before q work → q ≤ cellCount (hitCount task)
@@ -155,13 +160,16 @@ module _ (work : List ℕ) (budget : ℕ) where
           lost task before q s (inr o) =
               omega (arith, s .held .columns-word, s .held .row-word, row-within (hitCount task) q)
 
-      -- the walk from the place in the words
-      abbrev pub walked : Walk
-      walked = walkOn (termsIn work) budget (getD work columnsAt 0) (getD work rowAt 0) (getD work mAt 0) budget work
-
-      pub walk-promise : StepPromise work budget (walked .answer) (walked .words)
+      -- what is passed from the place in the words keeps the promise, where in the words of a session it goes by the rule
+      by-rule : (walk : Walk) → Kept work (walk .words)
+          → ((task : Task) (before : List ℕ) (q : ℕ) (a : Accepts task before) (s : InSession task before q work) → q ≤ cellCount (hitCount task)
+          → Settled task (s .limits .limited) (a .threshold-fits) (s .limits .few-hits) before (s .limits .many-words) q
+          (placeOf (getD work columnsAt 0) (getD work rowAt 0) (getD work mAt 0) (getD work highestAt 0)) work
+          → termsIn work ≡ termsOf task → getD work passedAt 0 ≡ q
+          → Ruled task (s .limits .limited) (a .threshold-fits) (s .limits .few-hits) before (s .limits .many-words) q budget q budget walk)
+          → StepPromise work budget (walk .answer) (walk .words)
       unfolding tooFewWords termsIn
-      walk-promise = record {
+      by-rule walk kept rule = record {
         few = λ e. clash e (le-ltb (length work) workWords l);
         bad = λ e f. clash f good;
         session = λ task before q a k e. ruled task before q a k (in-session task before q work a e);
@@ -169,28 +177,46 @@ module _ (work : List ℕ) (budget : ℕ) where
         beyond = kept .beyond;
       }
         where
-          kept : Kept work (walked .words)
-          kept = kept-walk (termsIn work) budget (getD work columnsAt 0) (getD work rowAt 0) (getD work mAt 0) budget work l
-
-          terms-are : (task : Task) (before : List ℕ) (q : ℕ) → InSession task before q work → termsIn work ≡ termsOf task
-          terms-are task before q s =
-              let held = s .held .held in
-              λ i. record { u = held .u-word i; v = held .v-word i; size = held .size-word i; threshold = held .threshold-word i }
-
           ruled : (task : Task) (before : List ℕ) (q : ℕ) → Accepts task before → q ≤ cellCount (hitCount task) → InSession task before q work
-              → (answerOf (walked .answer) ≡ ruleAnswer task q budget)
-              × (walked .words ≡ sessionWords task before (q + reported (ruleAnswer task q budget)))
+              → (answerOf (walk .answer) ≡ ruleAnswer task q budget)
+              × (walk .words ≡ sessionWords task before (q + reported (ruleAnswer task q budget)))
           ruled task before q a k s =
-              let m = s .limits in
               let held = s .held .held in
               let none : budget - budget ≡ 0 = omega arith in
-              let at : PlaceAt task q (getD work columnsAt 0) (getD work rowAt 0) (getD work mAt 0) =
-              rw (s .held .columns-word, s .held .row-word, s .held .shared-word) (placed task q k) in
-              let r : Ruled task (m .limited) (a .threshold-fits) (m .few-hits) before (m .many-words) q budget q budget walked =
-              rw (terms-are task before q s)
-              (walk-rule task (m .limited) (a .threshold-fits) (m .few-hits) before (m .many-words) q budget (getD work columnsAt 0) q (getD work rowAt 0)
-              (getD work mAt 0) budget work held (s .held .passed-word) (omega arith) (le-refl budget) at)
-              in
-              let answer : answerOf (walked .answer) ≡ ruleAnswer task q budget =
+              let columns = s .held .columns-word in
+              let r = rule task before q a s k
+              (record {
+                at = rw (columns, s .held .row-word, s .held .shared-word, s .held .highest-word) (placed task q k);
+                tables = rw columns held;
+              })
+              (λ i. record { u = held .u-word i; v = held .v-word i; size = held .size-word i; threshold = held .threshold-word i })
+              (s .held .passed-word) in
+              let answer : answerOf (walk .answer) ≡ ruleAnswer task q budget =
               r .answer-is ∙ ap (λ (n : ℕ). moreCells n (ruleAnswer task q budget)) none ∙ more-none (ruleAnswer task q budget) in
               (answer, r .words-are ∙ ap (λ (x : Answer). sessionWords task before (q + reported x)) answer)
+
+      -- the walk from the place in the words
+      abbrev pub walked : Walk
+      walked = walkOn (termsIn work) budget (getD work columnsAt 0) (getD work rowAt 0) (getD work mAt 0) (getD work highestAt 0) budget work
+
+      pub walk-promise : StepPromise work budget (walked .answer) (walked .words)
+      walk-promise =
+          by-rule walked
+          (kept-walk (termsIn work) budget (getD work columnsAt 0) (getD work rowAt 0) (getD work mAt 0) (getD work highestAt 0) budget work l)
+          (λ task before q a s k place terms passed.
+          rw terms
+          (walk-rule task (s .limits .limited) (a .threshold-fits) (s .limits .few-hits) before (s .limits .many-words) q budget (getD work columnsAt 0) q
+          (getD work rowAt 0) (getD work mAt 0) (getD work highestAt 0) budget work place passed (omega arith) (le-refl budget)))
+
+      -- the walk of one cell, in a column that has a further row
+      abbrev pub walkedOne : Walk
+      walkedOne = oneWalk (termsIn work) (getD work columnsAt 0) (getD work rowAt 0) (getD work mAt 0) (getD work highestAt 0) work
+
+      pub one-promise : budget ≡ 1 → getD work rowAt 0 + 1 < getD work columnsAt 0 → StepPromise work budget (walkedOne .answer) (walkedOne .words)
+      one-promise e inside =
+          by-rule walkedOne
+          (kept-one (termsIn work) (getD work columnsAt 0) (getD work rowAt 0) (getD work mAt 0) (getD work highestAt 0) work l)
+          (λ task before q a s k place terms passed.
+          rw terms
+          (one-rule task (s .limits .limited) (a .threshold-fits) (s .limits .few-hits) before (s .limits .many-words) q budget (getD work columnsAt 0) q
+          (getD work rowAt 0) (getD work mAt 0) (getD work highestAt 0) work place passed e inside refl))

@@ -1,48 +1,61 @@
-// The place of a session: how many columns are left, the row of the next cell, and the m of that cell.
+// The place of a session: how many columns are left, the row and m of the next cell, and the greatest of the threshold and of the records in
+// the rows before it.
 use base::WORD_LIMIT;
+use session_cells::cells::Passed;
+use session_cells::starts::leave;
+use session_words::BACK;
 use session_words::COLUMNS;
+use session_words::HIGHEST;
+use session_words::PART_END;
 use session_words::PASSED;
 use session_words::ROW;
 use session_words::SHARED;
-use session_words::WHOLE;
+use session_words::STARTS;
+use session_words::THRESHOLD;
+use session_words::wide;
 use session_words::wider;
 ghost use mathlib.Core.Path.{_≡_};
 ghost use Prim.Native.Nat.{_≤_, _<_};
 ghost use lib.ListN.{length};
 ghost use Rattle.base.specs.Limits.{hitLimit, workWords, wordLimit};
-ghost use Rattle.mapper.specs.Walking.{topShared, settled as settledPlace, saved};
+ghost use Rattle.mapper.specs.Walking.{leftWords, settled as settledPlace, settledWords, saved};
 
 pub struct Place {
     pub columns: usize,
     pub row: usize,
     pub m: u32,
+    pub highest: u32,
 }
 
-// m of the first cell of the last of these columns.
-pub fn top_shared(work: &[u32], columns: usize) -> u32
-    requires { ⌜ (workWords ≤ length (now work)) × (columns ≤ hitLimit) ⌝ }
-    ensures { λ r. ⌜ r ≡ topShared (now (work .entry)) columns ⌝ }
-{
-    if columns == 0 {
-        return 0;
-    }
-    work[WHOLE + columns - 1]
-}
-
-// The place where the next cell stands in this column, or at the top of the next column where this one is passed.
-pub fn settled(work: &[u32], columns: usize, row: usize, m: u32) -> Place
+// Leaves the last of these columns.
+fn leave_column(work: &mut [u32], columns: usize)
     requires { ⌜ (workWords ≤ length (now work)) × (columns ≤ hitLimit) × (1 ≤ columns) ⌝ }
-    ensures { λ r. ⌜ r ≡ settledPlace (now (work .entry)) columns row m ⌝ }
+    ensures { λ _. ⌜ now (work .exit) ≡ leftWords (now (work .entry)) columns ⌝ }
 {
-    if row < columns {
-        return Place { columns, row, m };
+    let back = wide(work[BACK + columns - 1]);
+    leave(&mut work[STARTS..PART_END], back, columns - 1);
+}
+
+// The place behind what was passed of the last of these columns: in that column, or at the top of the next, where it is passed and left.
+pub fn settle(work: &mut [u32], columns: usize, p: Passed) -> Place
+    requires { ⌜ (workWords ≤ length (now work)) × (columns ≤ hitLimit) × (1 ≤ columns) ⌝ }
+    ensures { λ r. ⌜ r ≡ settledPlace (now (work .entry)) columns p ⌝ }
+    ensures { λ _. ⌜ now (work .exit) ≡ settledWords (now (work .entry)) columns p ⌝ }
+{
+    if p.row < columns {
+        return Place {
+            columns,
+            row: p.row,
+            m: p.m,
+            highest: p.highest,
+        };
     }
-    let next = columns - 1;
-    let top = top_shared(work, next);
+    leave_column(work, columns);
     Place {
-        columns: next,
+        columns: columns - 1,
         row: 0,
-        m: top,
+        m: work[STARTS],
+        highest: work[THRESHOLD],
     }
 }
 
@@ -56,4 +69,5 @@ pub fn save(work: &mut [u32], place: Place, cells: usize)
     work[COLUMNS] = place.columns as u32;
     work[ROW] = place.row as u32;
     work[SHARED] = place.m;
+    work[HIGHEST] = place.highest;
 }

@@ -1,9 +1,10 @@
-// The score of an interval, signed, and the threshold out of its word, which holds it plus 2^31.
+// The score of an interval, signed, the threshold out of its word, which holds it plus 2^31, and m of a candidate.
+use base::WORD_LIMIT;
 use session_words::BIAS;
 use session_words::MINUS_ONE;
 ghost use mathlib.Core.Path.{_≡_};
-ghost use Prim.Native.Nat.{_≤_};
-ghost use Rattle.base.specs.Limits.{textLimit, patternLimit, weightLimit};
+ghost use Prim.Native.Nat.{_+_, _%_, _≤_};
+ghost use Rattle.base.specs.Limits.{textLimit, patternLimit, weightLimit, wordLimit};
 ghost use Rattle.mappings.specs.Score.{linear};
 ghost use Rattle.mappings.specs.Unbiased.{unbiased as unbiasedOf};
 
@@ -25,4 +26,11 @@ pub fn unbiased(word: u32) -> i32
     } else {
         -1 - (MINUS_ONE - word) as i32
     }
+}
+
+// m and one, as a word.
+pub fn raised(m: u32) -> u32
+    ensures { λ r. ⌜ r ≡ (m + 1) % wordLimit ⌝ }
+{
+    ((m as u64 + 1) % WORD_LIMIT) as u32
 }

@@ -7,6 +7,7 @@ use base::HIT_LIMIT;
 use base::WEIGHT_LIMIT;
 use base::WORK_WORDS;
 use session_words::COLUMNS;
+use session_words::HIGHEST;
 use session_words::HITS;
 use session_words::PASSED;
 use session_words::ROW;
@@ -78,12 +79,17 @@ pub fn step(work: &mut [u32], budget: u32) -> Stepped
         return Stepped::Spent(0);
     }
     let row = wide(work[ROW]);
-    let m = work[SHARED];
+    let place = Place {
+        columns,
+        row,
+        m: work[SHARED],
+        highest: work[HIGHEST],
+    };
     if one_inside(budget, row, columns) {
-        return walk_one(work, Place { columns, row, m });
+        return walk_one(work, place);
     }
     if columns < row {
         return Stepped::Spent(0);
     }
-    walk(work, Place { columns, row, m }, wide(budget))
+    walk(work, place, wide(budget))
 }

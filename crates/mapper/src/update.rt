@@ -1,4 +1,4 @@
-// The update of a column in the work words: cells of it are passed in the blocks that it is lent.
+// The update of a column in the work words: cells of it are passed in the tables that it is lent.
 use crate::place::Place;
 use base::WEIGHT_LIMIT;
 use base::WORD_LIMIT;
@@ -21,7 +21,7 @@ ghost use mathlib.Core.Path.{_≡_};
 ghost use Prim.Native.Nat.{_-_, _≤_, _<_};
 ghost use lib.ListN.{length};
 ghost use Rattle.base.specs.Limits.{weightLimit, hitLimit, workWords};
-ghost use Rattle.mapper.specs.Walking.{termsIn, lineOf, columnUpdate, withPart};
+ghost use Rattle.mapper.specs.Walking.{termsIn, lineOf, columnUpdate, cellUpdate, withPart};
 
 // What the scores of a session share: the weights, the pattern's length, and the threshold's word.
 pub struct Terms {
@@ -62,7 +62,6 @@ fn line_of(work: &[u32], terms: Terms, j: usize) -> Line
         v,
         base: ((LIFT - lost) % WORD_LIMIT) as u32,
         back: wide(work[BACK + j]),
-        threshold: terms.threshold,
     }
 }
 
@@ -70,24 +69,37 @@ fn line_of(work: &[u32], terms: Terms, j: usize) -> Line
 pub fn update(work: &mut [u32], terms: Terms, place: Place, left: usize) -> Passed
     requires { ⌜ (workWords ≤ length (now work)) × (1 ≤ place .columns) × (place .columns ≤ hitLimit) × (place .row ≤ place .columns) ⌝ }
     requires { ⌜ (terms .u ≤ weightLimit) × (terms .v ≤ weightLimit) ⌝ }
-    ensures { λ r. ⌜ r ≡ columnUpdate terms (place .columns - 1) (place .row) (place .m) left (now (work .entry)) .answer ⌝ }
+    ensures { λ r. ⌜ r ≡ columnUpdate terms (place .columns - 1) (place .row) (place .m) (place .highest) left (now (work .entry)) .answer ⌝ }
     ensures { λ _. ⌜ now (work .exit) ≡ withPart (now (work .entry))
-        (columnUpdate terms (place .columns - 1) (place .row) (place .m) left (now (work .entry)) .part) ⌝ }
+        (columnUpdate terms (place .columns - 1) (place .row) (place .m) (place .highest) left (now (work .entry)) .part) ⌝ }
 {
     let line = line_of(work, terms, place.columns - 1);
     let row = place.row;
     let to = row + smaller(left, place.columns - row);
-    pass(&mut work[INDEX..PART_END], line, row, to, place.m)
+    pass(
+        &mut work[INDEX..PART_END],
+        line,
+        row,
+        to,
+        place.m,
+        place.highest,
+    )
 }
 
 // The same of one cell.
 pub fn update_one(work: &mut [u32], terms: Terms, place: Place) -> Passed
     requires { ⌜ (workWords ≤ length (now work)) × (place .columns ≤ hitLimit) × (place .row < place .columns) ⌝ }
     requires { ⌜ (terms .u ≤ weightLimit) × (terms .v ≤ weightLimit) ⌝ }
-    ensures { λ r. ⌜ r ≡ columnUpdate terms (place .columns - 1) (place .row) (place .m) 1 (now (work .entry)) .answer ⌝ }
+    ensures { λ r. ⌜ r ≡ cellUpdate terms (place .columns - 1) (place .row) (place .m) (place .highest) (now (work .entry)) .answer ⌝ }
     ensures { λ _. ⌜ now (work .exit) ≡ withPart (now (work .entry))
-        (columnUpdate terms (place .columns - 1) (place .row) (place .m) 1 (now (work .entry)) .part) ⌝ }
+        (cellUpdate terms (place .columns - 1) (place .row) (place .m) (place .highest) (now (work .entry)) .part) ⌝ }
 {
     let line = line_of(work, terms, place.columns - 1);
-    pass_one(&mut work[INDEX..PART_END], line, place.row, place.m)
+    pass_one(
+        &mut work[INDEX..PART_END],
+        line,
+        place.row,
+        place.m,
+        place.highest,
+    )
 }

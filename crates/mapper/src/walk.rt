@@ -3,21 +3,20 @@ use crate::answer::Stepped;
 use crate::decide::decided;
 use crate::place::Place;
 use crate::place::save;
-use crate::place::settled;
-use crate::place::top_shared;
+use crate::place::settle;
+use crate::score::raised;
 use crate::update::Terms;
 use crate::update::terms_of;
 use crate::update::update;
 use crate::update::update_one;
 use session_cells::cells::Passed;
-use session_cells::score::lowered;
 use session_words::INDEX;
 ghost use mathlib.Core.Path.{_≡_};
 ghost use Prim.Native.Nat.{_+_, _≤_, _<_};
 ghost use lib.ListN.{length, getD};
 ghost use Rattle.base.specs.Limits.{weightLimit, hitLimit, workWords, wordLimit};
 ghost use Rattle.session_words.specs.FirstWords.{uAt, vAt};
-ghost use Rattle.mapper.specs.Walking.{termsIn, spentWalk, finishedWalk, foundWalk, walkOn};
+ghost use Rattle.mapper.specs.Walking.{termsIn, spentWalk, finishedWalk, foundWalk, walkOn, oneWalk};
 
 // The budget's cells are passed.
 fn spent(work: &mut [u32], place: Place, cells: usize) -> Stepped
@@ -39,82 +38,72 @@ fn finished(work: &mut [u32], place: Place, cells: usize) -> Stepped
     Stepped::Finished(cells as u32)
 }
 
-// The cell passed last, in the last of these columns, is a candidate: it is decided.
-fn found(work: &mut [u32], terms: Terms, columns: usize, p: Passed, cells: usize) -> Stepped
+// The cell passed last, of the last of these columns, is a candidate: it is decided, with the place behind it.
+fn found(
+    work: &mut [u32],
+    terms: Terms,
+    columns: usize,
+    p: Passed,
+    place: Place,
+    cells: usize,
+) -> Stepped
     requires { ⌜ (workWords ≤ length (now work)) × (1 ≤ columns) × (columns ≤ hitLimit) × (1 ≤ p .row) × (p .row ≤ hitLimit)
         × (cells < wordLimit) ⌝ }
-    ensures { λ r. ⌜ r ≡ foundWalk terms (now (work .entry)) columns p cells .answer ⌝ }
-    ensures { λ r. ⌜ now (work .exit) ≡ foundWalk terms (now (work .entry)) columns p cells .words ⌝ }
+    requires { ⌜ (place .columns ≤ hitLimit) × (place .row < wordLimit) ⌝ }
+    ensures { λ r. ⌜ r ≡ foundWalk terms (now (work .entry)) columns p place cells .answer ⌝ }
+    ensures { λ r. ⌜ now (work .exit) ≡ foundWalk terms (now (work .entry)) columns p place cells .words ⌝ }
 {
-    let row = p.row;
-    let a = work[INDEX + row - 1];
+    let a = work[INDEX + p.row - 1];
     let b = work[INDEX + columns - 1];
-    let place = settled(work, columns, row, lowered(p.m, 1));
     save(work, place, cells);
-    decided(terms, a, b, p.m, cells as u32)
+    decided(terms, a, b, raised(p.m), cells as u32)
 }
 
 // The cells from this place on, at most `budget` of them.
 pub fn walk(work: &mut [u32], start: Place, budget: usize) -> Stepped
     requires { ⌜ (workWords ≤ length (now work)) × (budget < wordLimit) × (start .columns ≤ hitLimit) × (start .row ≤ start .columns) ⌝ }
     requires { ⌜ (getD (now work) uAt 0 ≤ weightLimit) × (getD (now work) vAt 0 ≤ weightLimit) ⌝ }
-    ensures { λ r. ⌜ r ≡ walkOn (termsIn (now (work .entry))) budget (start .columns) (start .row) (start .m) budget (now (work .entry)) .answer ⌝ }
-    ensures { λ r. ⌜ now (work .exit)
-        ≡ walkOn (termsIn (now (work .entry))) budget (start .columns) (start .row) (start .m) budget (now (work .entry)) .words ⌝ }
+    ensures { λ r. ⌜ r ≡ walkOn (termsIn (now (work .entry))) budget (start .columns) (start .row) (start .m) (start .highest) budget
+        (now (work .entry)) .answer ⌝ }
+    ensures { λ r. ⌜ now (work .exit) ≡ walkOn (termsIn (now (work .entry))) budget (start .columns) (start .row) (start .m) (start .highest) budget
+        (now (work .entry)) .words ⌝ }
 {
     let terms = terms_of(work);
-    let mut columns = start.columns;
-    let mut row = start.row;
-    let mut m = start.m;
+    let mut place = start;
     let mut left = budget;
-    while 0 < columns {
+    while 0 < place.columns {
         if left == 0 {
-            return spent(work, Place { columns, row, m }, budget);
+            return spent(work, place, budget);
         }
-        let p = update(work, terms, Place { columns, row, m }, left);
-        let next = p.row;
-        left -= next - row;
+        let columns = place.columns;
+        let p = update(work, terms, place, left);
+        left -= p.row - place.row;
+        place = settle(work, columns, p);
         if p.found {
-            return found(work, terms, columns, p, budget - left);
+            return found(work, terms, columns, p, place, budget - left);
         }
-        if next < columns {
-            return spent(
-                work,
-                Place {
-                    columns,
-                    row: next,
-                    m: p.m,
-                },
-                budget - left,
-            );
-        }
-        columns -= 1;
-        row = 0;
-        m = top_shared(work, columns);
     }
-    finished(work, Place { columns: 0, row, m }, budget - left)
+    finished(work, place, budget - left)
 }
 
 // The walk of one cell in a column that has a further row.
 pub fn walk_one(work: &mut [u32], start: Place) -> Stepped
     requires { ⌜ (workWords ≤ length (now work)) × (start .columns ≤ hitLimit) × (start .row + 1 < start .columns) ⌝ }
     requires { ⌜ (getD (now work) uAt 0 ≤ weightLimit) × (getD (now work) vAt 0 ≤ weightLimit) ⌝ }
-    ensures { λ r. ⌜ r ≡ walkOn (termsIn (now (work .entry))) 1 (start .columns) (start .row) (start .m) 1 (now (work .entry)) .answer ⌝ }
-    ensures { λ r. ⌜ now (work .exit) ≡ walkOn (termsIn (now (work .entry))) 1 (start .columns) (start .row) (start .m) 1 (now (work .entry)) .words ⌝ }
+    ensures { λ r. ⌜ r ≡ oneWalk (termsIn (now (work .entry))) (start .columns) (start .row) (start .m) (start .highest) (now (work .entry)) .answer ⌝ }
+    ensures { λ r. ⌜ now (work .exit)
+        ≡ oneWalk (termsIn (now (work .entry))) (start .columns) (start .row) (start .m) (start .highest) (now (work .entry)) .words ⌝ }
 {
     let terms = terms_of(work);
-    let columns = start.columns;
     let p = update_one(work, terms, start);
+    let place = Place {
+        columns: start.columns,
+        row: p.row,
+        m: p.m,
+        highest: p.highest,
+    };
     if p.found {
-        return found(work, terms, columns, p, 1);
+        return found(work, terms, start.columns, p, place, 1);
     }
-    spent(
-        work,
-        Place {
-            columns,
-            row: p.row,
-            m: p.m,
-        },
-        1,
-    )
+    spent(work, place, 1)
 }

@@ -1,22 +1,28 @@
 -- What passing the cells of a column answers, and what it leaves of any part of any work words, made by start and steps or not.
-use Prim.Native.Nat.{ℕ, zero, suc, _+_, _-_, _*_, _%_, max}
-use mathlib.Core.Bool.{Bool, true, false, cond, _&&_}
+use Prim.Native.Nat.{ℕ, zero, suc, _+_, _-_, _*_, _/_, _%_, min}
+use mathlib.Core.Bool.{Bool, true, false, cond, not, _&&_}
 use mathlib.Core.List.{List}
 use lib.Dec.{leb, ltb, eqb}
 use lib.ListN.{length, getD, set}
 use Rattle.base.specs.Limits.{hitLimit, wordLimit}
 use Rattle.base.specs.Lists.{bit}
-use Rattle.session_words.specs.Layout.{indexFrom, reachFrom, bestFrom, partLength}
+use Rattle.session_words.specs.Layout.{indexFrom, reachFrom, bestFrom, blockRows, topsFrom, startsFrom, partLength}
+use Rattle.session_records.specs.Records.{greater}
 use Rattle.session_cells.specs.declared.cells.Line.{Line}
 use Rattle.session_cells.specs.declared.cells.Passed.{Passed}
-use Rattle.session_cells.specs.declared.cells.Paused.{Paused}
 
--- where reach and the greatest score word of row i stand in the part, which begins with the indices
+-- where reach and the record of row i stand in the part, which begins with the indices, and the top and the start of block b
 abbrev pub reachAt : ℕ → ℕ
 reachAt i = reachFrom - indexFrom + i
 
 abbrev pub bestAt : ℕ → ℕ
 bestAt i = bestFrom - indexFrom + i
+
+abbrev pub topAt : ℕ → ℕ
+topAt b = topsFrom - indexFrom + b
+
+abbrev pub startAt : ℕ → ℕ
+startAt b = startsFrom - indexFrom + b
 
 -- m less one or none, as a word
 abbrev pub lowered : ℕ → ℕ → ℕ
@@ -26,67 +32,91 @@ lowered m one = (m + wordLimit - one) % wordLimit
 unfoldable pub lineScore : Line → ℕ → ℕ → ℕ
 lineScore line m x = (line .gain * m + line .v * x + line .base) % wordLimit
 
--- the greatest score word that the rows before this one have seen
-abbrev pub seenBefore : List ℕ → ℕ → ℕ
-seenBefore part zero = 0
-seenBefore part (suc i) = getD part (bestAt i) 0
-
--- the greatest score word of row i with the cell of this score word passed, where the rows before have seen `before`
-unfoldable pub bestWith : List ℕ → ℕ → ℕ → ℕ → ℕ
-bestWith part i before s = max before (max (getD part (bestAt i) 0) s)
-
 -- 1 where hit i is reasonable as the left end in this line's column
 unfoldable pub inReach : Line → List ℕ → ℕ → ℕ
 inReach line part i = bit (ltb (line .column) (getD part (reachAt i) 0))
 
--- the four tests of Definition 1 at a cell of row i, by words
-unfoldable pub candidateTest : ℕ → ℕ → ℕ → ℕ → ℕ → ℕ → Bool
-candidateTest threshold s best one from i = leb threshold s && eqb s best && eqb one 1 && leb from i
+-- the part with this score word entered in row i as a record, where it is greater than what the rows up to i have seen
+unfoldable pub entered : List ℕ → ℕ → ℕ → ℕ → List ℕ
+entered part i s seen =
+    cond (leb s seen)
+    part
+    (set (set part (bestAt i) s) (topAt (i / blockRows)) (greater leb s (getD part (topAt (i / blockRows)) 0)))
 
--- where the cells were passed up to one at the threshold: what is answered, and the part of the work words afterwards
-pub record Pause : Type 0 where
-  pub answer : Paused
-  pub part : List ℕ
-
--- the next n cells of the line from row i on, up to the first whose score word reaches the threshold
-abbrev pub quietRows : Line → ℕ → ℕ → ℕ → ℕ → List ℕ → Pause
-quietRows line zero i m before part = record { answer = record { row = i; m = m; best = before; score = 0; reach = 0 }; part = part }
-quietRows line (suc n) i m before part =
-    let s = lineScore line m (getD part i 0) in
-    let best = bestWith part i before s in
-    let one = inReach line part i in
-    let updated = set part (bestAt i) best in
-    let later = quietRows line n (suc i) (lowered m one) best updated in
-    cond (leb (line .threshold) s)
-    (record { answer = record { row = suc i; m = lowered m one; best = best; score = s; reach = getD part (reachAt i) 0 }; part = updated })
-    later
+-- Definition 1 at a cell of row i, by words: its score word is at least what the rows up to i have seen, the threshold included, and
+-- both of its ends are reasonable
+unfoldable pub candidateTest : ℕ → ℕ → ℕ → ℕ → ℕ → Bool
+candidateTest seen s one back i = leb seen s && eqb one 1 && leb back i
 
 -- a column's update: what it answers, and the part of the work words afterwards
 pub record Update : Type 0 where
   pub answer : Passed
   pub part : List ℕ
 
--- what is answered where the last cell passed is no candidate: the row and m of the next one
-abbrev pub nonePassed : ℕ → ℕ → Passed
-nonePassed i m = record { found = false; row = i; m = m }
+-- what is answered where the last cell passed is no candidate, or none was passed: of the next one the row, m, and what the rows before it
+-- have seen
+abbrev pub nonePassed : ℕ → ℕ → ℕ → Passed
+nonePassed i m highest = record { found = false; row = i; m = m; highest = highest }
 
--- the next n cells of the line from row i on, up to the first candidate; `before` is what the rows before i have seen
+-- ---- cell by cell
+
+-- the next n cells of the line from row i on, up to the first candidate; the rows before i have seen `highest`
 abbrev pub passRows : Line → ℕ → ℕ → ℕ → ℕ → List ℕ → Update
-passRows line zero i m before part = record { answer = nonePassed i m; part = part }
-passRows line (suc n) i m before part =
+passRows line zero i m highest part = record { answer = nonePassed i m highest; part = part }
+passRows line (suc n) i m highest part =
     let s = lineScore line m (getD part i 0) in
-    let best = bestWith part i before s in
+    let seen = greater leb highest (getD part (bestAt i) 0) in
     let one = inReach line part i in
-    let updated = set part (bestAt i) best in
-    let later = passRows line n (suc i) (lowered m one) best updated in
-    cond (candidateTest (line .threshold) s best one (line .back) i)
-    (record { answer = record { found = true; row = suc i; m = m }; part = updated })
+    let after = entered part i s seen in
+    let later = passRows line n (suc i) (lowered m one) (greater leb seen s) after in
+    cond (candidateTest seen s one (line .back) i)
+    (record { answer = record { found = true; row = suc i; m = lowered m one; highest = greater leb seen s }; part = after })
     later
 
--- a part of the three blocks, in which the rows from `from` up to `to` lie
-unfoldable pub fits : List ℕ → ℕ → ℕ → Bool
-fits part from to = eqb (length part) partLength && leb to hitLimit && leb from to
+-- ---- block by block
+
+-- where the rest of a block ends, from row i on: with the block, or with the column
+unfoldable pub restEnd : Line → ℕ → ℕ
+restEnd line i = min ((i / blockRows + 1) * blockRows) (line .column + 1)
+
+-- the bound of the rows from i up to that end: m of the first with the length of the last
+unfoldable pub bound : Line → ℕ → ℕ → List ℕ → ℕ
+bound line i m part = lineScore line m (getD part (restEnd line i - 1) 0)
+
+-- the rest of the block is skipped: it ends within the rows that are asked for, and its bound is less than what the rows before it have seen
+unfoldable pub skips : Line → ℕ → ℕ → ℕ → ℕ → List ℕ → Bool
+skips line to i m highest part = leb (restEnd line i) to && not (leb highest (bound line i m part))
+
+-- behind the rest of the block of row i
+unfoldable pub skipped : Line → ℕ → ℕ → List ℕ → Passed
+skipped line i highest part =
+    nonePassed (restEnd line i) (getD part (startAt (i / blockRows + 1)) 0) (greater leb highest (getD part (topAt (i / blockRows)) 0))
+
+-- the rest of the block of row i, or its rows below `to`
+unfoldable pub passRest : Line → ℕ → ℕ → ℕ → ℕ → List ℕ → Update
+passRest line to i m highest part =
+    cond (skips line to i m highest part)
+    (record { answer = skipped line i highest part; part = part })
+    (passRows line (min (restEnd line i) to - i) i m highest part)
+
+-- the rows from i up to `to`, up to the first candidate, by at most n blocks
+abbrev pub passBlocks : Line → ℕ → ℕ → ℕ → ℕ → ℕ → List ℕ → Update
+passBlocks line zero to i m highest part = record { answer = nonePassed i m highest; part = part }
+passBlocks line (suc n) to i m highest part =
+    let rest = passRest line to i m highest part in
+    let later = passBlocks line n to (rest .answer .row) (rest .answer .m) (rest .answer .highest) (rest .part) in
+    cond (ltb i to) (cond (rest .answer .found) rest later) (record { answer = nonePassed i m highest; part = part })
+
+-- ---- a column
+
+-- a part of all tables, in which the rows from `from` up to `to` lie, none of them behind the line's column
+unfoldable pub fits : Line → List ℕ → ℕ → ℕ → Bool
+fits line part from to = eqb (length part) partLength && leb to hitLimit && leb to (line .column + 1) && leb from to
 
 -- the cells of the rows from `from` up to `to`, up to the first candidate; where the rows do not fit, none
-unfoldable pub columnPass : Line → ℕ → ℕ → ℕ → List ℕ → Update
-columnPass line from to m part = passRows line (cond (fits part from to) (to - from) 0) from m (seenBefore part from) part
+unfoldable pub columnPass : Line → ℕ → ℕ → ℕ → ℕ → List ℕ → Update
+columnPass line from to m highest part = passBlocks line (cond (fits line part from to) (to - from) 0) to from m highest part
+
+-- the cell of this row; where it does not fit, none
+unfoldable pub cellPass : Line → ℕ → ℕ → ℕ → List ℕ → Update
+cellPass line row m highest part = passRows line (cond (fits line part row (row + 1)) 1 0) row m highest part

@@ -1,192 +1,147 @@
-// Passing the cells of one column: up to a candidate, or all of some rows. A candidate passes the tests of Definition 1 by score words,
-// which order as the scores do. It is the caller who decides, by the score itself.
-use crate::score::below;
+// Passing the cells of one column: up to a candidate, or all of some rows, by blocks of rows that are skipped where none of their cells can
+// matter. A candidate passes the tests of Definition 1 by score words, which order as the scores do. It is the caller who decides, by
+// the score itself.
+use crate::rows::pass_row;
+use crate::rows::pass_rows;
 use crate::score::greater;
-use crate::score::lowered;
-use crate::score::raised;
 use crate::score::score_word;
 use base::HIT_LIMIT;
-use session_words::BEST;
+use base::smaller;
+use session_words::BLOCK_ROWS;
 use session_words::INDEX;
 use session_words::PART_END;
-use session_words::REACH;
+use session_words::STARTS;
+use session_words::TOPS;
+use session_words::wide;
 ghost use mathlib.Core.Path.{_≡_};
 ghost use Prim.Native.Nat.{_+_, _-_, _≤_, _<_};
 ghost use lib.ListN.{length};
 ghost use Rattle.base.specs.Limits.{hitLimit};
 ghost use Rattle.session_words.specs.Layout.{partLength};
-ghost use Rattle.session_cells.specs.Passing.{seenBefore, candidateTest, quietRows, nonePassed, passRows, fits as fitsPart, columnPass};
+ghost use Rattle.session_cells.specs.Passing.{nonePassed, restEnd, skips, skipped, passRest, passBlocks, fits as fitsPart, columnPass, cellPass};
 
-// The part is the work words from INDEX up to PART_END: where reach and best of row 0 stand in it, and how long it is.
-const REACH_AT: usize = REACH - INDEX;
+// The part is the work words from INDEX up to PART_END: where top and start of block 0 stand in it, and how long it is.
+const TOPS_AT: usize = TOPS - INDEX;
 
-const BEST_AT: usize = BEST - INDEX;
+const STARTS_AT: usize = STARTS - INDEX;
 
 const PART_LENGTH: usize = PART_END - INDEX;
 
-// What the cells of a column share: its number, the factors and the sum of the score words, the row from which its hit is
-// reasonable as a right end, and the threshold's word.
+// What the cells of a column share: its number, the factors and the sum of the score words, and the row from which its hit is
+// reasonable as a right end.
 pub struct Line {
     pub column: u32,
     pub gain: u32,
     pub v: u32,
     pub base: u32,
     pub back: usize,
-    pub threshold: u32,
 }
 
-// Whether the last cell passed is a candidate, the row of the next one, and the candidate's m, or else that of the next cell.
+// Whether the last cell passed is a candidate; and of the next one the row, m, and the greatest of the threshold and of the records in the
+// rows before it.
 pub struct Passed {
     pub found: bool,
     pub row: usize,
     pub m: u32,
+    pub highest: u32,
 }
 
-// Where cells were passed up to one at the threshold: the row of the next cell and its m, the greatest score word so far, and of the
-// cell at the threshold its score word and its left end's reach, both 0 where there was none.
-pub struct Paused {
-    pub row: usize,
-    pub m: u32,
-    pub best: u32,
-    pub score: u32,
-    pub reach: u32,
-}
-
-// What is answered where the last cell passed is no candidate, or none was passed: the row and m of the next one.
-fn none_passed(row: usize, m: u32) -> Passed
-    ensures { λ r. ⌜ r ≡ nonePassed row m ⌝ }
+// What is answered where the last cell passed is no candidate, or none was passed.
+fn none_passed(row: usize, m: u32, highest: u32) -> Passed
+    ensures { λ r. ⌜ r ≡ nonePassed row m highest ⌝ }
 {
     Passed {
         found: false,
         row,
         m,
+        highest,
     }
 }
 
-// The greatest score word that the rows before this one have seen.
-fn best_before(part: &[u32], row: usize) -> u32
-    requires { ⌜ (length (now part) ≡ partLength) × (row ≤ hitLimit) ⌝ }
-    ensures { λ r. ⌜ r ≡ seenBefore (now (part .entry)) row ⌝ }
+// Where the rest of a block ends, from this row on: with the block, or with the column.
+fn rest_end(line: Line, row: usize) -> usize
+    requires { ⌜ row < hitLimit ⌝ }
+    ensures { λ r. ⌜ r ≡ restEnd line row ⌝ }
 {
-    if row == 0 {
-        return 0;
-    }
-    part[BEST_AT + row - 1]
+    smaller((row / BLOCK_ROWS + 1) * BLOCK_ROWS, wide(line.column) + 1)
 }
 
-// Definition 1 at a cell, by words: its score word s is enough and the greatest so far, and both of its ends are reasonable.
-fn is_candidate(threshold: u32, s: u32, best: u32, one: u32, back: usize, row: usize) -> bool
-    ensures { λ r. ⌜ r ≡ candidateTest threshold s best one back row ⌝ }
+// The rest of the block ends within the rows that are asked for, and none of its cells can reach what the rows before it have seen: m does
+// not rise with the row, and the interval gets shorter, so m of the first with the length of the last bounds them all.
+fn is_skipped(part: &[u32], line: Line, to: usize, row: usize, m: u32, highest: u32) -> bool
+    requires { ⌜ (length (now part) ≡ partLength) × (row < to) × (to ≤ hitLimit) ⌝ }
+    ensures { λ r. ⌜ r ≡ skips line to row m highest (now (part .entry)) ⌝ }
 {
-    if s < threshold {
+    let end = rest_end(line, row);
+    if to < end {
         return false;
     }
-    if s != best {
-        return false;
-    }
-    if one != 1 {
-        return false;
-    }
-    back <= row
+    score_word(line.gain, m, line.v, part[end - 1], line.base) < highest
 }
 
-// Passes the cells of rows from `from` up to `to`, or up to the first whose score word reaches the threshold. m0 is the first cell's
-// m, and the rows before it have seen best0. m and the row go on before the only test, so that the loop has one way on.
-fn quiet(part: &mut [u32], line: Line, from: usize, to: usize, m0: u32, best0: u32) -> Paused
-    requires { ⌜ (length (now part) ≡ partLength) × (from ≤ to) × (to ≤ hitLimit) ⌝ }
-    ensures { λ r. ⌜ r ≡ quietRows line (to - from) from m0 best0 (now (part .entry)) .answer ⌝ }
-    ensures { λ r. ⌜ now (part .exit) ≡ quietRows line (to - from) from m0 best0 (now (part .entry)) .part ⌝ }
-{
-    let mut m = m0;
-    let mut best = best0;
-    let mut i = from;
-    while i < to {
-        let s = score_word(line.gain, m, line.v, part[i], line.base);
-        let reach = part[REACH_AT + i];
-        best = greater(best, greater(part[BEST_AT + i], s));
-        part[BEST_AT + i] = best;
-        m = lowered(m, below(line.column, reach));
-        i += 1;
-        if line.threshold <= s {
-            return Paused {
-                row: i,
-                m,
-                best,
-                score: s,
-                reach,
-            };
-        }
-    }
-    Paused {
-        row: i,
-        m,
-        best,
-        score: 0,
-        reach: 0,
-    }
-}
-
-// Passes the cells of rows from `from` up to `to`, or up to the first candidate. m0 is the first cell's m.
-fn pass_rows(part: &mut [u32], line: Line, from: usize, to: usize, m0: u32) -> Passed
-    requires { ⌜ (length (now part) ≡ partLength) × (from ≤ to) × (to ≤ hitLimit) ⌝ }
-    ensures { λ r. ⌜ r ≡ passRows line (to - from) from m0 (seenBefore (now (part .entry)) from) (now (part .entry)) .answer ⌝ }
-    ensures { λ r. ⌜ now (part .exit) ≡ passRows line (to - from) from m0 (seenBefore (now (part .entry)) from) (now (part .entry)) .part ⌝ }
-{
-    let mut m = m0;
-    let mut best = best_before(part, from);
-    let mut i = from;
-    while i < to {
-        let q = quiet(part, line, i, to, m, best);
-        i = q.row;
-        m = q.m;
-        best = q.best;
-        if is_candidate(
-            line.threshold,
-            q.score,
-            best,
-            below(line.column, q.reach),
-            line.back,
-            i - 1,
-        ) {
-            return Passed {
-                found: true,
-                row: i,
-                m: raised(m),
-            };
-        }
-    }
-    none_passed(i, m)
-}
-
-// Passes the one cell of this row, whose m is this. No loop, and the threshold first: steps of one cell pass here.
-fn pass_row(part: &mut [u32], line: Line, row: usize, m: u32) -> Passed
+// Behind the rest of the block of this row.
+fn skip(part: &[u32], line: Line, row: usize, highest: u32) -> Passed
     requires { ⌜ (length (now part) ≡ partLength) × (row < hitLimit) ⌝ }
-    ensures { λ r. ⌜ r ≡ passRows line 1 row m (seenBefore (now (part .entry)) row) (now (part .entry)) .answer ⌝ }
-    ensures { λ r. ⌜ now (part .exit) ≡ passRows line 1 row m (seenBefore (now (part .entry)) row) (now (part .entry)) .part ⌝ }
+    ensures { λ r. ⌜ r ≡ skipped line row highest (now (part .entry)) ⌝ }
 {
-    let before = best_before(part, row);
-    let s = score_word(line.gain, m, line.v, part[row], line.base);
-    let one = below(line.column, part[REACH_AT + row]);
-    let best = greater(before, greater(part[BEST_AT + row], s));
-    part[BEST_AT + row] = best;
-    let next = row + 1;
-    let rest = lowered(m, one);
-    if s < line.threshold {
-        return none_passed(next, rest);
-    }
-    if is_candidate(line.threshold, s, best, one, line.back, row) {
-        return Passed {
-            found: true,
-            row: next,
-            m,
-        };
-    }
-    none_passed(next, rest)
+    let block = row / BLOCK_ROWS;
+    none_passed(
+        rest_end(line, row),
+        part[STARTS_AT + block + 1],
+        greater(highest, part[TOPS_AT + block]),
+    )
 }
 
-// The part has its three blocks, and the rows from `from` up to `to` lie in them.
-fn fits(part: &[u32], from: usize, to: usize) -> bool
-    ensures { λ r. ⌜ r ≡ fitsPart (now (part .entry)) from to ⌝ }
+// Passes the rest of the block of this row, or its rows below `to`, up to the first candidate.
+fn pass_rest(part: &mut [u32], line: Line, to: usize, row: usize, m: u32, highest: u32) -> Passed
+    requires { ⌜ (length (now part) ≡ partLength) × (row < to) × (to ≤ hitLimit) × (to ≤ line .column + 1) ⌝ }
+    ensures { λ r. ⌜ r ≡ passRest line to row m highest (now (part .entry)) .answer ⌝ }
+    ensures { λ r. ⌜ now (part .exit) ≡ passRest line to row m highest (now (part .entry)) .part ⌝ }
+{
+    if is_skipped(part, line, to, row, m, highest) {
+        return skip(part, line, row, highest);
+    }
+    pass_rows(
+        part,
+        line,
+        row,
+        smaller(rest_end(line, row), to),
+        m,
+        highest,
+    )
+}
+
+// Passes the cells of rows from `from` up to `to`, or up to the first candidate, block by block.
+fn pass_blocks(
+    part: &mut [u32],
+    line: Line,
+    from: usize,
+    to: usize,
+    m0: u32,
+    highest0: u32,
+) -> Passed
+    requires { ⌜ (length (now part) ≡ partLength) × (from ≤ to) × (to ≤ hitLimit) × (to ≤ line .column + 1) ⌝ }
+    ensures { λ r. ⌜ r ≡ passBlocks line (to - from) to from m0 highest0 (now (part .entry)) .answer ⌝ }
+    ensures { λ r. ⌜ now (part .exit) ≡ passBlocks line (to - from) to from m0 highest0 (now (part .entry)) .part ⌝ }
+{
+    let mut i = from;
+    let mut m = m0;
+    let mut highest = highest0;
+    while i < to {
+        let p = pass_rest(part, line, to, i, m, highest);
+        if p.found {
+            return p;
+        }
+        i = p.row;
+        m = p.m;
+        highest = p.highest;
+    }
+    none_passed(i, m, highest)
+}
+
+// The part has all its tables, and the rows from `from` up to `to` lie in them, none of them behind the line's column.
+fn fits(line: Line, part: &[u32], from: usize, to: usize) -> bool
+    ensures { λ r. ⌜ r ≡ fitsPart line (now (part .entry)) from to ⌝ }
 {
     if part.len() != PART_LENGTH {
         return false;
@@ -194,31 +149,34 @@ fn fits(part: &[u32], from: usize, to: usize) -> bool
     if HIT_LIMIT < to {
         return false;
     }
+    if wide(line.column) + 1 < to {
+        return false;
+    }
     from <= to
 }
 
-// Passes the cells of rows from `from` up to `to`, or up to the first candidate. m0 is the first cell's m. Where the rows do not fit,
-// no cell is passed.
-pub fn pass(part: &mut [u32], line: Line, from: usize, to: usize, m0: u32) -> Passed
-    ensures { λ r. ⌜ r ≡ columnPass line from to m0 (now (part .entry)) .answer ⌝ }
-    ensures { λ _. ⌜ now (part .exit) ≡ columnPass line from to m0 (now (part .entry)) .part ⌝ }
+// Passes the cells of rows from `from` up to `to`, or up to the first candidate. m is the first cell's, and the rows before it have seen
+// `highest`. Where the rows do not fit, no cell is passed.
+pub fn pass(part: &mut [u32], line: Line, from: usize, to: usize, m: u32, highest: u32) -> Passed
+    ensures { λ r. ⌜ r ≡ columnPass line from to m highest (now (part .entry)) .answer ⌝ }
+    ensures { λ _. ⌜ now (part .exit) ≡ columnPass line from to m highest (now (part .entry)) .part ⌝ }
 {
-    if fits(part, from, to) {
-        return pass_rows(part, line, from, to, m0);
+    if fits(line, part, from, to) {
+        return pass_blocks(part, line, from, to, m, highest);
     }
-    none_passed(from, m0)
+    none_passed(from, m, highest)
 }
 
-// Passes the one cell of this row, whose m is this, as `pass` does.
-pub fn pass_one(part: &mut [u32], line: Line, row: usize, m: u32) -> Passed
-    ensures { λ r. ⌜ r ≡ columnPass line row (row + 1) m (now (part .entry)) .answer ⌝ }
-    ensures { λ _. ⌜ now (part .exit) ≡ columnPass line row (row + 1) m (now (part .entry)) .part ⌝ }
+// Passes the one cell of this row.
+pub fn pass_one(part: &mut [u32], line: Line, row: usize, m: u32, highest: u32) -> Passed
+    ensures { λ r. ⌜ r ≡ cellPass line row m highest (now (part .entry)) .answer ⌝ }
+    ensures { λ _. ⌜ now (part .exit) ≡ cellPass line row m highest (now (part .entry)) .part ⌝ }
 {
     if HIT_LIMIT <= row {
-        return none_passed(row, m);
+        return none_passed(row, m, highest);
     }
-    if fits(part, row, row + 1) {
-        return pass_row(part, line, row, m);
+    if fits(line, part, row, row + 1) {
+        return pass_row(part, line, row, m, highest);
     }
-    none_passed(row, m)
+    none_passed(row, m, highest)
 }

@@ -2,15 +2,16 @@
 // that no start made within their range.
 use base::WORD_LIMIT;
 ghost use mathlib.Core.Path.{_≡_};
-ghost use Prim.Native.Nat.{_+_, _*_, _%_, max};
-ghost use lib.Dec.{ltb};
+ghost use Prim.Native.Nat.{_+_, _*_, _%_};
+ghost use lib.Dec.{leb, ltb};
 ghost use Rattle.base.specs.Limits.{wordLimit};
 ghost use Rattle.base.specs.Lists.{bit};
+ghost use Rattle.session_records.specs.Records as Records;
 ghost use Rattle.session_cells.specs.Passing as Passing;
 
-// The greater of two words.
+// The greater of two score words.
 pub(crate) fn greater(a: u32, b: u32) -> u32
-    ensures { λ r. ⌜ r ≡ max a b ⌝ }
+    ensures { λ r. ⌜ r ≡ Records.greater leb a b ⌝ }
 {
     if a < b { b } else { a }
 }
@@ -27,13 +28,6 @@ pub fn lowered(m: u32, one: u32) -> u32
     ensures { λ r. ⌜ r ≡ Passing.lowered m one ⌝ }
 {
     ((m as u64 + WORD_LIMIT - one as u64) % WORD_LIMIT) as u32
-}
-
-// m and one.
-pub(crate) fn raised(m: u32) -> u32
-    ensures { λ r. ⌜ r ≡ (m + 1) % wordLimit ⌝ }
-{
-    ((m as u64 + 1) % WORD_LIMIT) as u32
 }
 
 // The score word of a cell: gain·m + v·x + base. Each product is cut to a word, so that no sum passes 64 bits.

@@ -8,7 +8,7 @@ use borrow.Author.Tests.{lt-ltb, le-ltb}
 use Rattle.base.specs.Replies.{accepted, refused}
 use Rattle.mappings.specs.Score.{Task}
 use Rattle.mappings.proofs.Compute.{mappings-compute}
-use Rattle.session_start.specs.WorkWords.{withCell, bestAfter, heading, blocks, sessionWords}
+use Rattle.session_start.specs.WorkWords.{withCell, bestAfter, highestAfter, heading, topsAfter, startsAfter, tables, sessionWords}
 use Rattle.session_start.specs.Start.{badWeights, startReply, startWords}
 
 abbrev task : ℕ → ℕ → List ℕ → List ℕ → Task
@@ -58,5 +58,5 @@ pub record StartWords : Type 0 where
   pub refused-same : (before : List ℕ) → startWords (task 0 1 (7 ∷ []) (7 ∷ [])) before ≡ before
 
 pub start-words : StartWords
-unfolding mappings-compute badWeights startReply withCell bestAfter heading blocks sessionWords startWords
+unfolding mappings-compute badWeights startReply withCell bestAfter highestAfter heading topsAfter startsAfter tables sessionWords startWords
 start-words = record { first-four = refl; beyond = refl; refused-same = λ before. refl }

@@ -1,12 +1,13 @@
 -- Laws about the work words, what start's functions ask and give, and examples that compute.
 pub mod Bias
 pub mod Tables
+pub mod WorkWords
 mod Storing
 mod Ring
 mod Reaching
 mod Noting
 mod Linking
-pub mod WorkWords
+mod BlockStarts
 mod Putting
 mod Starting
 mod Replies

@@ -1,4 +1,4 @@
--- Reach and whole of each hit, from back of each: what the loops that write them keep.
+-- Reach of each hit, from back of each: what the loop that writes it keeps.
 use Prim.Native.Nat.{ℕ, zero, suc, _+_, _-_, _≤_, _<_}
 use native.Mathlib.Omega.{arith}
 use native.Mathlib.Numerals.{add-one}
@@ -6,17 +6,14 @@ use mathlib.Core.Path.{_≡_, refl, sym, ap, _∙_}
 use mathlib.Core.Logic.{_⊎_, inl, inr, _≢_}
 use mathlib.Core.Bool.{Bool, true, false, cond}
 use mathlib.Core.List.{List}
-use lib.Dec.{ltb, eqb, eqb·zero-suc, eqb·suc-zero}
-use lib.ListN.{length, getD, take, set, replicate, length-set, getD-replicate}
+use lib.Dec.{ltb}
+use lib.ListN.{length, getD, set, replicate, length-set, getD-replicate}
 use lib.Seq.{ext-getD, getD-set-same, getD-set-other}
 use borrow.Author.Tests.{lt-ltb, le-ltb, ltb-true, ltb-false}
-use Rattle.base.specs.Lists.{bit}
-use Rattle.base.specs.Counts.{occ}
 use Rattle.base.proofs.Lists.{eq-or-ne}
-use Rattle.base.proofs.Counts.{occ-take-suc}
-use Rattle.session_start.specs.Tables.{reach, back, whole}
-use Rattle.session_start.specs.Noting.{AllIn, backs, reaches, withPair, zerosUpTo}
-use Rattle.session_start.proofs.Tables.{reach-within, reach-pair, pair-reach, back-pair, pair-back, whole-first, whole-suc}
+use Rattle.session_start.specs.Tables.{reach, back}
+use Rattle.session_start.specs.Noting.{AllIn, backs, reaches, withPair}
+use Rattle.session_start.proofs.Tables.{reach-within, reach-pair, pair-reach, back-pair, pair-back}
 use Rattle.session_start.proofs.WorkWords.{length-table, getD-table}
 
 pub length-backs : (p g : List ℕ) → length (backs p g) ≡ length g
@@ -131,35 +128,3 @@ module _ (p g noted : List ℕ) (e : noted ≡ backs p g) where
   told-end words j h l n t =
       let end : j ≡ length g = omega (arith, length-noted) in
       told-all p g words (omega (arith, length-noted)) (rw end at t)
-
--- ---- whole
-
-pub length-zerosUpTo : (words : List ℕ) → length (zerosUpTo words) ≡ length words
-unfolding zerosUpTo
-length-zerosUpTo words = length-table (λ (j : ℕ). occ 0 (take (suc j) words)) (length words)
-
-pub getD-zerosUpTo : (words : List ℕ) (j : ℕ) → j < length words → getD (zerosUpTo words) j 0 ≡ occ 0 (take (suc j) words)
-unfolding zerosUpTo
-getD-zerosUpTo words j h = getD-table (λ (j : ℕ). occ 0 (take (suc j) words)) (length words) j h
-
-same-zero : (n : ℕ) → eqb 0 n ≡ eqb n 0
-same-zero zero = refl
-same-zero (suc n) = eqb·zero-suc n ∙ sym (eqb·suc-zero n)
-
--- m of the first hits is how many of them have back 0
-module _ (p g : List ℕ) (all : AllIn p g) where
-  one-more : (j : ℕ) → j < length g → occ 0 (take (suc j) (backs p g)) ≡ occ 0 (take j (backs p g)) + bit (eqb (back p g j) 0)
-  one-more j h =
-      occ-take-suc 0 j (backs p g) (rw (length-backs p g) h)
-      ∙ ap (λ (n : ℕ). occ 0 (take j (backs p g)) + bit (eqb 0 n)) (getD-backs p g j h)
-      ∙ ap (λ (b : Bool). occ 0 (take j (backs p g)) + bit b) (same-zero (back p g j))
-
-  pub whole-zeros : (j : ℕ) → j < length g → occ 0 (take (suc j) (backs p g)) ≡ whole p g j
-  whole-zeros zero h = one-more 0 h ∙ (let e : 0 + bit (eqb (back p g 0) 0) ≡ bit (eqb (back p g 0) 0) = omega arith in e) ∙ sym (whole-first p g all h)
-  whole-zeros (suc j) h = one-more (suc j) h ∙ ap (λ (n : ℕ). n + bit (eqb (back p g (suc j)) 0)) (whole-zeros j (omega arith))
-      ∙ sym (whole-suc p g all j h)
-
--- one word more
-pub count-more : (words : List ℕ) (j m r : ℕ) → j < length words → m ≡ occ 0 (take j words) → r ≡ bit (eqb 0 (getD words j 0))
-    → m + r ≡ occ 0 (take (suc j) words)
-count-more words j m r h e f = rw (e, f) (sym (occ-take-suc 0 j words h))

@@ -1,5 +1,5 @@
 -- The tables of a session: reach and back tell in which cells a hit is reasonable as an end, come in pairs, and are told by how often each
--- code has occurred before; whole counts the hits whose back is 0.
+-- code has occurred before.
 use Prim.Native.Nat.{ℕ, zero, suc, _+_, _-_, _≤_, _<_, zero-le}
 use native.Mathlib.Nat.{le-refl}
 use native.Mathlib.Omega.{arith}
@@ -9,19 +9,18 @@ use mathlib.Core.Bool.{Bool, true, false, cond}
 use mathlib.Core.List.{List}
 use lib.Dec.{leb, ltb, eqb}
 use lib.ListN.{length, getD, take, drop}
-use lib.Seq.{take-take, slice-empty}
-use borrow.Author.Tests.{lt-ltb, le-ltb, le-leb, lt-leb, leb-true, leb-false, ltb-true, ltb-false, eq-eqb, ne-eqb}
+use lib.Seq.{take-take}
+use borrow.Author.Tests.{lt-ltb, le-ltb, le-leb, lt-leb, leb-true, leb-false, ltb-true, ltb-false, eq-eqb}
 use Rattle.base.specs.Lists.{bit}
 use Rattle.base.specs.Counts.{occ}
 use Rattle.base.proofs.Lists.{eq-or-ne, clash}
 use Rattle.base.proofs.Counts.{occ-split, occ-take-suc, bit-same, bit-other}
-use Rattle.mappings.specs.Score.{Task, interval, shared}
+use Rattle.mappings.specs.Score.{Task, interval}
 use Rattle.mappings.specs.HitCodes.{hitCodes}
 use Rattle.mappings.specs.Cells.{hitCount}
-use Rattle.mappings.proofs.Shared.{shared-left-end, shared-right-end, shared-nil}
 use Rattle.mappings.proofs.Hits.{hit-in-pattern}
 use Rattle.mappings.proofs.HitCodes.{length-hitCodes, getD-hitCodes}
-use Rattle.session_start.specs.Tables.{firstFrom, reach, back, whole}
+use Rattle.session_start.specs.Tables.{firstFrom, reach, back}
 use Rattle.session_start.specs.Noting.{AllIn}
 
 -- ---- the first number that passes a test
@@ -259,37 +258,6 @@ module _ (p g : List ℕ) where
             let s : before g (getD g j 0) (back p g j) ≤ before g (getD g j 0) i = before-mono g (getD g j 0) (back p g j) i q in
             sym (enough (getD g j 0) i j h (omega arith))
         go false e = sym (not-enough (getD g j 0) i j h (back-low i j (leb-false (back p g j) i e) h))
-
-    -- a hit is reasonable as the right end of a whole column where its back is 0
-    back-whole : (j : ℕ) → j < length g → leb (occ (getD g j 0) (interval g 0 j)) (occ (getD g j 0) p) ≡ eqb (back p g j) 0
-    back-whole j h = sym (back-test 0 j zero-le h) ∙ go (eq-or-ne (back p g j) 0)
-      where
-        go : (back p g j ≡ 0) ⊎ (back p g j ≡ 0 → ⊥) → leb (back p g j) 0 ≡ eqb (back p g j) 0
-        go (inl e) = rw e
-        go (inr n) = lt-leb (back p g j) 0 (omega arith) ∙ sym (ne-eqb (back p g j) 0 n)
-
-    -- ---- whole
-
-    -- m of the first hit
-    pub whole-first : 0 < length g → whole p g 0 ≡ bit (eqb (back p g 0) 0)
-    unfolding whole interval
-    whole-first h =
-        let none : shared p (interval g 1 0) ≡ 0 = ap (shared p) (slice-empty 1 g) ∙ shared-nil p in
-        let e : shared p (interval g 0 0) ≡ bit (leb (occ (getD g 0 0) (interval g 0 0)) (occ (getD g 0 0) p)) + shared p (interval g 1 0) =
-        shared-left-end p g 0 0 (le-refl 0) h in
-        let b : bit (leb (occ (getD g 0 0) (interval g 0 0)) (occ (getD g 0 0) p)) ≡ bit (eqb (back p g 0) 0) = ap bit (back-whole 0 h) in
-        omega arith
-
-    -- m grows by one with each hit whose back is 0
-    pub whole-suc : (j : ℕ) → suc j < length g → whole p g (suc j) ≡ whole p g j + bit (eqb (back p g (suc j)) 0)
-    unfolding whole
-    whole-suc j h =
-        let e : shared p (interval g 0 (suc j))
-        ≡ bit (leb (occ (getD g (suc j) 0) (interval g 0 (suc j))) (occ (getD g (suc j) 0) p)) + shared p (interval g 0 j) =
-        shared-right-end p g 0 j zero-le h in
-        let b : bit (leb (occ (getD g (suc j) 0) (interval g 0 (suc j))) (occ (getD g (suc j) 0) p)) ≡ bit (eqb (back p g (suc j)) 0) =
-        ap bit (back-whole (suc j) h) in
-        omega arith
 
     -- ---- reach and back come in pairs
 

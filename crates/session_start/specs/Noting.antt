@@ -1,10 +1,10 @@
 -- What start notes of each hit before it writes a work word: its index in the text, its slot among the pattern's words in order, and back.
-use Prim.Native.Nat.{ℕ, zero, suc, _≤_, _<_}
+use Prim.Native.Nat.{ℕ, zero, suc, _+_, _≤_, _<_}
 use mathlib.Core.Bool.{cond, _&&_}
 use mathlib.Core.Path.{_≡_}
 use mathlib.Core.List.{List, [], _∷_, map}
 use lib.Dec.{eqb, ltb}
-use lib.ListN.{length, getD, set, take}
+use lib.ListN.{length, getD, set}
 use Rattle.base.specs.Lists.{bit, range}
 use Rattle.base.specs.Counts.{occ}
 use Rattle.base.specs.Replies.{Reply, accepted, refused}
@@ -14,7 +14,8 @@ use Rattle.mappings.specs.Bias.{biasedZ}
 use Rattle.mappings.specs.Score.{Task}
 use Rattle.mappings.specs.Cells.{hitsFrom, hits, hitCount}
 use Rattle.mappings.specs.HitCodes.{hitCodes}
-use Rattle.session_start.specs.Tables.{reach, back}
+use Rattle.session_words.specs.Layout.{reachFrom, blockCount}
+use Rattle.session_start.specs.Tables.{reach, back, startOf}
 
 -- 1 where x stands at this index, else 0
 abbrev pub oneAt : List ℕ → ℕ → ℕ → ℕ
@@ -48,18 +49,22 @@ backs p g = map (back p g) (range 0 (length g))
 unfoldable pub reaches : List ℕ → List ℕ → List ℕ
 reaches p g = map (reach p g) (range 0 (length g))
 
+-- these words hold reach of each hit in its place
+abbrev pub HoldsReach : List ℕ → List ℕ → List ℕ → Type 0
+HoldsReach p g words = (i : ℕ) → i < length g → getD words (reachFrom + i) 0 ≡ reach p g i
+
 -- hit j ends the reach of the hit before its back, if there is one
 abbrev pub withPair : ℕ → ℕ → List ℕ → List ℕ
 withPair zero j l = l
 withPair (suc i) j l = set l i j
 
--- how many zeros there are up to each index
-unfoldable pub zerosUpTo : List ℕ → List ℕ
-zerosUpTo words = map (λ (j : ℕ). occ 0 (take (suc j) words)) (range 0 (length words))
+-- m at the first row of each block in the last column, and one 0 more
+unfoldable pub starts : List ℕ → List ℕ → List ℕ
+starts p g = map (startOf p g (length g)) (range 0 (suc (blockCount (length g))))
 
--- words 0 to 9 of a session in which no cell has been passed
+-- words 0 to 10 of a session in which no cell has been passed
 abbrev pub freshHeading : ℕ → ℕ → ℕ → ℕ → ℕ → ℕ → List ℕ
-freshHeading h u v size threshold shared = h ∷ u ∷ v ∷ 0 ∷ 0 ∷ size ∷ threshold ∷ h ∷ 0 ∷ shared ∷ []
+freshHeading h u v size threshold shared = h ∷ u ∷ v ∷ 0 ∷ 0 ∷ size ∷ threshold ∷ h ∷ 0 ∷ shared ∷ threshold ∷ []
 
 -- what start has at hand when it writes the work words of a task
 pub record Prepared (task : Task) (u v size threshold : ℕ) (index noted : List ℕ) : Type 0 where

@@ -1,19 +1,21 @@
 // Starting a mapping session: `start` copies what a session needs into lent work words.
-mod blocks;
 mod hits;
 mod per_hit;
+mod starts;
 mod threshold;
+mod word_tables;
 
-use crate::blocks::fill;
-use crate::blocks::hit_zeros;
-use crate::blocks::pattern_zeros;
-use crate::blocks::put_block;
-use crate::blocks::put_heading;
 use crate::hits::collect;
 use crate::per_hit::put_back;
 use crate::per_hit::put_reach;
-use crate::per_hit::put_whole;
+use crate::starts::block_count;
+use crate::starts::put_starts;
 use crate::threshold::biased;
+use crate::word_tables::fill;
+use crate::word_tables::hit_zeros;
+use crate::word_tables::pattern_zeros;
+use crate::word_tables::put_heading;
+use crate::word_tables::put_table;
 use base::HIT_LIMIT;
 use base::PATTERN_LIMIT;
 use base::TEXT_LIMIT;
@@ -22,6 +24,7 @@ use base::WORK_WORDS;
 use session_words::BACK;
 use session_words::BEST;
 use session_words::INDEX;
+use session_words::TOPS;
 use sorting::sort_words;
 ghost use mathlib.Core.Path.{_≡_};
 ghost use mathlib.Core.List.{List};
@@ -67,11 +70,12 @@ fn put_words(
         → now (work .exit) ≡ sessionWords task (now (work .entry)) 0) ⌝ }
 {
     let h = index.len();
-    put_block(backs, BACK, work);
-    put_block(index, INDEX, work);
+    put_table(backs, BACK, work);
+    put_table(index, INDEX, work);
     put_reach(backs, work);
+    let shared = put_starts(h, work);
     fill(0, h, BEST, work);
-    let shared = put_whole(backs, work);
+    fill(0, block_count(h), TOPS, work);
     put_heading(h as u32, u, v, size, threshold, shared, work);
 }
 

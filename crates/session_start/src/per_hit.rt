@@ -1,21 +1,17 @@
-// What a session knows of each hit: back, reach and whole.
-use crate::blocks::fill;
-use crate::blocks::pattern_zeros;
+// What a session knows of each hit: back and reach.
 use crate::hits::one_at;
+use crate::word_tables::fill;
+use crate::word_tables::pattern_zeros;
 use session_words::REACH;
-use session_words::WHOLE;
 use session_words::wide;
 ghost use mathlib.Core.Path.{_≡_};
 ghost use mathlib.Core.List.{List};
 ghost use Prim.Native.Nat.{ℕ, _+_, _≤_, _<_};
-ghost use lib.Dec.{eqb};
 ghost use lib.ListN.{length, getD};
 ghost use lib.Seq.{sets};
 ghost use Rattle.base.specs.Limits.{patternLimit, hitLimit, workWords};
-ghost use Rattle.base.specs.Lists.{bit};
-ghost use Rattle.base.specs.Counts.{occ};
-ghost use Rattle.session_words.specs.Layout.{reachFrom, wholeFrom};
-ghost use Rattle.session_start.specs.Noting.{wordsAt, Begin, AllIn, backs as backsOf, reaches, withPair, zerosUpTo};
+ghost use Rattle.session_words.specs.Layout.{reachFrom};
+ghost use Rattle.session_start.specs.Noting.{wordsAt, Begin, AllIn, backs as backsOf, reaches, withPair};
 
 // Back of each hit. The slots of a word, as many as it occurs in the pattern, are a ring of the last hits with that word, each by its
 // number + 1: so a hit finds in its place the hit that stands as many occurrences before it as the pattern has, or 0.
@@ -82,25 +78,4 @@ pub(crate) fn put_reach(backs: &[u32], work: &mut [u32])
         → now (work .exit) ≡ sets (now (work .entry)) reachFrom (reaches p g)) ⌝ }
 {
     put_pairs(backs, &mut work[REACH..REACH + backs.len()]);
-}
-
-fn one_if_zero(x: u32) -> u32
-    ensures { λ r. ⌜ (r ≡ bit (eqb 0 x)) × (r ≤ 1) ⌝ }
-{
-    if 0 == x { 1 } else { 0 }
-}
-
-// Whole of each hit, from back of each, in its place among the work words; it answers that of the last, or 0 where there is none.
-pub(crate) fn put_whole(backs: &[u32], work: &mut [u32]) -> u32
-    requires { ⌜ (length (now backs) ≤ hitLimit) × (workWords ≤ length (now work)) ⌝ }
-    ensures { λ r. ⌜ (r ≡ occ 0 (now (backs .entry))) × (now (work .exit) ≡ sets (now (work .entry)) wholeFrom (zerosUpTo (now (backs .entry)))) ⌝ }
-{
-    let mut m: u32 = 0;
-    let mut j = 0;
-    while j < backs.len() {
-        m += one_if_zero(backs[j]);
-        work[WHOLE + j] = m;
-        j += 1;
-    }
-    m
 }

@@ -1,6 +1,6 @@
--- The layout of the work words behind the first four: where each word and each block of a session stands. docs/WORK_WORDS.md says in a
+-- The layout of the work words behind the first four: where each word and each table of a session stands. docs/WORK_WORDS.md says in a
 -- table what they hold.
-use Prim.Native.Nat.{ℕ, _-_}
+use Prim.Native.Nat.{ℕ, _+_, _-_, _/_}
 
 -- ---- single words
 
@@ -27,7 +27,11 @@ rowAt = 8
 abbrev pub mAt : ℕ
 mAt = 9
 
--- ---- blocks: one word a hit, from here on
+-- the greatest of the threshold and of the records in the rows before it
+abbrev pub highestAt : ℕ
+highestAt = 10
+
+-- ---- tables: one word a hit, from here on
 
 -- the smallest row from which a hit is reasonable as a right end
 abbrev pub backFrom : ℕ
@@ -41,19 +45,32 @@ indexFrom = 4096
 abbrev pub reachFrom : ℕ
 reachFrom = 6144
 
--- the column in hand: the greatest score word in the rows up to this one
+-- the column in hand: the last record of this row
 abbrev pub bestFrom : ℕ
 bestFrom = 8192
 
--- m of the hits up to this one
-abbrev pub wholeFrom : ℕ
-wholeFrom = 10240
+-- ---- blocks of rows, and tables of one word a block
 
--- ---- the part that a column's update is lent: indices, reach and best
+abbrev pub blockRows : ℕ
+blockRows = 64
+
+-- how many blocks so many rows make
+abbrev pub blockCount : ℕ → ℕ
+blockCount rows = (rows + 63) / blockRows
+
+-- the greatest record of the block's rows
+abbrev pub topsFrom : ℕ
+topsFrom = 10240
+
+-- m at the block's first row in the column in hand; one word more than there are blocks
+abbrev pub startsFrom : ℕ
+startsFrom = 10272
+
+-- ---- the part that a column's update is lent: indices, reach, best, tops and starts
 
 -- where it ends; it begins at indexFrom
 abbrev pub partEnd : ℕ
-partEnd = wholeFrom
+partEnd = 10305
 
 -- how many words it has
 abbrev pub partLength : ℕ

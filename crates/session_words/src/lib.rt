@@ -25,7 +25,9 @@ pub const ROW: usize = 8;
 
 pub const SHARED: usize = 9;
 
-// Blocks of one word a hit.
+pub const HIGHEST: usize = 10;
+
+// Tables of one word a hit.
 pub const BACK: usize = 2048;
 
 pub const INDEX: usize = 4096;
@@ -34,10 +36,15 @@ pub const REACH: usize = 6144;
 
 pub const BEST: usize = 8192;
 
-pub const WHOLE: usize = 10240;
+// Rows of a column come in blocks of so many. Tables of one word a block, the second with one word more.
+pub const BLOCK_ROWS: usize = 64;
 
-// A column's update is lent the blocks from INDEX up to here.
-pub const PART_END: usize = WHOLE;
+pub const TOPS: usize = 10240;
+
+pub const STARTS: usize = 10272;
+
+// A column's update is lent the tables from INDEX up to here.
+pub const PART_END: usize = 10305;
 
 // Added to scores and thresholds that are kept as words: unsigned words then order as the signed numbers do.
 pub const BIAS: u32 = 2147483648;

@@ -9,16 +9,24 @@ const BACK: usize = 2_048;
 const INDEX: usize = 4_096;
 const REACH: usize = 6_144;
 const BEST: usize = 8_192;
-const WHOLE: usize = 10_240;
+const TOPS: usize = 10_240;
+const STARTS: usize = 10_272;
+
+/// The rows of a column come in blocks of so many.
+const BLOCK_ROWS: usize = 64;
 
 /// The words of a session, and what is needed to pass its cells.
 #[derive(Clone)]
 pub struct WorkWords {
     words: Vec<u32>,
+    threshold: u32,
+    h: usize,
     q: usize,
     /// the columns left, and the row of the next cell; both 0 where none is left
     columns: usize,
     row: usize,
+    /// the greatest of the threshold's word and of the records in the rows before the next cell's
+    highest: u32,
     /// m and the score, plus 2^31, of each cell in the order of passing
     cells: Vec<(u32, u32)>,
 }
@@ -61,42 +69,66 @@ impl WorkWords {
     pub fn new(task: &Task, before: &[u32]) -> WorkWords {
         let hits = named_hits(task);
         let h = hits.index.len();
-        let cells = passed_cells(task, &hits);
+        let threshold = biased(i64::from(task.threshold));
         let mut words = before.to_vec();
-        let size = task.pattern.len() as u32;
-        words[..7].copy_from_slice(&[h as u32, task.u, task.v, 0, 0, size, biased(i64::from(task.threshold))]);
+        words[..7].copy_from_slice(&[h as u32, task.u, task.v, 0, 0, task.pattern.len() as u32, threshold]);
         for j in 0..h {
             words[BACK + j] = back(&hits, j) as u32;
             words[INDEX + j] = hits.index[j] as u32;
             words[REACH + j] = reach(&hits, j) as u32;
             words[BEST + j] = 0;
-            // the first cell of column j: the columns after it have the cells before it
-            words[WHOLE + j] = cells[cell_count(h) - cell_count(j + 1)].0;
         }
-        let mut made = WorkWords { words, q: 0, columns: h, row: 0, cells };
+        let cells = passed_cells(task, &hits);
+        let mut made = WorkWords { words, threshold, h, q: 0, columns: h, row: 0, highest: threshold, cells };
         made.write_place();
+        made.write_blocks();
         made
     }
 
+    /// m of the cell of this row in the column in hand, 0 where that column has none. The columns after it have the cells before it.
+    fn shared(&self, row: usize) -> u32 {
+        if row < self.columns { self.cells[cell_count(self.h) - cell_count(self.columns) + row].0 } else { 0 }
+    }
+
     fn write_place(&mut self) {
-        let m = self.cells.get(self.q).map_or(0, |cell| cell.0);
         self.words[3] = self.q as u32;
-        self.words[7..10].copy_from_slice(&[self.columns as u32, self.row as u32, m]);
+        let (columns, row, m) = (self.columns as u32, self.row as u32, self.shared(self.row));
+        self.words[7..11].copy_from_slice(&[columns, row, m, self.highest]);
+    }
+
+    /// The greatest record of each block, and m at its first row; one row more has such an m.
+    fn write_blocks(&mut self) {
+        let blocks = self.h.div_ceil(BLOCK_ROWS);
+        for block in 0..blocks {
+            let rows = block * BLOCK_ROWS..self.h.min((block + 1) * BLOCK_ROWS);
+            self.words[TOPS + block] = rows.fold(0, |top, row| top.max(self.words[BEST + row]));
+        }
+        for block in 0..=blocks {
+            self.words[STARTS + block] = self.shared(block * BLOCK_ROWS);
+        }
+    }
+
+    /// Passes one cell. Its score enters its row as a record where no row up to there has seen one as great, and the threshold is lower.
+    fn pass(&mut self, score: u32) {
+        let best = &mut self.words[BEST + self.row];
+        self.highest = self.highest.max(*best);
+        if score > self.highest {
+            (*best, self.highest) = (score, score);
+        }
+        self.row += 1;
+        if self.row == self.columns {
+            (self.columns, self.row, self.highest) = (self.columns - 1, 0, self.threshold);
+        }
     }
 
     /// The words after q cells. q does not fall from call to call.
     pub fn after(&mut self, q: usize) -> &[u32] {
         for number in self.q..q {
-            let i = self.row;
-            let before = if i == 0 { 0 } else { self.words[BEST + i - 1] };
-            self.words[BEST + i] = self.words[BEST + i].max(before).max(self.cells[number].1);
-            self.row += 1;
-            if self.row == self.columns {
-                (self.columns, self.row) = (self.columns - 1, 0);
-            }
+            self.pass(self.cells[number].1);
         }
         self.q = q;
         self.write_place();
+        self.write_blocks();
         &self.words
     }
 }

@@ -13,7 +13,7 @@ use Rattle.session_start.proofs.put_session.Statement.{statement}
 use Rattle.session_start.proofs.put_session.Tie as tie
 use Rattle.session_start.proofs.put_session.Reads as reads
 use Rattle.session_start.proofs.put_session.Lts as lts
-use Rattle.session_start.proofs.blocks.hit_zeros.Reads as hit-zeros-reads
+use Rattle.session_start.proofs.word_tables.hit_zeros.Reads as hit-zeros-reads
 use Rattle.session_start.proofs.per_hit.put_back.Reads as put-back-reads
 use Rattle.session_start.proofs.put_words.Reads as put-words-reads
 

@@ -35,6 +35,9 @@ slice-write-work-3 c = simp length-set (search needs)
 slice-write-work-4 : tie.Need-slice-write-work-4
 slice-write-work-4 c = simp length-set (search needs)
 
+slice-write-work-5 : tie.Need-slice-write-work-5
+slice-write-work-5 c = simp length-set (search needs)
+
 same-length : tie.Need-same-length
 same-length c = search needs
 
@@ -56,5 +59,6 @@ save-spec =
     cast-work-3
     slice-write-work-3
     slice-write-work-4
+    slice-write-work-5
     same-length
     returns)

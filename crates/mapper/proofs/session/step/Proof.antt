@@ -9,12 +9,12 @@ use lib.ListN.{getD}
 use borrow.Author.Needs.{needs}
 use Rattle.base.specs.Limits.{weightLimit, hitLimit}
 use Rattle.session_words.specs.FirstWords.{uAt, vAt}
-use Rattle.session_words.specs.Layout.{columnsAt, rowAt, mAt}
+use Rattle.session_words.specs.Layout.{columnsAt, rowAt, mAt, highestAt}
 use Rattle.mapper.specs.declared.answer.Stepped.{Stepped}
 use Rattle.mapper.specs.Step.{badWords}
-use Rattle.mapper.specs.Walking.{Walk, termsIn, walkOn}
+use Rattle.mapper.specs.Walking.{Walk, termsIn, walkOn, oneWalk}
 use Rattle.mapper.specs.Promise.{StepPromise}
-use Rattle.mapper.proofs.StepPromise.{few-promise, bad-promise, lost-promise, walk-promise}
+use Rattle.mapper.proofs.StepPromise.{few-promise, bad-promise, lost-promise, walk-promise, one-promise}
 use Rattle.mapper.proofs.StepTests.{GoodWords, good-words, one-inside}
 use Rattle.mapper.proofs.session.step.Statement.{statement}
 use Rattle.mapper.proofs.session.step.Tie as tie
@@ -34,9 +34,9 @@ columns c = c .before .before
 abbrev good : tie.After-wide2 → tie.Else2
 good c = columns c .before .before
 
--- the row is read, and m
+-- the row is read, and the rest of the place
 abbrev row : tie.After-one-inside → tie.After-wide3
-row c = c .before .before
+row c = c .before .before .before
 
 abbrev place : tie.After-one-inside → tie.Else3
 place c = row c .before .before
@@ -88,8 +88,11 @@ slice-read-wide-3 c = search needs
 wide-requires-3 : tie.Need-wide-requires-3
 wide-requires-3 c κs = search needs
 
-slice-read-m : tie.Need-slice-read-m
-slice-read-m c = search needs
+slice-read-t12 : tie.Need-slice-read-t12
+slice-read-t12 c = search needs
+
+slice-read-t17 : tie.Need-slice-read-t17
+slice-read-t17 c = search needs
 
 one-inside-requires : tie.Need-one-inside-requires
 one-inside-requires c κs = search needs
@@ -116,18 +119,16 @@ module _ (d : tie.After-one-inside) where
   columns-within : columns hits .wide .result ≤ hitLimit
   columns-within = omega (arith, place d .if3 .left, hits .wide2 .ensures .0, within .few-hits)
 
-  -- a walk from the place in the words, with the budget, keeps the promise
-  walked : (cells : ℕ) → cells ≡ start .args .budget → (answer : Stepped) (after : List ℕ)
-      → answer ≡ walkOn (termsIn work) cells (columns hits .wide .result) (row d .wide3 .result) (getD work mAt 0) cells work .answer
-      → after ≡ walkOn (termsIn work) cells (columns hits .wide .result) (row d .wide3 .result) (getD work mAt 0) cells work .words
+  -- what keeps the promise from the place in the words, keeps it from the place as it was read
+  read : (walk : ℕ → ℕ → Walk) → (answer : Stepped) (after : List ℕ)
+      → answer ≡ walk (columns hits .wide .result) (row d .wide3 .result) .answer
+      → after ≡ walk (columns hits .wide .result) (row d .wide3 .result) .words
+      → StepPromise work (start .args .budget) (walk (getD work columnsAt 0) (getD work rowAt 0) .answer) (walk (getD work columnsAt 0) (getD work rowAt 0) .words)
       → StepPromise work (start .args .budget) answer after
-  walked cells n answer after a b =
-      let same : walkOn (termsIn work) cells (columns hits .wide .result) (row d .wide3 .result) (getD work mAt 0) cells work
-      ≡ walkOn (termsIn work) (start .args .budget) (getD work columnsAt 0) (getD work rowAt 0) (getD work mAt 0) (start .args .budget) work =
-      λ i. walkOn (termsIn work) (n i) (columns hits .wide .ensures .0 i) (row d .wide3 .ensures .0 i) (getD work mAt 0) (n i) work
-      in
-      subst₂ (StepPromise work (start .args .budget)) (sym (a ∙ ap (λ (w : Walk). w .answer) same)) (sym (b ∙ ap (λ (w : Walk). w .words) same))
-      (walk-promise work (start .args .budget) (enough (good hits .before) .if1 .left) (not-bad (good hits)))
+  read walk answer after a b promise =
+      let same : walk (columns hits .wide .result) (row d .wide3 .result) ≡ walk (getD work columnsAt 0) (getD work rowAt 0) =
+      λ i. walk (columns hits .wide .ensures .0 i) (row d .wide3 .ensures .0 i) in
+      subst₂ (StepPromise work (start .args .budget)) (sym (a ∙ ap (λ (w : Walk). w .answer) same)) (sym (b ∙ ap (λ (w : Walk). w .words) same)) promise
 
 -- the budget is one cell, and its column has a further row
 inside : (e : tie.Then4) → (start (e .before) .args .budget ≡ 1) × (row (e .before) .wide3 .result + 1 < columns (hits (e .before)) .wide .result)
@@ -147,7 +148,12 @@ returns-4 : tie.Need-returns-4
 returns-4 c =
     let w = c .before .before in
     let e = w .before .before in
-    walked (e .before) 1 (sym (inside e .0)) _ _ (w .walk-one .ensures .0) (w .walk-one .ensures .1)
+    let d = e .before in
+    let further : getD (work d) rowAt 0 + 1 < getD (work d) columnsAt 0 =
+    omega (arith, inside e .1, columns (hits d) .wide .ensures .0, row d .wide3 .ensures .0) in
+    read d (λ n r. oneWalk (termsIn (work d)) n r (getD (work d) mAt 0) (getD (work d) highestAt 0) (work d)) _ _ (w .walk-one .ensures .0)
+    (w .walk-one .ensures .1)
+    (one-promise (work d) (start d .args .budget) (enough (good (hits d) .before) .if1 .left) (not-bad (good (hits d))) (inside e .0) further)
 
 same-length-4 : tie.Need-same-length-4
 same-length-4 c = search needs
@@ -176,7 +182,12 @@ returns-6 c =
     let w = c .before .before in
     let cells = w .before in
     let e = cells .before .before in
-    walked (e .before .before) (cells .wide4 .result) (cells .wide4 .ensures .0) _ _ (w .walk .ensures .0) (w .walk .ensures .1)
+    let d = e .before .before in
+    let budget = start d .args .budget in
+    let walk : ℕ → ℕ → ℕ → Walk = λ b n r. walkOn (termsIn (work d)) b n r (getD (work d) mAt 0) (getD (work d) highestAt 0) b (work d) in
+    let given = ap (λ (b : ℕ). walk b (columns (hits d) .wide .result) (row d .wide3 .result)) (cells .wide4 .ensures .0) in
+    read d (walk budget) _ _ (w .walk .ensures .0 ∙ ap (λ (x : Walk). x .answer) given) (w .walk .ensures .1 ∙ ap (λ (x : Walk). x .words) given)
+    (walk-promise (work d) budget (enough (good (hits d) .before) .if1 .left) (not-bad (good (hits d))))
 
 pub step-spec : {M : Type 1} → statement M
 step-spec =
@@ -194,7 +205,8 @@ step-spec =
     returns-3
     slice-read-wide-3
     wide-requires-3
-    slice-read-m
+    slice-read-t12
+    slice-read-t17
     one-inside-requires
     walk-one-requires
     same-length-3

@@ -7,7 +7,8 @@ use lib.ListN.{getD}
 use borrow.Author.Needs.{needs}
 use Rattle.base.specs.Limits.{weightLimit, wordLimit}
 use Rattle.session_words.specs.Layout.{indexFrom}
-use Rattle.mapper.specs.Walking.{margin, lift, lineOf}
+use Rattle.session_rule.specs.Lines.{margin, lift}
+use Rattle.mapper.specs.Walking.{lineOf}
 use Rattle.mapper.proofs.update.line_of.Statement.{statement}
 use Rattle.mapper.proofs.update.line_of.Tie as tie
 
@@ -100,7 +101,6 @@ returns c =
       v = terms .v;
       base = (lift - lost i) % wordLimit;
       back = c .wide .ensures .0 i;
-      threshold = terms .threshold;
     }
 
 pub line-of-spec : {M : Type 1} → statement M

@@ -3,7 +3,7 @@ use Prim.Native.Nat.{_-_}
 use mathlib.Core.Path.{ap, _∙_}
 use borrow.Author.Needs.{needs}
 use Rattle.session_cells.specs.Passing.{Update}
-use Rattle.mapper.specs.Walking.{withPart, partOf}
+use Rattle.mapper.specs.Walking.{middle, withMiddle, withPart}
 use Rattle.mapper.proofs.Walking.{update-is}
 use Rattle.mapper.proofs.update.update.Statement.{statement}
 use Rattle.mapper.proofs.update.update.Tie as tie
@@ -52,7 +52,7 @@ same-length : tie.Need-same-length
 same-length c = search needs
 
 returns : tie.Need-returns
-unfolding withPart partOf
+unfolding withMiddle middle
 returns c =
     let passed = c .before .before in
     let args = entry passed .args in
@@ -60,8 +60,9 @@ returns c =
     let line = lined passed .line-of in
     let cells = counted passed .smaller in
     let work = args .work .now in
-    let e = update-is (args .terms) (args .place .columns) (args .place .row) (args .place .m) (args .left) work (line .result) (cells .result)
-    (pre .1) (pre .2) (pre .3) (pre .0) (line .ensures) (cells .ensures) in
+    let place = args .place in
+    let e = update-is (args .terms) (place .columns) (place .row) (place .m) (place .highest) work (line .result) (pre .2) (pre .0) (line .ensures)
+    (args .left) (cells .result) (pre .1) (pre .3) (cells .ensures) in
     (passed .pass .ensures .0 ∙ ap (λ (u : Update). u .answer) e, ap (withPart work) (passed .pass .ensures .1 ∙ ap (λ (u : Update). u .part) e))
 
 pub update-spec : {M : Type 1} → statement M

@@ -1,11 +1,10 @@
--- `update::update_one` meets its contract: what `pass_one` has passed in the part is the column's update.
+-- `update::update_one` meets its contract: what `pass_one` has passed in the part is the update of one cell.
 use Prim.Native.Nat.{_-_}
-use native.Mathlib.Omega.{arith}
 use mathlib.Core.Path.{ap, _∙_}
 use borrow.Author.Needs.{needs}
 use Rattle.session_cells.specs.Passing.{Update}
-use Rattle.mapper.specs.Walking.{withPart, partOf}
-use Rattle.mapper.proofs.Walking.{update-is}
+use Rattle.mapper.specs.Walking.{middle, withMiddle, withPart}
+use Rattle.mapper.proofs.Walking.{cell-is}
 use Rattle.mapper.proofs.update.update_one.Statement.{statement}
 use Rattle.mapper.proofs.update.update_one.Tie as tie
 
@@ -41,15 +40,16 @@ same-length : tie.Need-same-length
 same-length c = search needs
 
 returns : tie.Need-returns
-unfolding withPart partOf
+unfolding withMiddle middle
 returns c =
     let passed = c .before .before in
     let args = entry passed .args in
     let pre = entry passed .pre .0 in
     let line = lined passed .line-of in
     let work = args .work .now in
-    let e = update-is (args .terms) (args .place .columns) (args .place .row) (args .place .m) 1 work (line .result) 1 (omega (arith, pre .2)) (pre .1)
-    (omega (arith, pre .2)) (pre .0) (line .ensures) (omega (arith, pre .2)) in
+    let place = args .place in
+    let e = cell-is (args .terms) (place .columns) (place .row) (place .m) (place .highest) work (line .result) (pre .1) (pre .0) (line .ensures)
+    (pre .2) in
     (passed .pass-one .ensures .0 ∙ ap (λ (u : Update). u .answer) e, ap (withPart work) (passed .pass-one .ensures .1 ∙ ap (λ (u : Update). u .part) e))
 
 pub update-one-spec : {M : Type 1} → statement M

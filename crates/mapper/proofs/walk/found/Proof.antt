@@ -1,18 +1,23 @@
 -- `walk::found` meets its contract.
+use Prim.Native.Nat.{ℕ, _+_, _-_}
 use mathlib.Core.Path.{ap, _∙_}
-use Rattle.mapper.proofs.Walking.{settled-within}
-use Rattle.mapper.specs.Walking.{foundWalk, settled, saved}
-use Rattle.mapper.specs.declared.place.Place.{Place}
-use native.Mathlib.Omega.{arith}
+use lib.ListN.{getD}
 use borrow.Author.Needs.{needs}
+use Rattle.session_words.specs.Layout.{indexFrom}
+use Rattle.mapper.specs.Walking.{foundWalk}
+use Rattle.mapper.specs.Deciding.{decided}
 use Rattle.mapper.proofs.walk.found.Statement.{statement}
 use Rattle.mapper.proofs.walk.found.Tie as tie
 
-abbrev placed : tie.After-lowered → tie.After-slice-known2
-placed c = c .before .before .before
+-- where the place is saved, where the ends are read, and the entry of the function
+abbrev saves : tie.After-slice-known4 → tie.After-save
+saves c = c .before .before
 
-abbrev entry : tie.After-lowered → tie.Start
-entry c = placed c .before .before
+abbrev read : tie.After-save → tie.After-slice-known2
+read c = c .before .before .before
+
+abbrev entry : tie.After-save → tie.Start
+entry c = read c .before .before .before
 
 add-a : tie.Need-add-a
 add-a c = search needs
@@ -38,18 +43,11 @@ mul-b c = search needs
 slice-read-b : tie.Need-slice-read-b
 slice-read-b c = search needs
 
-lowered-requires : tie.Need-lowered-requires
-lowered-requires c κs = search needs
-
-settled-requires : tie.Need-settled-requires
-settled-requires c κs = search needs
-
 save-requires : tie.Need-save-requires
-save-requires c κs =
-    let d = c .before .before in
-    let args = entry d .args in
-    let w = settled-within (args .work .now) (args .columns) (args .p .row) (d .lowered .result) in
-    (search needs, rw (c .before .settled .ensures) (omega (arith, w .0)), rw (c .before .settled .ensures) (omega (arith, w .1)), search needs)
+save-requires c κs = search needs
+
+raised-requires : tie.Need-raised-requires
+raised-requires c κs = search needs
 
 cast-decided : tie.Need-cast-decided
 cast-decided c = search needs
@@ -63,11 +61,14 @@ same-length c = search needs
 returns : tie.Need-returns
 unfolding foundWalk
 returns c =
-    let saves = c .before .before .before in
-    let settles = saves .before .before in
-    let args = entry (settles .before) .args in
-    let at = settles .settled .ensures ∙ ap (settled (args .work .now) (args .columns) (args .p .row)) (settles .before .lowered .ensures) in
-    (c .decided .ensures, saves .save .ensures ∙ ap (λ (q : Place). saved (args .work .now) q (args .cells)) at)
+    let m = c .before .raised .ensures in
+    let s = saves (c .before .before) in
+    let work = entry s .args .work .now in
+    let args = entry s .args in (
+      c .decided .ensures
+          ∙ ap (λ (n : ℕ). decided (args .terms) (getD work (indexFrom + args .p .row - 1) 0) (getD work (indexFrom + args .columns - 1) 0) n (args .cells)) m,
+      s .save .ensures,
+    )
 
 pub found-spec : {M : Type 1} → statement M
 found-spec =
@@ -81,9 +82,8 @@ found-spec =
     sub-b
     mul-b
     slice-read-b
-    lowered-requires
-    settled-requires
     save-requires
+    raised-requires
     cast-decided
     decided-requires
     same-length

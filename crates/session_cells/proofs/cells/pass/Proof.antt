@@ -1,4 +1,4 @@
--- `cells::pass` meets its contract: where the rows fit, `pass_rows` has passed them.
+-- `cells::pass` meets its contract: where the rows fit, `pass_blocks` has passed them.
 use mathlib.Core.Path.{_≡_, sym, ap, _∙_}
 use mathlib.Core.Bool.{true}
 use borrow.Author.Needs.{needs}
@@ -14,13 +14,11 @@ fits-requires : tie.Need-fits-requires
 fits-requires c κs = search needs
 
 -- `fits` has said so
-fitting : (d : tie.Then1) → fits (entry (d .before) .args .part .now) (entry (d .before) .args .from) (entry (d .before) .args .to) ≡ true
+fitting : (d : tie.Then1) → (let args = entry (d .before) .args in fits (args .line) (args .part .now) (args .from) (args .to) ≡ true)
 fitting d = sym (d .before .fits2 .ensures) ∙ d .if1 .taken
 
-pass-rows-requires : tie.Need-pass-rows-requires
-pass-rows-requires c κs =
-    let args = entry (c .before .before) .args in
-    fits-says (args .part .now) (args .from) (args .to) (fitting (c .before))
+pass-blocks-requires : tie.Need-pass-blocks-requires
+pass-blocks-requires c κs = fits-says _ _ _ _ (fitting (c .before))
 
 same-length : tie.Need-same-length
 same-length c = search needs
@@ -30,8 +28,8 @@ returns c =
     let passed = c .before .before in
     let d = passed .before .before in
     let args = entry (d .before) .args in
-    let e = sym (pass-fits (args .line) (args .from) (args .to) (args .m0) (args .part .now) (fitting d)) in
-    (passed .pass-rows .ensures .0 ∙ ap (λ (u : Update). u .answer) e, passed .pass-rows .ensures .1 ∙ ap (λ (u : Update). u .part) e)
+    let e = sym (pass-fits (args .line) (args .from) (args .to) (args .m) (args .highest) (args .part .now) (fitting d)) in
+    (passed .pass-blocks .ensures .0 ∙ ap (λ (u : Update). u .answer) e, passed .pass-blocks .ensures .1 ∙ ap (λ (u : Update). u .part) e)
 
 none-passed-requires : tie.Need-none-passed-requires
 none-passed-requires c κs = search needs
@@ -43,7 +41,8 @@ returns-2 : tie.Need-returns-2
 returns-2 c =
     let d = c .before .before in
     let args = entry d .args in
-    let e = sym (pass-none (args .line) (args .from) (args .to) (args .m0) (args .part .now) (sym (d .fits2 .ensures) ∙ c .before .if1 .left)) in
+    let e = sym (pass-none (args .line) (args .from) (args .to) (args .m) (args .highest) (args .part .now)
+    (sym (d .fits2 .ensures) ∙ c .before .if1 .left)) in
     (c .none-passed .ensures ∙ ap (λ (u : Update). u .answer) e, ap (λ (u : Update). u .part) e)
 
 pub pass-spec : {M : Type 1} → statement M
@@ -51,7 +50,7 @@ pass-spec =
     tie.close
     (tie.spec
     fits-requires
-    pass-rows-requires
+    pass-blocks-requires
     same-length
     returns
     none-passed-requires

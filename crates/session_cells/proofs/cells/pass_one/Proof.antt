@@ -1,11 +1,11 @@
 -- `cells::pass_one` meets its contract: where the row fits, `pass_row` has passed its cell.
-use Prim.Native.Nat.{ℕ, _+_, _-_}
+use Prim.Native.Nat.{_+_}
 use native.Mathlib.Omega.{arith}
 use mathlib.Core.Path.{_≡_, sym, ap, _∙_}
 use mathlib.Core.Bool.{true}
 use borrow.Author.Needs.{needs}
-use Rattle.session_cells.specs.Passing.{seenBefore, Update, passRows, fits}
-use Rattle.session_cells.proofs.Fitting.{fits-says, fits-past, pass-fits, pass-none}
+use Rattle.session_cells.specs.Passing.{Update, fits}
+use Rattle.session_cells.proofs.Fitting.{fits-says, fits-past, cell-fits, cell-none}
 use Rattle.session_cells.proofs.cells.pass_one.Statement.{statement}
 use Rattle.session_cells.proofs.cells.pass_one.Tie as tie
 
@@ -19,8 +19,8 @@ none-passed-requires c κs = search needs
 returns : tie.Need-returns
 returns c =
     let args = c .before .before .before .args in
-    let past = fits-past (args .part .now) (args .row) (args .row + 1) (omega (arith, c .before .if1 .taken)) in
-    let e = sym (pass-none (args .line) (args .row) (args .row + 1) (args .m) (args .part .now) past) in
+    let past = fits-past (args .line) (args .part .now) (args .row) (args .row + 1) (omega (arith, c .before .if1 .taken)) in
+    let e = sym (cell-none (args .line) (args .row) (args .m) (args .highest) (args .part .now) past) in
     (c .none-passed .ensures ∙ ap (λ (u : Update). u .answer) e, ap (λ (u : Update). u .part) e)
 
 add-fits : tie.Need-add-fits
@@ -30,14 +30,12 @@ fits-requires : tie.Need-fits-requires
 fits-requires c κs = search needs
 
 -- `fits` has said so
-fitting : (d : tie.Then2) → (let args = entry (d .before .before .before) .args in fits (args .part .now) (args .row) (args .row + 1) ≡ true)
+fitting : (d : tie.Then2) → (let args = entry (d .before .before .before) .args in fits (args .line) (args .part .now) (args .row) (args .row + 1) ≡ true)
 fitting d = sym (d .before .fits2 .ensures) ∙ d .if2 .taken
 
 pass-row-requires : tie.Need-pass-row-requires
 pass-row-requires c κs =
-    let d = c .before in
-    let args = entry (d .before .before .before) .args in
-    let says = fits-says (args .part .now) (args .row) (args .row + 1) (fitting d) in
+    let says = fits-says _ _ _ _ (fitting (c .before)) in
     (says .0, omega (arith, says .2))
 
 same-length : tie.Need-same-length
@@ -48,9 +46,7 @@ returns-2 c =
     let passed = c .before .before in
     let d = passed .before .before in
     let args = entry (d .before .before .before) .args in
-    let one : args .row + 1 - args .row ≡ 1 = omega arith in
-    let e = ap (λ (n : ℕ). passRows (args .line) n (args .row) (args .m) (seenBefore (args .part .now) (args .row)) (args .part .now)) (sym one)
-    ∙ sym (pass-fits (args .line) (args .row) (args .row + 1) (args .m) (args .part .now) (fitting d)) in
+    let e = sym (cell-fits (args .line) (args .row) (args .m) (args .highest) (args .part .now) (fitting d)) in
     (passed .pass-row .ensures .0 ∙ ap (λ (u : Update). u .answer) e, passed .pass-row .ensures .1 ∙ ap (λ (u : Update). u .part) e)
 
 none-passed-requires-2 : tie.Need-none-passed-requires-2
@@ -63,7 +59,7 @@ returns-3 : tie.Need-returns-3
 returns-3 c =
     let d = c .before .before in
     let args = entry (d .before .before) .args in
-    let e = sym (pass-none (args .line) (args .row) (args .row + 1) (args .m) (args .part .now) (sym (d .fits2 .ensures) ∙ c .before .if2 .left)) in
+    let e = sym (cell-none (args .line) (args .row) (args .m) (args .highest) (args .part .now) (sym (d .fits2 .ensures) ∙ c .before .if2 .left)) in
     (c .none-passed2 .ensures ∙ ap (λ (u : Update). u .answer) e, ap (λ (u : Update). u .part) e)
 
 pub pass-one-spec : {M : Type 1} → statement M

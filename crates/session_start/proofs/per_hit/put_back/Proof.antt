@@ -12,7 +12,7 @@ use Rattle.session_start.proofs.per_hit.put_back.Statement.{statement}
 use Rattle.session_start.proofs.per_hit.put_back.Tie as tie
 use Rattle.session_start.proofs.per_hit.put_back.Reads as reads
 use Rattle.session_start.proofs.per_hit.put_back.Lts as lts
-use Rattle.session_start.proofs.blocks.pattern_zeros.Reads as pattern-zeros-reads
+use Rattle.session_start.proofs.word_tables.pattern_zeros.Reads as pattern-zeros-reads
 use Rattle.session_start.proofs.per_hit.link.Reads as link-reads
 
 -- where the arrays of zeros are there, and the entry of the function

@@ -12,7 +12,7 @@ use Rattle.session_start.proofs.per_hit.put_pairs.Statement.{statement}
 use Rattle.session_start.proofs.per_hit.put_pairs.Tie as tie
 use Rattle.session_start.proofs.per_hit.put_pairs.Reads as reads
 use Rattle.session_start.proofs.per_hit.put_pairs.Lts as lts
-use Rattle.session_start.proofs.blocks.fill.Reads as fill-reads
+use Rattle.session_start.proofs.word_tables.fill.Reads as fill-reads
 use Rattle.session_start.proofs.per_hit.put_pair.Reads as put-pair-reads
 use Rattle.session_words.proofs.wide.Reads as wide-reads
 

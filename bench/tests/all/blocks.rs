@@ -1,0 +1,159 @@
+//! Sessions of several blocks of rows beside the reference's rule, with every work word compared behind each step. Many blocks are
+//! skipped, and steps often end inside one that a longer step skips.
+
+use bench::jobs::TEXT;
+use bench::plain::work::{BLOCK_ROWS, HIGHEST, INDEX, SHARED, WORK_WORDS};
+use bench::sessions::{self, HITS, PATTERN, Session, flat, flat_score, random_hits};
+use host::random::Random;
+use host::reference::by_hits::finals_by_hits;
+use host::reference::score::{Task, linear};
+use host::reference::start::start_call;
+use host::reference::steps::{Answer, Rule, Step};
+use host::reference::work_words::WorkWords;
+
+use crate::on_small_stack;
+use crate::tested::{Tested, as_reference, sessions};
+
+/// One block, one row more, two blocks and a row fewer or more, and many.
+const ROWS: [usize; 7] = [64, 65, 127, 128, 129, 200, 1000];
+
+/// How many steps ended inside a block that is skipped from its first row on, and inside one that is looked at.
+#[derive(Debug, Default)]
+struct Ends {
+    skipped: usize,
+    live: usize,
+}
+
+/// The columns left behind q cells of h hits, and the row of the next cell.
+fn place(h: usize, q: usize) -> (usize, usize) {
+    let (mut columns, mut row) = (h, q);
+    while columns > 0 && row >= columns {
+        row -= columns;
+        columns -= 1;
+    }
+    (columns, row)
+}
+
+impl Ends {
+    /// Takes note of a step that ended behind q cells. The words are of the cells before it, and go on to the first row of the block.
+    fn note(&mut self, task: &Task, words: &mut WorkWords, h: usize, before: usize, q: usize) {
+        let (columns, row) = place(h, q);
+        let first = q - row % BLOCK_ROWS;
+        if first == q || first < before {
+            return;
+        }
+        let words = words.after(first);
+        let end = columns.min((row / BLOCK_ROWS + 1) * BLOCK_ROWS);
+        let len = words[INDEX + columns - 1] - words[INDEX + end - 1] + 1;
+        // m of the first row with the length of the last
+        let bound = linear(task, words[SHARED] as usize, len as usize) + (1 << 31);
+        if bound < i64::from(words[HIGHEST]) { self.skipped += 1 } else { self.live += 1 }
+    }
+}
+
+fn budget(random: &mut Random, h: usize) -> u32 {
+    let most = random.one_of(&[2, 130, 2 * h, 8 * h]);
+    if random.once_in(40) { u32::MAX } else { random.below(most) as u32 }
+}
+
+/// Takes random steps until all cells are passed, and holds each session's answers and words.
+fn hold(random: &mut Random, case: &str, task: &Task, ends: &mut Ends) {
+    let h = start_call(task, WORK_WORDS).expect("a task that start accepts");
+    let before = vec![0xaaaa_aaaa; WORK_WORDS];
+    let (mut rule, mut words) = (Rule::new(task, &finals_by_hits(task)), WorkWords::new(task, &before));
+    let fresh = words.after(0).to_vec();
+    let start = |session: Tested| {
+        let work = session.start(case, task, &before, h, &fresh);
+        (session, work)
+    };
+    let mut all = sessions().map(start);
+    loop {
+        let (q, budget) = (rule.q, budget(random, h));
+        let expected = rule.step(Step { budget, lent: WORK_WORDS });
+        ends.note(task, &mut words, h, q, rule.q);
+        let after = words.after(rule.q);
+        for (session, work) in &mut all {
+            let given = as_reference((session.step)(work, budget));
+            assert_eq!(given, expected, "{}, {case}, budget {budget} behind {q} cells", session.name);
+            session.hold_words(case, work, after);
+        }
+        if matches!(expected, Answer::Finished(_)) {
+            return;
+        }
+    }
+}
+
+/// Near copies of a pattern with repeats, and gaps between them that have stray hits; the text ends with its h-th hit.
+fn cluster(random: &mut Random, h: usize) -> Task {
+    let size = random.between(3, 3 + h / 3);
+    let pattern: Vec<u32> = (0..size).map(|n| if random.once_in(5) { random.below(n + 1) } else { n } as u32).collect();
+    let kept = random.between(5, 40);
+    let (mut text, mut number) = (Vec::new(), 0);
+    while number < h {
+        let at = text.len() % (2 * size);
+        let code = if at < size && !random.once_in(kept) {
+            pattern[at]
+        } else if random.once_in(20) {
+            random.one_of(&pattern)
+        } else {
+            u32::MAX
+        };
+        text.push(code);
+        number += usize::from(pattern.contains(&code));
+    }
+    let (u, v) = random.one_of(&[(1, 1), (1, 1), (3, 2), (1, 5), (5, 1), (1000, 1000)]);
+    let perfect = (u as usize * size) as i32;
+    let low = -(v as i32) * size as i32;
+    let threshold = random.one_of(&[perfect / 3, perfect / 3, perfect / 2, 0, low, i32::MIN, i32::MAX]);
+    Task { text, pattern, u, v, threshold }
+}
+
+#[test]
+fn clusters() {
+    on_small_stack(|| {
+        let mut ends = Ends::default();
+        for seed in 20_000..20_040 {
+            let mut random = Random::new(seed);
+            for h in ROWS {
+                let task = cluster(&mut random, h);
+                hold(&mut random, &format!("seed {seed}, {h} hits"), &task, &mut ends);
+            }
+        }
+        assert!(ends.skipped > 6_000 && ends.live > 20_000, "{ends:?}");
+    });
+}
+
+fn task(session: Session) -> Task {
+    let Session { text, pattern, u, v, threshold } = session;
+    Task { text, pattern, u, v, threshold }
+}
+
+/// All cells found, and all blocks looked at with none found.
+#[test]
+fn equal_scores() {
+    on_small_stack(|| {
+        let mut random = Random::new(21_000);
+        let mut ends = Ends::default();
+        for h in &ROWS[..6] {
+            for threshold in [i32::MIN, flat_score(*h), flat_score(*h) + 1] {
+                let task = task(flat(*h, threshold));
+                hold(&mut random, &format!("{h} equal hits, threshold {threshold}"), &task, &mut ends);
+            }
+        }
+        assert!(ends.live > 300, "{ends:?}");
+    });
+}
+
+/// The rows of the table in which not all cells are looked at.
+#[test]
+fn rows_of_the_table() {
+    on_small_stack(|| {
+        let mut random = Random::new(22_000);
+        let mut ends = Ends::default();
+        let clusters = [(8, 90), (20, 90), (8, 98), (20, 98)].map(|(copies, kept)| sessions::cluster(copies, kept));
+        for session in clusters.into_iter().chain([random_hits(TEXT, PATTERN, HITS, 0).with_third()]) {
+            hold(&mut random, "a row", &task(session), &mut ends);
+        }
+        assert!(ends.skipped > 1_000, "{ends:?}");
+    });
+}

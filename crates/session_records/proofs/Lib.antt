@@ -1,0 +1,8 @@
+-- Laws of records and of blocks of rows.
+pub mod Greater
+pub mod Highest
+pub mod Recorded
+pub mod Blocks
+pub mod Knowledge
+pub mod Skipping
+pub mod Numbers

@@ -1,0 +1,1 @@
+// Records of a session, over any score: definitions and laws, no code.

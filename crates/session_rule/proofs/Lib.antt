@@ -1,0 +1,9 @@
+-- The cells of a column in the words of a session, passed by the rule.
+pub mod Linear
+pub mod Knowing
+pub mod CellTests
+pub mod Chunk
+pub mod OneCell
+pub mod Skipping
+pub mod Passing
+pub mod Leaving
