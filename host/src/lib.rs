@@ -4,6 +4,7 @@
 
 pub mod calls;
 pub mod cases;
+pub mod clusters;
 pub mod crosscheck;
 pub mod exported;
 pub mod held;

@@ -4,6 +4,7 @@
 use bench::jobs::TEXT;
 use bench::plain::work::{BLOCK_ROWS, HIGHEST, INDEX, SHARED, WORK_WORDS};
 use bench::sessions::{self, HITS, PATTERN, Session, flat, flat_score, random_hits};
+use host::clusters::{ROWS, cluster};
 use host::random::Random;
 use host::reference::by_hits::finals_by_hits;
 use host::reference::score::{Task, linear};
@@ -13,9 +14,6 @@ use host::reference::work_words::WorkWords;
 
 use crate::on_small_stack;
 use crate::tested::{Tested, as_reference, sessions};
-
-/// One block, one row more, two blocks and a row fewer or more, and many.
-const ROWS: [usize; 7] = [64, 65, 127, 128, 129, 200, 1000];
 
 /// How many steps ended inside a block that is skipped from its first row on, and inside one that is looked at.
 #[derive(Debug, Default)]
@@ -81,31 +79,6 @@ fn hold(random: &mut Random, case: &str, task: &Task, ends: &mut Ends) {
             return;
         }
     }
-}
-
-/// Near copies of a pattern with repeats, and gaps between them that have stray hits; the text ends with its h-th hit.
-fn cluster(random: &mut Random, h: usize) -> Task {
-    let size = random.between(3, 3 + h / 3);
-    let pattern: Vec<u32> = (0..size).map(|n| if random.once_in(5) { random.below(n + 1) } else { n } as u32).collect();
-    let kept = random.between(5, 40);
-    let (mut text, mut number) = (Vec::new(), 0);
-    while number < h {
-        let at = text.len() % (2 * size);
-        let code = if at < size && !random.once_in(kept) {
-            pattern[at]
-        } else if random.once_in(20) {
-            random.one_of(&pattern)
-        } else {
-            u32::MAX
-        };
-        text.push(code);
-        number += usize::from(pattern.contains(&code));
-    }
-    let (u, v) = random.one_of(&[(1, 1), (1, 1), (3, 2), (1, 5), (5, 1), (1000, 1000)]);
-    let perfect = (u as usize * size) as i32;
-    let low = -(v as i32) * size as i32;
-    let threshold = random.one_of(&[perfect / 3, perfect / 3, perfect / 2, 0, low, i32::MIN, i32::MAX]);
-    Task { text, pattern, u, v, threshold }
 }
 
 #[test]

@@ -6,7 +6,7 @@ use mathlib.Core.Logic.{inl, inr}
 use mathlib.Core.List.{List, _++_}
 use lib.ListN.{length, getD, take, drop, length-drop, List·getD-append}
 use lib.Seq.{length-take-le, getD-take, getD-drop, getD-append-add}
-use borrow.Rule.Slice.PartMut.{mid-len, same-len-mid}
+use borrow.Rule.Slice.PartMut.{same-len-mid}
 use Rattle.session_start.proofs.WorkWords.{Outside}
 use Rattle.mapper.specs.Walking.{middle, withMiddle}
 

@@ -19,7 +19,7 @@ use Rattle.mappings.proofs.Range.{Limited}
 use Rattle.session_words.specs.FirstWords.{hitsAt, uAt, vAt, passedAt}
 use Rattle.session_words.specs.Layout.{kindAt, sizeAt, thresholdAt, columnsAt, rowAt, mAt, highestAt, backFrom, indexFrom, reachFrom, bestFrom}
 use Rattle.session_words.specs.Layout.{blockRows, blockCount, topsFrom, startsFrom, partLength}
-use Rattle.session_start.specs.Tables.{back, startOf}
+use Rattle.session_start.specs.Tables.{back}
 use Rattle.session_start.specs.WorkWords.{columnsLeft, nextRow, nextShared, highestAfter}
 use Rattle.session_start.proofs.WorkWords.{Outside, Free, HoldsTables, Holds}
 use Rattle.session_cells.specs.Passing.{reachAt, bestAt, topAt, startAt, lowered}

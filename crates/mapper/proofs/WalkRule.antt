@@ -1,5 +1,5 @@
 -- A walk in the words of a session answers as the rule does, and leaves the words of the session further on.
-use Prim.Native.Nat.{ℕ, zero, suc, _+_, _-_, _*_, _%_, _≤_, _<_, min, zero-le, suc-le-suc}
+use Prim.Native.Nat.{ℕ, zero, suc, _+_, _-_, _%_, _≤_, _<_, min, zero-le, suc-le-suc}
 use native.Mathlib.Nat.{mod-eq-of-lt}
 use native.Mathlib.Omega.{arith}
 use mathlib.Core.Path.{_≡_, refl, sym, ap, _∙_, subst}
@@ -10,7 +10,7 @@ use lib.Dec.{leb, ltb}
 use lib.ListN.{length, getD}
 use lib.Signed.{mag}
 use borrow.Author.Tests.{ne-eqb, ltb-true, ltb-false}
-use Rattle.base.specs.Limits.{patternLimit, hitLimit, workWords, wordLimit}
+use Rattle.base.specs.Limits.{hitLimit, workWords, wordLimit}
 use Rattle.base.proofs.Lists.{eq-or-ne}
 use Rattle.mappings.specs.Score.{Task, scoreOf, sharedOf}
 use Rattle.mappings.specs.Bias.{bias}
@@ -50,7 +50,8 @@ use Rattle.mapper.specs.Walking.{Walk, spentWalk, finishedWalk, foundWal
 use Rattle.mapper.proofs.Decided.{termsOf, final-decided}
 use Rattle.mapper.proofs.Places.{at-cell, at-end}
 use Rattle.mapper.proofs.SessionWords.{tables-part, part-tables, passed-back, left-tables, passed-left, place-saved}
-use Rattle.mapper.proofs.Walking.{settled-in, words-in, settled-next, words-next, walk-spent, walk-found, walk-part, walk-next, one-found as one-walk-found, one-spent as one-walk-spent}
+use Rattle.mapper.proofs.Walking.{settled-in, words-in, settled-next, words-next, walk-spent, walk-found, walk-part, walk-next}
+use Rattle.mapper.proofs.Walking.{one-found as one-walk-found, one-spent as one-walk-spent}
 
 -- the place after q cells: behind the last column, or a cell of the last column left with its m and what the rows before it have seen
 abbrev pub PlaceAt : Task → ℕ → ℕ → ℕ → ℕ → ℕ → Type 0
@@ -108,10 +109,7 @@ few-of k left n h = omega arith
 still-few : (left n rest budget : ℕ) → rest ≡ left - n → left ≤ budget → rest ≤ budget
 still-few left n rest budget e a = omega arith
 
--- the last row passed is the column's last, or the budget's
-ends-at : (left j row at : ℕ) → row ≤ j → at ≡ row + min left (suc j - row) → suc j ≤ at → at ≡ suc j
-ends-at left j row at a e l = omega arith
-
+-- where the column goes on, the budget ends
 all-of : (left j row at : ℕ) → at ≡ row + min left (suc j - row) → at < suc j → min left (suc j - row) ≡ left
 all-of left j row at e l = omega arith
 
@@ -218,7 +216,9 @@ module _ (task : Task) (limited : Limited task) (threshold-fits : mag (task .thr
         let z : budget - left ≡ budget - left + 0 = omega arith in
         record {
           answer-is = ap finished z ∙ sym (ap (moreCells (budget - left)) none);
-          words-are = saved-is q (budget - left) work (placeOf 0 row m highest) s (omega (arith, s .at .0)) (rw e₀ e) ∙ ap (sessionWords task before) (sym e);
+          words-are =
+              saved-is q (budget - left) work (placeOf 0 row m highest) s (omega (arith, s .at .0)) (rw e₀ e)
+              ∙ ap (sessionWords task before) (sym e);
         }
 
     -- the budget ends at a cell
@@ -255,9 +255,9 @@ module _ (task : Task) (limited : Limited task) (threshold-fits : mag (task .thr
         }
 
     -- a final cell of the column, and the place behind it
-    at-final : (q j row k left cells : ℕ) (words : List ℕ) (p : Passed) (behind : Place) → Settled (q + suc k) behind words → getD words passedAt 0 ≡ q₀
-        → q₀ + cells ≡ q + suc k → cells ≡ budget - left + suc k → suc k ≤ left → j < hitCount task → row + k ≤ j
-        → place (hitCount task) row j ≡ q
+    at-final : (q j row k left cells : ℕ) (words : List ℕ) (p : Passed) (behind : Place) → Settled (q + suc k) behind words
+        → getD words passedAt 0 ≡ q₀ → q₀ + cells ≡ q + suc k → cells ≡ budget - left + suc k → suc k ≤ left
+        → j < hitCount task → row + k ≤ j → place (hitCount task) row j ≡ q
         → p .row ≡ suc (row + k) → p .m + 1 ≡ sharedAt task (row + k) j → isFinalCell task (cellAt (row + k) j) ≡ true
         → ((B : ℕ) → ruleAnswer task q (suc k + B) ≡ found (mappingOf task (cellAt (row + k) j)) (suc k))
         → Ruled q left (foundWalk (termsOf task) words (suc j) p behind cells)
@@ -357,8 +357,9 @@ module _ (task : Task) (limited : Limited task) (threshold-fits : mag (task .thr
         -- the walk from the next column on
         Later : Type 0
         Later =
-            (q′ row′ m′ highest′ left′ : ℕ) (work′ : List ℕ) → Settled q′ (placeOf j row′ m′ highest′) work′ → getD work′ passedAt 0 ≡ q₀
-            → q₀ + (budget - left′) ≡ q′ → left′ ≤ budget → Ruled q′ left′ (walkOn (termsOf task) budget j row′ m′ highest′ left′ work′)
+            (q′ row′ m′ highest′ left′ : ℕ) (work′ : List ℕ) → Settled q′ (placeOf j row′ m′ highest′) work′
+            → getD work′ passedAt 0 ≡ q₀ → q₀ + (budget - left′) ≡ q′ → left′ ≤ budget
+            → Ruled q′ left′ (walkOn (termsOf task) budget j row′ m′ highest′ left′ work′)
 
         -- the words with the part back
         back-in : (q′ : ℕ) → PartHolds task j q′ (update .part) → SameOutside task (partOf work) (update .part)
@@ -425,11 +426,12 @@ module _ (task : Task) (limited : Limited task) (threshold-fits : mag (task .thr
                 let columns-are : settled words (suc j) (update .answer) .columns ≡ j =
                 ap (λ (x : Place). x .columns) (settled-next words (suc j) (update .answer) l) ∙ one-less in
                 let next : Settled (q + passed) (placeOf j (place′ .row) (place′ .m) (place′ .highest)) (settledWords words (suc j) (update .answer)) =
-                subst (λ (n : ℕ). Settled (q + passed) (placeOf n (place′ .row) (place′ .m) (place′ .highest)) (settledWords words (suc j) (update .answer)))
-                columns-are behind in
+                subst (λ (n : ℕ). Settled (q + passed) (placeOf n (place′ .row) (place′ .m) (place′ .highest))
+                (settledWords words (suc j) (update .answer))) columns-are behind in
                 let rec =
                 later (q + passed) (place′ .row) (place′ .m) (place′ .highest) rest (settledWords words (suc j) (update .answer)) next
-                (passed-settled (q + passed) j words (update .answer) (held .0) (s .at .0) ∙ held .1) counted (still-few left passed rest budget rest-is fits) in
+                (passed-settled (q + passed) j words (update .answer) (held .0) (s .at .0) ∙ held .1) counted
+                (still-few left passed rest budget rest-is fits) in
                 let whole-budget : left ≡ passed + rest = rest-of left passed rest rest-is few in
                 let count : budget - rest ≡ budget - left + passed = more-passed budget left passed rest rest-is few fits in
                 by (walk-next (termsOf task) budget (suc j) row m highest left work (suc-le-suc zero-le) n (update .answer) words same-answer same-words f l)
@@ -484,8 +486,8 @@ module _ (task : Task) (limited : Limited task) (threshold-fits : mag (task .thr
             let b = behind (rw more at p) same (r ∙ next) (rw (next, more) at known) in
             subst (Ruled q budget)
             (sym (one-walk-found (termsOf task) (suc j) row m highest work (update .answer) words inside same-answer same-words f))
-            (at-final q j row k budget 1 words (update .answer) (placeIn (suc j) (update .answer)) (rw more (b .0)) (b .1) (omega arith) (omega arith) (omega arith)
-            (s .at .0) (omega arith) (s .at .2) r em final rule)
+            (at-final q j row k budget 1 words (update .answer) (placeIn (suc j) (update .answer)) (rw more (b .0)) (b .1) (omega arith)
+            (omega arith) (omega arith) (s .at .0) (omega arith) (s .at .2) r em final rule)
         go (all-passed f r known p same rule) =
             let b = behind p same r known in
             subst (Ruled q budget)

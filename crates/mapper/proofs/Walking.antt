@@ -20,7 +20,7 @@ use Rattle.session_cells.proofs.Passing.{bounded, blocks-bounded}
 use Rattle.session_cells.proofs.Fitting.{fits-all, pass-fits, cell-fits}
 use Rattle.mapper.specs.declared.update.Terms.{Terms}
 use Rattle.mapper.specs.declared.place.Place.{Place}
-use Rattle.mapper.specs.Walking.{placeOf, placeIn, saved, middle, withMiddle, leftWords, settledWords, settled, termsIn, lineOf, partOf, withPart}
+use Rattle.mapper.specs.Walking.{placeOf, placeIn, saved, middle, leftWords, settledWords, settled, termsIn, lineOf, partOf, withPart}
 use Rattle.mapper.specs.Walking.{columnUpdate, cellUpdate, Walk, spentWalk, finishedWalk, foundWalk, walkOn, oneWalk}
 
 -- the terms read from words with small weights
@@ -210,7 +210,8 @@ module _ (terms : Terms) (columns row m highest : ℕ) (work : List ℕ) (line :
 
 -- ---- the place saved: no other word changes
 
-pub saved-other : (work : List ℕ) (place : Place) (cells n : ℕ) → (n ≡ 3 → ⊥) → (n ≡ 7 → ⊥) → (n ≡ 8 → ⊥) → (n ≡ 9 → ⊥) → (n ≡ 10 → ⊥)
+pub saved-other : (work : List ℕ) (place : Place) (cells n : ℕ)
+    → (n ≡ 3 → ⊥) → (n ≡ 7 → ⊥) → (n ≡ 8 → ⊥) → (n ≡ 9 → ⊥) → (n ≡ 10 → ⊥)
     → getD (saved work place cells) n 0 ≡ getD work n 0
 unfolding saved
 saved-other work place cells n a b c d e =

@@ -123,6 +123,7 @@ foundWalk terms work columns p place cells = record {
   words = saved work place cells;
 }
 
+-- the walk from a row of the last of these columns on, with so much of the budget left: that column's update, and then the next column's
 abbrev pub walkOn : Terms → ℕ → ℕ → ℕ → ℕ → ℕ → ℕ → List ℕ → Walk
 walkOn terms budget zero row m highest left work = finishedWalk work (placeOf 0 row m highest) (budget - left)
 walkOn terms budget (suc j) row m highest left work =

@@ -1,5 +1,5 @@
 -- Laws of the greatest of several score words, and of the greatest record before a row.
-use Prim.Native.Nat.{ℕ, zero, suc, _+_, _-_, _*_, _≤_, _<_}
+use Prim.Native.Nat.{ℕ, suc, _+_, _-_, _*_, _≤_, _<_}
 use native.Mathlib.Omega.{arith}
 use mathlib.Core.Bool.{Bool, true}
 use mathlib.Core.Path.{_≡_, refl, sym, ap, _∙_}
@@ -9,7 +9,7 @@ use lib.Seq.{take-suc, take-add}
 use Rattle.session_words.specs.Layout.{blockRows}
 use Rattle.session_records.specs.Order.{Preorder}
 use Rattle.session_records.specs.Records.{greater, highest, highestBefore, blockTop}
-use Rattle.session_records.proofs.Greater.{same, first-at-most, second-at-most, greater-least, greater-assoc, greater-none}
+use Rattle.session_records.proofs.Greater.{same, first-at-most, greater-assoc, greater-none}
 
 module _ (atMost : ℕ → ℕ → Bool) (order : Preorder atMost) where
   pub highest-append : (top : ℕ) (xs ys : List ℕ) → highest atMost top (xs ++ ys) ≡ highest atMost (highest atMost top xs) ys
@@ -33,19 +33,6 @@ module _ (atMost : ℕ → ℕ → Bool) (order : Preorder atMost) where
   top-at-most top (x ∷ xs) =
       order .trans top (greater atMost top x) (highest atMost (greater atMost top x) xs)
       (first-at-most atMost order top x) (top-at-most (greater atMost top x) xs)
-
-  pub each-at-most : (top : ℕ) (xs : List ℕ) (r : ℕ) → r < length xs → atMost (getD xs r 0) (highest atMost top xs) ≡ true
-  each-at-most top [] r l = absurd (omega arith)
-  each-at-most top (x ∷ xs) zero l =
-      order .trans x (greater atMost top x) (highest atMost (greater atMost top x) xs)
-      (second-at-most atMost order top x) (top-at-most (greater atMost top x) xs)
-  each-at-most top (x ∷ xs) (suc r) l = each-at-most (greater atMost top x) xs r (omega arith)
-
-  pub highest-least : (top B : ℕ) (xs : List ℕ) → atMost top B ≡ true → ((r : ℕ) → r < length xs → atMost (getD xs r 0) B ≡ true)
-      → atMost (highest atMost top xs) B ≡ true
-  highest-least top B [] t each = t
-  highest-least top B (x ∷ xs) t each =
-      highest-least (greater atMost top x) B xs (greater-least atMost order top x B t (each 0 (omega arith))) (λ r l. each (suc r) (omega arith))
 
   -- ---- before a row
 

@@ -12,10 +12,10 @@ use lib.Signed.{leZ, mag}
 use Rattle.base.specs.Limits.{patternLimit, wordLimit}
 use Rattle.base.specs.Lists.{bit}
 use Rattle.base.proofs.Lists.{clash}
-use Rattle.mappings.specs.Score.{Task, sharedOf, lengthOf, scoreOf}
+use Rattle.mappings.specs.Score.{Task, lengthOf, scoreOf}
 use Rattle.mappings.specs.Definition1.{AtMost}
 use Rattle.mappings.specs.FinalTest.{isReasonable, isFinal, isFinalCell}
-use Rattle.mappings.specs.Bias.{bias, biasedOf, biasedZ}
+use Rattle.mappings.specs.Bias.{bias, biasedOf}
 use Rattle.mappings.specs.Cells.{hits, hitCount, leftEnd, rightEnd}
 use Rattle.mappings.specs.HitCodes.{hitCodes}
 use Rattle.mappings.specs.Places.{place}
@@ -49,7 +49,8 @@ module _ (task : Task) (limited : Limited task) where
   shared-few i j a l =
       subst (λ (n : ℕ). n ≤ length (task .pattern)) (cell-shared task i j a l) (shared-le-size task (getD (hits task) i 0) (getD (hits task) j 0))
 
-  pub score-is : (i j : ℕ) → i ≤ j → j < hitCount task → lineScore (sessionLine task j) (sharedAt task i j) (getD (hits task) i 0) ≡ scoreAt task i j
+  pub score-is : (i j : ℕ) → i ≤ j → j < hitCount task
+      → lineScore (sessionLine task j) (sharedAt task i j) (getD (hits task) i 0) ≡ scoreAt task i j
   unfolding scoreAt biasedOf lengthOf
   score-is i j a l = line-score task limited i j (sharedAt task i j) a l (shared-few i j a l) ∙ rw (cell-shared task i j a l)
 
@@ -103,7 +104,8 @@ module _ (task : Task) (limited : Limited task) where
     unfolding scoreAt
     threshold-is = threshold-order task limited threshold-fits x y (hit-within task j l)
 
-    scores-are : (r c : ℕ) → c < hitCount task → leZ (scoreOf task (getD (hits task) r 0) (getD (hits task) c 0)) (scoreOf task x y) ≡ leb (scoreAt task r c) (scoreAt task i j)
+    scores-are : (r c : ℕ) → c < hitCount task
+        → leZ (scoreOf task (getD (hits task) r 0) (getD (hits task) c 0)) (scoreOf task x y) ≡ leb (scoreAt task r c) (scoreAt task i j)
     unfolding scoreAt
     scores-are r c k = scores-order task limited (getD (hits task) r 0) (getD (hits task) c 0) x y (hit-within task c k) (hit-within task j l)
 
@@ -140,7 +142,8 @@ module _ (task : Task) (limited : Limited task) where
             let k = final-known leb number-order (least task) (hitCount task) (scoreAt task) (bestAfter task q) i j a l (known task q i j a l at) t in
             let maximal : MaximalCell task i j = λ r c p o n. scores-are r c n ∙ k .1 r c p o n in
             let enough : leZ (task .threshold) (scoreOf task x y) ≡ true = threshold-is ∙ k .0 in
-            sym (cell-final task i j a l true (λ e. maximal) (λ e. refl) ∙ rw (enough, left-is, right-is) (unit ends (leb (back (task .pattern) (hitCodes task) j) i)))
+            sym (cell-final task i j a l true (λ e. maximal) (λ e. refl)
+            ∙ rw (enough, left-is, right-is) (unit ends (leb (back (task .pattern) (hitCodes task) j) i)))
           where
             unit : (b c : Bool) → (true && b && c && true) ≡ (true && b && c)
             unit true true = refl
@@ -148,8 +151,11 @@ module _ (task : Task) (limited : Limited task) where
             unit false c = refl
         go false t true f =
             let low : MaximalCell task i j → false ≡ true = λ m.
-            sym t ∙ known-final leb number-order (least task) (hitCount task) (scoreAt task) (bestAfter task q) i j a l (known task q i j a l at) (sym threshold-is ∙ f) (λ r c p o n. sym (scores-are r c n) ∙ m r c p o n) in
-            sym (cell-final task i j a l false (λ e. clash e refl) low ∙ none (leZ (task .threshold) (scoreOf task x y) && isReasonable task x y x && isReasonable task x y y))
+            sym t
+            ∙ known-final leb number-order (least task) (hitCount task) (scoreAt task) (bestAfter task q) i j a l (known task q i j a l at)
+            (sym threshold-is ∙ f) (λ r c p o n. sym (scores-are r c n) ∙ m r c p o n) in
+            sym (cell-final task i j a l false (λ e. clash e refl) low
+            ∙ none (leZ (task .threshold) (scoreOf task x y) && isReasonable task x y x && isReasonable task x y y))
           where
             none : (b : Bool) → (b && false) ≡ false
             none true = refl

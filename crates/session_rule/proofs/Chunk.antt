@@ -78,8 +78,8 @@ module _ (task : Task) where
       (λ B. (let z : 0 + B ≡ B = omega arith in rw (g, z) (sym (more-none (ruleAnswer task q B)))))
 
   -- n cells of which none is final, and then the others
-  pub join : (j i i′ n k t q q′ : ℕ) (part part′ : List ℕ) (update : Update) → i′ ≡ i + n → q′ ≡ q + n → t ≡ n + k → SameOutside part part′
-      → ((B : ℕ) → ruleAnswer task q (n + B) ≡ moreCells n (ruleAnswer task q′ B)) → Chunk j i′ k q′ part′ update
+  pub join : (j i i′ n k t q q′ : ℕ) (part part′ : List ℕ) (update : Update) → i′ ≡ i + n → q′ ≡ q + n → t ≡ n + k
+      → SameOutside part part′ → ((B : ℕ) → ruleAnswer task q (n + B) ≡ moreCells n (ruleAnswer task q′ B)) → Chunk j i′ k q′ part′ update
       → Chunk j i t q part update
   join j i i′ n k t q q′ part part′ update ei eq et same pass (all-passed f r known holds out rule) =
       let e : i′ + k ≡ i + t = omega arith in

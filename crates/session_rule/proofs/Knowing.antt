@@ -44,7 +44,8 @@ module _ (task : Task) where
   best-next i j q a l e =
       let h = hitCount task in
       let inside : place h i j < length (cells h) = subst (λ (n : ℕ). place h i j < n) (sym (length-cells h)) (place-within h i j a l) in
-      let here : getD (cells h) q (cellAt i j) ≡ cellAt i j = ap (λ (n : ℕ). getD (cells h) n (cellAt i j)) (sym e) ∙ getD-cells h i j (cellAt i j) a l in
+      let here : getD (cells h) q (cellAt i j) ≡ cellAt i j =
+      ap (λ (n : ℕ). getD (cells h) n (cellAt i j)) (sym e) ∙ getD-cells h i j (cellAt i j) a l in
       ap (withCells task (replicate h 0)) (take-suc (cells h) q (cellAt i j) (subst (λ (n : ℕ). n < length (cells h)) e inside))
       ∙ withCells-snoc (replicate h 0) (take q (cells h)) (getD (cells h) q (cellAt i j))
       ∙ ap (withCell task (withCells task (replicate h 0) (take q (cells h)))) here

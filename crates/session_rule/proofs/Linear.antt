@@ -3,6 +3,7 @@ use Prim.Native.Nat.{ℕ, suc, _+_, _-_, _*_, _%_, _≤_, _<_}
 use native.Mathlib.Nat.{le-refl, mul-add, mul-le-mul, add-mod-mod}
 use native.Mathlib.Omega.{arith}
 use mathlib.Core.Path.{_≡_, ap, _∙_}
+use mathlib.Core.Bool.{true}
 use lib.Arith.{digits-mod}
 use lib.Dec.{leb}
 use lib.ListN.{length, getD}
@@ -22,16 +23,16 @@ pub linear-monotone : (u v size : ℕ) → Monotone leb (biased u v size)
 unfolding biased
 linear-monotone u v size = record {
   with-m = λ m m′ len l.
-      (let more : (u + 2 * v) * m ≤ (u + 2 * v) * m′ = mul-le-mul (le-refl (u + 2 * v)) l in
-      le-leb ((u + 2 * v) * m + bias - v * (len + size)) ((u + 2 * v) * m′ + bias - v * (len + size)) (sub-le ((u + 2 * v) * m) ((u + 2 * v) * m′) (v * (len + size)) (v * (len + size)) more (le-refl (v * (len + size)))));
+      (let lost = v * (len + size) in
+      falls ((u + 2 * v) * m) ((u + 2 * v) * m′) lost lost (mul-le-mul (le-refl (u + 2 * v)) l) (le-refl lost));
   with-len = λ m len len′ l.
-      (let longer : len + size ≤ len′ + size = omega arith in
-      let more : v * (len + size) ≤ v * (len′ + size) = mul-le-mul (le-refl v) longer in
-      le-leb ((u + 2 * v) * m + bias - v * (len′ + size)) ((u + 2 * v) * m + bias - v * (len + size)) (sub-le ((u + 2 * v) * m) ((u + 2 * v) * m) (v * (len + size)) (v * (len′ + size)) (le-refl ((u + 2 * v) * m)) more));
+      (let gained = (u + 2 * v) * m in
+      let longer : len + size ≤ len′ + size = omega arith in
+      falls gained gained (v * (len + size)) (v * (len′ + size)) (le-refl gained) (mul-le-mul (le-refl v) longer));
 }
   where
-    sub-le : (a b c d : ℕ) → a ≤ b → c ≤ d → a + bias - d ≤ b + bias - c
-    sub-le a b c d h k = omega arith
+    falls : (a b c d : ℕ) → a ≤ b → c ≤ d → leb (a + bias - d) (b + bias - c) ≡ true
+    falls a b c d h k = le-leb (a + bias - d) (b + bias - c) (omega arith)
 
 shifted : (gained left right both : ℕ) → both ≡ left + right → both ≤ bias
     → gained + left + (lift - both) ≡ margin + (gained + bias - right)

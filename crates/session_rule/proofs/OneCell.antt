@@ -5,7 +5,7 @@ use mathlib.Core.Path.{_≡_, refl, sym, ap, _∙_, subst}
 use mathlib.Core.Logic.{_⊎_, inl, inr}
 use mathlib.Core.Bool.{Bool, true, false}
 use mathlib.Core.List.{List}
-use lib.Dec.{leb, ltb, eqb}
+use lib.Dec.{leb, ltb}
 use lib.ListN.{length, getD, set, length-set}
 use lib.Seq.{getD-set-same, getD-set-other}
 use lib.Signed.{mag}
@@ -15,7 +15,7 @@ use Rattle.base.specs.Lists.{bit}
 use Rattle.base.proofs.Lists.{eq-or-ne}
 use Rattle.mappings.specs.Score.{Task}
 use Rattle.mappings.specs.Bias.{bias}
-use Rattle.mappings.specs.Cells.{hits, hitCount}
+use Rattle.mappings.specs.Cells.{hitCount}
 use Rattle.mappings.specs.FinalTest.{isFinalCell}
 use Rattle.mappings.specs.HitCodes.{hitCodes}
 use Rattle.mappings.proofs.Cells.{cellAt}
@@ -96,7 +96,8 @@ module _ (task : Task) (limited : Limited task) (threshold-fits : mag (task .thr
   pub seen-next : greater leb seen score ≡ highestBefore leb (least task) (bestAfter task (suc q)) (suc i)
   seen-next = rw (seen-at, score-at) (go (leb (scoreAt task i j) top) refl)
     where
-      go : (b : Bool) → leb (scoreAt task i j) top ≡ b → greater leb top (scoreAt task i j) ≡ highestBefore leb (least task) (bestAfter task (suc q)) (suc i)
+      go : (b : Bool) → leb (scoreAt task i j) top ≡ b
+          → greater leb top (scoreAt task i j) ≡ highestBefore leb (least task) (bestAfter task (suc q)) (suc i)
       go true t = rw (same-best t) (greater-first leb number-order top (scoreAt task i j) t)
       go false t =
           rw (set-best t)

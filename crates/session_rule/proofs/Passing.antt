@@ -141,7 +141,8 @@ module _ (task : Task) (limited : Limited task) (threshold-fits : mag (task .thr
       -- the blocks behind this one
       Later : Type 0
       Later =
-          (i′ q′ m′ highest′ : ℕ) (part′ : List ℕ) → i′ ≤ to → to ≤ suc j → to - i′ ≤ n → At task j i′ q′ m′ highest′ part′
+          (i′ q′ m′ highest′ : ℕ) (part′ : List ℕ) → i′ ≤ to → to ≤ suc j → to - i′ ≤ n
+          → At task j i′ q′ m′ highest′ part′
           → Chunk task j i′ (to - i′) q′ part′ (passBlocks (sessionLine task j) n to i′ m′ highest′ part′)
 
       on : ltb i to ≡ true → i < to → Later → Chunk task j i passed q part rest

@@ -1,21 +1,18 @@
 -- Skipping the rest of a block in the words of a session: none of its cells is final, and none is a record.
-use Prim.Native.Nat.{ℕ, zero, suc, _+_, _-_, _*_, _/_, _≤_, _<_, min}
+use Prim.Native.Nat.{ℕ, zero, suc, _+_, _-_, _*_, _/_, _≤_, _<_}
 use native.Mathlib.Omega.{arith}
 use mathlib.Core.Path.{_≡_, refl, sym, ap, _∙_, subst}
-use mathlib.Core.Bool.{Bool, true, false, not, _&&_}
+use mathlib.Core.Bool.{Bool, true, false, not}
 use mathlib.Core.List.{List, _∷_}
-use lib.Dec.{leb, ltb}
+use lib.Dec.{leb}
 use lib.ListN.{length, getD, drop}
 use lib.Signed.{mag}
-use Rattle.base.specs.Limits.{hitLimit}
-use Rattle.base.specs.Lists.{bit}
 use Rattle.base.proofs.Lists.{and-left, and-right}
 use borrow.Author.Tests.{leb-true}
 use Rattle.mappings.specs.Score.{Task}
 use Rattle.mappings.specs.Bias.{bias, biased}
 use Rattle.mappings.specs.Cells.{hits, hitCount, cellsOf}
 use Rattle.mappings.specs.FinalTest.{isFinalCell}
-use Rattle.mappings.specs.HitCodes.{hitCodes}
 use Rattle.mappings.specs.Places.{place}
 use Rattle.mappings.specs.Rule.{ruleAnswer}
 use Rattle.mappings.specs.Steps.{moreCells}
@@ -23,19 +20,18 @@ use Rattle.mappings.proofs.Cells.{cellAt, drop-cells}
 use Rattle.mappings.proofs.Hits.{hit-at-most}
 use Rattle.mappings.proofs.Range.{Limited}
 use Rattle.mappings.proofs.Rule.{rule-pass, more-cells}
-use Rattle.session_words.specs.Layout.{blockRows, blockCount}
-use Rattle.session_records.specs.Records.{greater, highestBefore, withRecord, blockTop}
+use Rattle.session_words.specs.Layout.{blockRows}
+use Rattle.session_records.specs.Records.{greater, highestBefore}
 use Rattle.session_records.proofs.Numbers.{number-order}
 use Rattle.session_records.proofs.Blocks.{block-highest}
 use Rattle.session_records.proofs.Skipping.{bound as bound-law, unreached}
-use Rattle.session_start.specs.Tables.{reach, back}
 use Rattle.session_start.specs.WorkWords.{bestAfter}
-use Rattle.session_cells.specs.Passing.{candidateTest, lineScore, topAt, startAt, restEnd, bound, skips, skipped}
+use Rattle.session_cells.specs.Passing.{candidateTest, topAt, startAt, restEnd, bound, skips, skipped}
 use Rattle.session_rule.specs.Lines.{sessionLine, sharedAt}
 use Rattle.session_rule.proofs.Linear.{linear-monotone, line-score}
 use Rattle.session_rule.proofs.Knowing.{scoreAt, least, best-next}
 use Rattle.session_rule.proofs.CellTests.{shared-few, score-is, shared-falls, final-test}
-use Rattle.session_rule.proofs.Chunk.{PartHolds, At, Chunk, all-passed, more-none}
+use Rattle.session_rule.proofs.Chunk.{At, Chunk, all-passed, more-none}
 
 -- the cell with number q + 1
 pub next-cell : (task : Task) (i j q : ℕ) → i ≤ j → j < hitCount task → place (hitCount task) i j ≡ q
@@ -99,8 +95,8 @@ module _ (task : Task) (limited : Limited task) (threshold-fits : mag (task .thr
       let e : scoreAt task k j ≡ biased (task .u) (task .v) (length (task .pattern)) (sharedAt task k j) (suc (getD (hits task) j 0) - getD (hits task) k 0) =
       sym (score-is task limited k j in-column l) ∙ line-score task limited k j (sharedAt task k j) in-column l (shared-few task limited k j in-column l) in
       rw e
-      (bound-law leb number-order (linear-monotone (task .u) (task .v) (length (task .pattern))) (λ (r : ℕ). sharedAt task r j) (λ (r : ℕ). getD (hits task) r 0)
-      (getD (hits task) j 0) i k (end - 1)
+      (bound-law leb number-order (linear-monotone (task .u) (task .v) (length (task .pattern))) (λ (r : ℕ). sharedAt task r j)
+      (λ (r : ℕ). getD (hits task) r 0) (getD (hits task) j 0) i k (end - 1)
       (λ r s p o. shared-falls task limited r s j p (omega (arith, last-in)) l)
       (λ r s p o. hit-at-most task r s p (omega (arith, last-in)))
       b (omega arith))
@@ -119,8 +115,10 @@ module _ (task : Task) (limited : Limited task) (threshold-fits : mag (task .thr
       let before = idle n (omega arith) in
       let inside : i + n ≤ j = omega (arith, last-in) in
       let here : place (hitCount task) (i + n) j ≡ q + n = place-further (hitCount task) i n j q (at .place-is) in
-      let u = unreached leb number-order (least task) (bestAfter task q) i (i + n) (scoreAt task (i + n) j) most (omega arith) (bounded (i + n) (omega arith) (omega arith)) low in
-      let seen : leb (highestBefore leb (least task) (bestAfter task (q + n)) (suc (i + n))) (scoreAt task (i + n) j) ≡ false = rw (before .same-best) (u .1) in
+      let under = bounded (i + n) (omega arith) (omega arith) in
+      let u = unreached leb number-order (least task) (bestAfter task q) i (i + n) (scoreAt task (i + n) j) most (omega arith) under low in
+      let seen : leb (highestBefore leb (least task) (bestAfter task (q + n)) (suc (i + n))) (scoreAt task (i + n) j) ≡ false =
+      rw (before .same-best) (u .1) in
       let not-final : isFinalCell task (cellAt (i + n) j) ≡ false =
       sym (final-test task limited threshold-fits (i + n) j inside l (q + n) here) ∙ rw seen in
       let e : q + suc n ≡ suc (q + n) = omega arith in
@@ -145,7 +143,7 @@ module _ (task : Task) (limited : Limited task) (threshold-fits : mag (task .thr
       let e : i + (end - i) ≡ end = omega (arith, w) in
       let all = idle (end - i) (omega (arith, w)) in
       all-passed refl (sym e)
-      (λ c. (behind (omega (arith, w)) .0, behind (omega (arith, w)) .1))
+      (λ c. behind (omega (arith, w)))
       (record {
         number = at .holds .number;
         index-word = at .holds .index-word;

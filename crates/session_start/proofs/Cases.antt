@@ -1,13 +1,15 @@
--- Start's refusals with their limits and their order, and words 0 to 3 after it: each is computed from the definitions.
+-- Start's refusals with their limits and their order, words 0 to 3 after it, and what a small session holds after each cell: each is
+-- computed from the definitions.
 use Prim.Native.Nat.{ℕ, _≤_, _<_}
 use mathlib.Core.Path.{_≡_, refl}
-use mathlib.Core.List.{List, [], _∷_}
+use mathlib.Core.List.{List, [], _∷_, map}
 use lib.ListN.{length, take, drop, replicate}
-use lib.IntN.{pos}
+use lib.IntN.{pos, negsuc}
 use borrow.Author.Tests.{lt-ltb, le-ltb}
 use Rattle.base.specs.Replies.{accepted, refused}
 use Rattle.mappings.specs.Score.{Task}
 use Rattle.mappings.proofs.Compute.{mappings-compute}
+use Rattle.session_records.specs.Records.{greater, highestBefore, withRecord, blockTop}
 use Rattle.session_start.specs.WorkWords.{withCell, bestAfter, highestAfter, heading, topsAfter, startsAfter, tables, sessionWords}
 use Rattle.session_start.specs.Start.{badWeights, startReply, startWords}
 
@@ -60,3 +62,20 @@ pub record StartWords : Type 0 where
 pub start-words : StartWords
 unfolding mappings-compute badWeights startReply withCell bestAfter highestAfter heading topsAfter startsAfter tables sessionWords startWords
 start-words = record { first-four = refl; beyond = refl; refused-same = λ before. refl }
+
+-- two hits of a code that the pattern has once, threshold −5: cells (0, 1), (1, 1) and (0, 0), which score 0, 1 and 1
+abbrev twice : Task
+twice = record { text = 7 ∷ 7 ∷ []; pattern = 7 ∷ []; u = 1; v = 1; threshold = negsuc 4 }
+
+-- what changes with the cells passed: a record in each cell's row, and the greatest of them in the block; m of the next cell's column, whose
+-- hits are 0 and 1, then 0, then none; and what the rows before the next cell have seen
+pub record SessionWords : Type 0 where
+  pub best : map (bestAfter twice) (0 ∷ 1 ∷ 2 ∷ 3 ∷ [])
+      ≡ (0 ∷ 0 ∷ []) ∷ (2147483648 ∷ 0 ∷ []) ∷ (2147483648 ∷ 2147483649 ∷ []) ∷ (2147483649 ∷ 2147483649 ∷ []) ∷ []
+  pub tops : map (topsAfter twice) (0 ∷ 1 ∷ 2 ∷ 3 ∷ []) ≡ (0 ∷ []) ∷ (2147483648 ∷ []) ∷ (2147483649 ∷ []) ∷ (2147483649 ∷ []) ∷ []
+  pub starts : map (startsAfter twice) (0 ∷ 1 ∷ 2 ∷ 3 ∷ []) ≡ (1 ∷ 0 ∷ []) ∷ (1 ∷ 0 ∷ []) ∷ (1 ∷ 0 ∷ []) ∷ (0 ∷ 0 ∷ []) ∷ []
+  pub highest : map (highestAfter twice) (0 ∷ 1 ∷ 2 ∷ 3 ∷ []) ≡ 2147483643 ∷ 2147483648 ∷ 2147483643 ∷ 2147483643 ∷ []
+
+pub session-words : SessionWords
+unfolding mappings-compute greater highestBefore withRecord blockTop withCell bestAfter highestAfter topsAfter startsAfter
+session-words = record { best = refl; tops = refl; starts = refl; highest = refl }

@@ -1,5 +1,6 @@
 //! The proved functions beside a brute force on random small tasks and at the limits of document 01's table.
 
+mod clusters;
 mod codes;
 mod complements;
 mod lists;
@@ -26,6 +27,7 @@ pub fn run() -> bool {
     println!("Random cases, small, each beside the brute force");
     lists::random(&mut tally);
     two_strands::random(&mut tally);
+    clusters::random(&mut tally);
     codes::random(&mut tally);
     complements::random(&mut tally);
     sketches::random(&mut tally);

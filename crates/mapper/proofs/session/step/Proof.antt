@@ -123,7 +123,8 @@ module _ (d : tie.After-one-inside) where
   read : (walk : ℕ → ℕ → Walk) → (answer : Stepped) (after : List ℕ)
       → answer ≡ walk (columns hits .wide .result) (row d .wide3 .result) .answer
       → after ≡ walk (columns hits .wide .result) (row d .wide3 .result) .words
-      → StepPromise work (start .args .budget) (walk (getD work columnsAt 0) (getD work rowAt 0) .answer) (walk (getD work columnsAt 0) (getD work rowAt 0) .words)
+      → StepPromise work (start .args .budget) (walk (getD work columnsAt 0) (getD work rowAt 0) .answer)
+      (walk (getD work columnsAt 0) (getD work rowAt 0) .words)
       → StepPromise work (start .args .budget) answer after
   read walk answer after a b promise =
       let same : walk (columns hits .wide .result) (row d .wide3 .result) ≡ walk (getD work columnsAt 0) (getD work rowAt 0) =

@@ -64,9 +64,10 @@ returns c =
     let m = c .before .raised .ensures in
     let s = saves (c .before .before) in
     let work = entry s .args .work .now in
-    let args = entry s .args in (
-      c .decided .ensures
-          ∙ ap (λ (n : ℕ). decided (args .terms) (getD work (indexFrom + args .p .row - 1) 0) (getD work (indexFrom + args .columns - 1) 0) n (args .cells)) m,
+    let args = entry s .args in
+    let left = getD work (indexFrom + args .p .row - 1) 0 in
+    let right = getD work (indexFrom + args .columns - 1) 0 in (
+      c .decided .ensures ∙ ap (λ (n : ℕ). decided (args .terms) left right n (args .cells)) m,
       s .save .ensures,
     )
 

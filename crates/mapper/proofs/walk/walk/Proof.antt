@@ -10,7 +10,8 @@ use Rattle.base.specs.Limits.{weightLimit, hitLimit, workWords}
 use Rattle.mapper.specs.declared.place.Place.{Place}
 use Rattle.mapper.specs.declared.update.Terms.{Terms}
 use Rattle.mapper.specs.Walking.{settledWords, settled, Walk, termsIn, foundWalk, walkOn}
-use Rattle.mapper.proofs.Walking.{small-terms, settled-within, Stops, update-stops, walk-finished, walk-spent, walk-found, walk-on, spent-rest, less-left}
+use Rattle.mapper.proofs.Walking.{small-terms, settled-within, Stops, update-stops, spent-rest, less-left}
+use Rattle.mapper.proofs.Walking.{walk-finished, walk-spent, walk-found, walk-on}
 use Rattle.mapper.proofs.walk.walk.Statement.{statement}
 use Rattle.mapper.proofs.walk.walk.Tie as tie
 
@@ -228,7 +229,8 @@ same-length-3 c = search needs
 returns-3 : tie.Need-returns-3 Inv-loop μ-loop
 returns-3 c =
     let f = c .before .before in
-    let t = f .before .before .before .before in
+    let tested = f .before .before in
+    let t = tested .before .before in
     let none : t .loop .place .columns ≡ 0 = omega arith in
     let e = whole t (walk-finished (terms t) _ _ _ _ _ _ _ none) in
     (f .finished .ensures .0 ∙ ap (λ (w : Walk). w .answer) e, f .finished .ensures .1 ∙ ap (λ (w : Walk). w .words) e)
