@@ -15,7 +15,7 @@ use mapper::session::step;
 ghost use mathlib.Core.Path.{_≡_};
 ghost use Rattle.mappings.specs.Score.{taskWith};
 ghost use Rattle.sketch.specs.Replies.{hostNumber, countReply};
-ghost use Rattle.list_line.specs.PerMille.{perMilleNumber};
+ghost use Rattle.per_mille.specs.PerMille.{perMilleNumber};
 ghost use Rattle.exports.specs.Calls.{SketchCall, ComplementCall, StrikeCall, SaveCall, LoadCall, StartCall};
 ghost use Rattle.exports.specs.Steps.{lentMapping, Steps};
 
@@ -32,7 +32,7 @@ pub extern "C" fn huddlewool_count(letters: &[u8], k: u32, w: u32) -> i32
 pub extern "C" fn huddlewool_per_mille(m: u32, len: u32, size: u32) -> i32
     ensures { λ r. ⌜ r ≡ perMilleNumber m len size ⌝ }
 {
-    list_line::per_mille(m, len, size)
+    per_mille::per_mille(m, len, size)
 }
 
 #[no_mangle]

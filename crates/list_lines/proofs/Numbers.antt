@@ -15,7 +15,7 @@ use borrow.Author.Tests.{le-ltb, lt-ltb, le-leb, ltb-true, ltb-false, leb-true, 
 use Rattle.base.proofs.Lists.{and-left, and-right}
 use Rattle.mappings.specs.Score.{lengthOf}
 use Rattle.base.specs.Limits.{textLimit, patternLimit, wordLimit}
-use Rattle.list_line.specs.PerMille.{perMille, isRefused, perMilleNumber}
+use Rattle.per_mille.specs.PerMille.{perMille, isRefused, perMilleNumber}
 use Rattle.list_line.specs.Line.{line}
 use Rattle.strands.specs.declared.Strand.{Strand}
 use Rattle.list_lines.specs.Lines.{mappingLine}

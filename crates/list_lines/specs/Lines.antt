@@ -5,7 +5,7 @@ use lib.ListN.{getD}
 use Rattle.mappings.specs.Score.{lengthOf}
 use Rattle.mappings.specs.Cells.{Mapping}
 use Rattle.strands.specs.declared.Strand.{Strand}
-use Rattle.list_line.specs.PerMille.{perMille}
+use Rattle.per_mille.specs.PerMille.{perMille}
 use Rattle.list_line.specs.Line.{line}
 
 -- the line of a mapping: first letter, last letter (position of entry b, + k − 1), score, m, per mille, strand; from the positions of the

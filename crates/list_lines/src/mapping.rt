@@ -2,9 +2,9 @@
 use base::PATTERN_LIMIT;
 use base::TEXT_LIMIT;
 use base::WORD_LIMIT;
-use list_line::per_mille;
 use list_line::writing::line;
 use list_line::writing::put_bytes;
+use per_mille::per_mille;
 use session_words::wide;
 use session_words::wider;
 use strands::Strand;

@@ -2,6 +2,7 @@
 use Rattle.strands.proofs.Compute.{strands-compute}
 use Rattle.strike.proofs.Compute.{strike-computes}
 use Rattle.mappings.proofs.Compute.{mappings-compute}
+use Rattle.per_mille.proofs.Compute.{per-mille-computes}
 use Rattle.list_line.proofs.Compute.{list-line-computes}
 use Rattle.requests.specs.Requests.{textOf, patternOf, taskOf}
 use Rattle.list_input.proofs.Compute.{list-input-computes}
@@ -12,6 +13,6 @@ use Rattle.list_lines.specs.Lines.{mappingLine}
 use Rattle.list_printed.specs.Output.{finalCells, lastLine, strandLines, listOf, outputOf}
 
 unfoldable pub list-printed-computes : Unit {0}
-unfolding strike-computes mappings-compute list-line-computes list-input-computes badWeights startReply textOf patternOf taskOf sketchesReply strikingReply
+unfolding strike-computes mappings-compute per-mille-computes list-line-computes list-input-computes badWeights startReply textOf patternOf taskOf sketchesReply strikingReply
     patternReply callsReply strandsReply strands-compute mappingLine finalCells lastLine strandLines listOf outputOf
 list-printed-computes = tt

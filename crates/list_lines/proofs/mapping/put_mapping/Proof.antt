@@ -12,7 +12,7 @@ use mir.Facts.{toZ-ofZ}
 use borrow.Author.Needs.{needs, sfits-of}
 use Rattle.mappings.specs.Score.{lengthOf}
 use Rattle.base.specs.Limits.{textLimit, patternLimit, wordLimit}
-use Rattle.list_line.specs.PerMille.{perMille}
+use Rattle.per_mille.specs.PerMille.{perMille}
 use Rattle.list_line.proofs.Buffers.{same-bytes}
 use Rattle.list_line.proofs.Decimal.{line-fits}
 use Rattle.list_lines.specs.Lines.{mappingLine}

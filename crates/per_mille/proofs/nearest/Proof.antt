@@ -1,13 +1,12 @@
 -- `nearest` meets its contract: each return takes the tests of `rounded` in their order.
-use Prim.Native.Nat.{ℕ, _+_, _*_, _/_, _%_, _^_, _≤_, _<_}
+use Prim.Native.Nat.{ℕ, _+_, _*_, _/_, _%_, _≤_, _<_}
 use native.Mathlib.Nat.{div-le-self, mod-lt}
-use native.Mathlib.Omega.{arith}
 use mathlib.Core.Path.{_≡_}
 use borrow.Author.Needs.{needs}
 use borrow.Author.Tests.{lt-ltb, le-ltb, eq-eqb, ne-eqb}
-use Rattle.list_line.specs.Rounding.{evenOf, rounded, nearest}
-use Rattle.list_line.proofs.nearest.Statement.{statement}
-use Rattle.list_line.proofs.nearest.Tie as tie
+use Rattle.per_mille.specs.Rounding.{evenOf, rounded, nearest}
+use Rattle.per_mille.proofs.nearest.Statement.{statement}
+use Rattle.per_mille.proofs.nearest.Tie as tie
 
 module _ (dividend divisor : ℕ) where
   less : 2 * (dividend % divisor) < divisor → dividend / divisor ≡ nearest dividend divisor

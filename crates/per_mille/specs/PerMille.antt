@@ -4,7 +4,7 @@ use mathlib.Core.Bool.{Bool, cond, _&&_, _||_}
 use lib.Dec.{ltb, eqb}
 use lib.IntN.{ℤ, pos, negℤ}
 use Rattle.base.specs.Limits.{textLimit, patternLimit}
-use Rattle.list_line.specs.Rounding.{nearest}
+use Rattle.per_mille.specs.Rounding.{nearest}
 
 -- 1,000·m / (len + |p| − m), rounded to the nearest whole number, an exact half to the even one
 unfoldable pub perMille : ℕ → ℕ → ℕ → ℕ

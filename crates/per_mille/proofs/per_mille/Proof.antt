@@ -12,10 +12,10 @@ use mir.Facts.{toZ-pos}
 use borrow.Author.Needs.{needs}
 use borrow.Author.Tests.{lt-ltb, le-ltb, eq-eqb, ne-eqb, eqb-true}
 use Rattle.base.specs.Limits.{textLimit, patternLimit}
-use Rattle.list_line.specs.PerMille.{perMille, isRefused, perMilleNumber}
-use Rattle.list_line.proofs.PerMille.{per-mille-at-most}
-use Rattle.list_line.proofs.per_mille.Statement.{statement}
-use Rattle.list_line.proofs.per_mille.Tie as tie
+use Rattle.per_mille.specs.PerMille.{perMille, isRefused, perMilleNumber}
+use Rattle.per_mille.proofs.PerMille.{per-mille-at-most}
+use Rattle.per_mille.proofs.per_mille.Statement.{statement}
+use Rattle.per_mille.proofs.per_mille.Tie as tie
 
 returns : tie.Need-returns
 unfolding perMilleNumber isRefused

@@ -2,9 +2,9 @@
 -- to its fraction, and at most 1,000. No limit of the lengths is needed.
 use Prim.Native.Nat.{ℕ, _+_, _-_, _*_, _≤_, _<_}
 use native.Mathlib.Omega.{arith}
-use Rattle.list_line.specs.Rounding.{Nearest}
-use Rattle.list_line.specs.PerMille.{perMille}
-use Rattle.list_line.proofs.Rounding.{nearest-is, nearest-at-most}
+use Rattle.per_mille.specs.Rounding.{Nearest}
+use Rattle.per_mille.specs.PerMille.{perMille}
+use Rattle.per_mille.proofs.Rounding.{nearest-is, nearest-at-most}
 
 module _ (m len size : ℕ) (in-len : m ≤ len) (in-size : m ≤ size) (some : 0 < len + size) where
   divisor-positive : 0 < len + size - m

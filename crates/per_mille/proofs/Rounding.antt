@@ -6,7 +6,7 @@ use mathlib.Core.Path.{_≡_, refl, sym, ap, _∙_}
 use mathlib.Core.Bool.{Bool, true, false, cond}
 use lib.Dec.{ltb, eqb}
 use borrow.Author.Tests.{ltb-true, ltb-false, eqb-true, eqb-false}
-use Rattle.list_line.specs.Rounding.{evenOf, rounded, nearest, apart, Nearest}
+use Rattle.per_mille.specs.Rounding.{evenOf, rounded, nearest, apart, Nearest}
 
 -- the multiples of the divisor below and above: how far they are from the dividend
 next : (x divisor : ℕ) → (x + 1) * divisor ≡ x * divisor + divisor
