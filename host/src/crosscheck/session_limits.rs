@@ -1,17 +1,14 @@
 //! Sessions with 2,048 hits in 65,535 text entries and 4,096 pattern entries, beside the form of Definition 1 over hits.
 
 use super::numbers::Least;
-use super::stepping::hold_list;
-use super::tally::{Met, Tally};
-use crate::held::session::start;
+use super::stepping::hold_by_hits;
+use super::tally::Tally;
 use crate::held::{Difference, agree};
 use crate::random::Random;
 use crate::reference::by_hits::finals_by_hits;
-use crate::reference::cells::{cell_count, hits};
 use crate::reference::faster::finals;
-use crate::reference::list::Form;
 use crate::reference::score::Task;
-use crate::reference::start::{MAX_HITS, MAX_PATTERN, WORK_WORDS};
+use crate::reference::start::{MAX_HITS, MAX_PATTERN};
 use crate::reference::strike::MAX_TEXT;
 
 /// Weights and thresholds: both ends of the 32 bits, and some between.
@@ -68,16 +65,6 @@ fn task(random: &mut Random, kind: Places, codes: usize, (u, v): (u32, u32), thr
     Task { text, pattern, u, v, threshold }
 }
 
-/// Holds a whole session by few and long steps.
-fn hold(random: &mut Random, task: &Task, met: &mut Met) -> Result<(), Difference> {
-    let finals = finals_by_hits(task);
-    let session = start(random, task, WORK_WORDS, |_| finals.clone())?.map_err(|refusal| format!("refused: {refusal:?}"))?;
-    agree("h", hits(task).len(), MAX_HITS)?;
-    hold_list(random, session, cell_count(MAX_HITS), WORK_WORDS, &finals, met)?;
-    met.list(Form::Faster, task.text.len(), finals.len());
-    Ok(())
-}
-
 /// Asks that the form over hits lists what all intervals of a long text give.
 fn hold_form(task: &Task) -> Result<(), Difference> {
     let finals = finals(task);
@@ -103,7 +90,7 @@ pub fn limits(tally: &mut Tally) {
         for (weights, threshold) in SETTINGS {
             let task = task(&mut random, kind, codes, weights, threshold);
             let case = || format!("{kind:?}, {codes} codes, weights {weights:?}, threshold {threshold}");
-            tally.compare(case, |met| hold(&mut random, &task, met));
+            tally.compare(case, |met| hold_by_hits(&mut random, &task, MAX_HITS, met));
         }
     }
     tally.end_lists("sessions: h 2,048, 65,535 and 4,096 entries, weights 1,000, thresholds at both ends of 32 bits", &LEAST);

@@ -1,11 +1,15 @@
 //! Passing all cells of a session by random steps, refused ones between, and the list that they hand out.
 
 use super::tally::Met;
-use crate::held::session::Session;
+use crate::held::session::{Session, start};
 use crate::held::{Difference, agree};
 use crate::random::Random;
+use crate::reference::by_hits::finals_by_hits;
+use crate::reference::cells::{cell_count, hits};
 use crate::reference::definition1::Mapping;
+use crate::reference::list::Form;
 use crate::reference::refusal::refused;
+use crate::reference::score::Task;
 use crate::reference::start::WORK_WORDS;
 use crate::reference::steps::{Answer, Step};
 
@@ -73,4 +77,14 @@ pub fn hold_list(
     agree("cells passed", session.passed(), cells)?;
     finish(&mut copy, lent, &mut found_by_copy, met)?;
     agree("the list of a copy", found_by_copy.as_slice(), finals)
+}
+
+/// Holds a whole session of so many hits by few and long steps, beside the form of Definition 1 over hits.
+pub fn hold_by_hits(random: &mut Random, task: &Task, h: usize, met: &mut Met) -> Result<(), Difference> {
+    let finals = finals_by_hits(task);
+    let session = start(random, task, WORK_WORDS, |_| finals.clone())?.map_err(|refusal| format!("refused: {refusal:?}"))?;
+    agree("h", hits(task).len(), h)?;
+    hold_list(random, session, cell_count(h), WORK_WORDS, &finals, met)?;
+    met.list(Form::Faster, task.text.len(), finals.len());
+    Ok(())
 }
