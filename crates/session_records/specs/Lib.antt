@@ -1,3 +1,4 @@
--- Records and blocks of rows, over any total preorder of score words.
-pub mod Order
+-- Records and blocks of rows, over any test of score words.
 pub mod Records
+-- what only proofs speak of: what is asked of the test, and of a score
+pub mod Order
