@@ -13,6 +13,7 @@ use Rattle.list_lines.specs.Lines.{mappingLine}
 use Rattle.list_printed.specs.Output.{finalCells, lastLine, strandLines, listOf, outputOf}
 
 unfoldable pub list-printed-computes : Unit {0}
-unfolding strike-computes mappings-compute per-mille-computes list-line-computes list-input-computes badWeights startReply textOf patternOf taskOf sketchesReply strikingReply
-    patternReply callsReply strandsReply strands-compute mappingLine finalCells lastLine strandLines listOf outputOf
+unfolding strike-computes mappings-compute per-mille-computes list-line-computes list-input-computes badWeights startReply
+    textOf patternOf taskOf sketchesReply strikingReply patternReply callsReply strandsReply strands-compute
+    mappingLine finalCells lastLine strandLines listOf outputOf
 list-printed-computes = tt

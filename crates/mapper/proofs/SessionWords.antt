@@ -23,7 +23,7 @@ use Rattle.session_start.specs.Tables.{back}
 use Rattle.session_start.specs.WorkWords.{columnsLeft, nextRow, nextShared, highestAfter}
 use Rattle.session_start.proofs.WorkWords.{Outside, Free, HoldsTables, Holds}
 use Rattle.session_cells.specs.Passing.{reachAt, bestAt, topAt, startAt, lowered}
-use Rattle.session_cells.specs.Leaving.{inReachOf, leftStarts}
+use Rattle.session_cells.specs.Leaving.{isLowered, leftStarts}
 use Rattle.session_cells.proofs.Leaving.{length-left, getD-left}
 use Rattle.session_rule.proofs.Chunk.{PartHolds, SameOutside}
 use Rattle.session_rule.proofs.Leaving.{left-start}
@@ -137,7 +137,7 @@ module _ (task : Task) (small : hitCount task ≤ hitLimit) (before : List ℕ) 
 
       later-word : (b : ℕ) → b < startsLength
           → getD (leftWords work (suc j)) (startsFrom + b) 0
-          ≡ cond (inReachOf (back (task .pattern) (hitCodes task) j) j b) (lowered (getD work (startsFrom + b) 0) 1) (getD work (startsFrom + b) 0)
+          ≡ cond (isLowered (back (task .pattern) (hitCodes task) j) j b) (lowered (getD work (startsFrom + b) 0) 1) (getD work (startsFrom + b) 0)
       unfolding leftWords
       later-word b k =
           let n : length starts ≡ startsLength = middle-number startsFrom startsLength work work starts-fit in
@@ -150,8 +150,8 @@ module _ (task : Task) (small : hitCount task ≤ hitLimit) (before : List ℕ) 
       outside = outer-word startsFrom startsLength work later starts-fit number-later
 
       -- a block behind the column is not reached
-      not-reached : (b m : ℕ) → j < b * blockRows → cond (inReachOf (back (task .pattern) (hitCodes task) j) j b) (lowered m 1) m ≡ m
-      unfolding inReachOf
+      not-reached : (b m : ℕ) → j < b * blockRows → cond (isLowered (back (task .pattern) (hitCodes task) j) j b) (lowered m 1) m ≡ m
+      unfolding isLowered
       not-reached b m k = rw (lt-leb (b * blockRows) j k) (go (leb (back (task .pattern) (hitCodes task) j) (b * blockRows)))
         where
           go : (t : Bool) → cond (t && false) (lowered m 1) m ≡ m

@@ -93,6 +93,10 @@ place-words task q (suc j) row m highest (l, a, e, em, eh) =
       highest-is = rw r eh;
     }
 
+-- what is said of column j, said of the last of so many columns
+of-last : {A : Type 0} (f : ℕ → A) (j : ℕ) → f j ≡ f (suc j - 1)
+of-last f j = let e : j ≡ suc j - 1 = omega arith in ap f e
+
 -- of the budget, n more cells are passed
 less-passed : (left row n at : ℕ) → at ≡ row + n → left - (at - row) ≡ left - n
 less-passed left row n at e = omega arith
@@ -345,14 +349,11 @@ module _ (task : Task) (limited : Limited task) (threshold-fits : mag (task .thr
         by : {one other : Walk} → one ≡ other → Ruled q left other → Ruled q left one
         by {one} {other} e r = subst (Ruled q left) (sym e) r
 
-        same-column : columnUpdate (termsOf task) (suc j - 1) row m highest left work ≡ update
-        same-column = let z : suc j - 1 ≡ j = omega arith in ap (λ (i : ℕ). columnUpdate (termsOf task) i row m highest left work) z
-
         same-answer : update .answer ≡ columnUpdate (termsOf task) (suc j - 1) row m highest left work .answer
-        same-answer = ap (λ (u : Update). u .answer) (sym same-column)
+        same-answer = of-last (λ (i : ℕ). columnUpdate (termsOf task) i row m highest left work .answer) j
 
-        same-words : withPart work (update .part) ≡ withPart work (columnUpdate (termsOf task) (suc j - 1) row m highest left work .part)
-        same-words = ap (λ (u : Update). withPart work (u .part)) (sym same-column)
+        same-words : words ≡ withPart work (columnUpdate (termsOf task) (suc j - 1) row m highest left work .part)
+        same-words = of-last (λ (i : ℕ). withPart work (columnUpdate (termsOf task) i row m highest left work .part)) j
 
         -- the walk from the next column on
         Later : Type 0
@@ -457,14 +458,11 @@ module _ (task : Task) (limited : Limited task) (threshold-fits : mag (task .thr
         words : List ℕ
         words = withPart work (update .part)
 
-        same-column : cellUpdate (termsOf task) (suc j - 1) row m highest work ≡ update
-        same-column = let z : suc j - 1 ≡ j = omega arith in ap (λ (i : ℕ). cellUpdate (termsOf task) i row m highest work) z
-
         same-answer : update .answer ≡ cellUpdate (termsOf task) (suc j - 1) row m highest work .answer
-        same-answer = ap (λ (u : Update). u .answer) (sym same-column)
+        same-answer = of-last (λ (i : ℕ). cellUpdate (termsOf task) i row m highest work .answer) j
 
-        same-words : withPart work (update .part) ≡ withPart work (cellUpdate (termsOf task) (suc j - 1) row m highest work .part)
-        same-words = ap (λ (u : Update). withPart work (u .part)) (sym same-column)
+        same-words : words ≡ withPart work (cellUpdate (termsOf task) (suc j - 1) row m highest work .part)
+        same-words = of-last (λ (i : ℕ). withPart work (cellUpdate (termsOf task) i row m highest work .part)) j
 
         -- the place behind the cell, and the words with the part back
         behind : PartHolds task j (q + 1) (update .part) → SameOutside task (partOf work) (update .part) → update .answer .row ≡ row + 1

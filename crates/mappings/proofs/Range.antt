@@ -10,7 +10,7 @@ use lib.Signed.{leZ, mag}
 use borrow.Author.Tests.{le-leb}
 use Rattle.base.specs.Limits.{textLimit, weightLimit, patternLimit}
 use Rattle.mappings.specs.Score.{Task, interval, distance, linear, lengthOf, sharedOf, scoreOf}
-use Rattle.mappings.specs.Bias.{bias, biased, biasedOf, biasedZ}
+use Rattle.mappings.specs.Bias.{bias, biasedOf, biasedZ}
 use Rattle.mappings.specs.Unbiased.{unbiased}
 use Rattle.mappings.specs.Definition1.{AtMost}
 use Rattle.mappings.proofs.Integers.{differences-order, linear-biased, biased-order, unbiased-order, unbiased-biasedZ}
@@ -80,15 +80,6 @@ module _ (task : Task) (limited : Limited task) (a b : ℕ) (h : b < length (tas
   unfolding scoreOf biasedOf
   score-biased =
       linear-biased (task .u) (task .v) (length (task .pattern)) (sharedOf task a b) (lengthOf a b) (twice-shared task a b h) (omega (arith, weighed))
-
-  -- the word is 32 bits wide and not 0
-  pub biased-within : (0 < biasedOf task a b) × (biasedOf task a b < 2 * bias)
-  unfolding biasedOf biased
-  biased-within =
-      let e : (task .u + 2 * task .v) * sharedOf task a b ≤ 3 * mostGained =
-      mul-le-mul {n₂ = 3 * weightLimit} {m₂ = patternLimit} (omega (arith, limited .small-u, limited .small-v))
-      (omega (arith, shared-le-size task a b, limited .short-pattern)) in
-      omega (arith, weighed)
 
 -- scores order as their words do
 pub scores-order : (task : Task) → Limited task → (a b c d : ℕ) → b < length (task .text) → d < length (task .text)

@@ -13,7 +13,7 @@ use lib.Seq.{getD-set-same, getD-set-other, ext-getD}
 use Rattle.base.proofs.Lists.{eq-or-ne}
 use Rattle.session_words.specs.Layout.{blockRows}
 use Rattle.session_cells.specs.Passing.{lowered}
-use Rattle.session_cells.specs.Leaving.{inReachOf, leftStarts}
+use Rattle.session_cells.specs.Leaving.{isLowered, leftStarts}
 
 pub length-left : (back column b : ℕ) (starts : List ℕ) → length (leftStarts back column b starts) ≡ length starts
 length-left back column b [] = refl
@@ -21,11 +21,11 @@ length-left back column b (m ∷ starts) = ap suc (length-left back column (suc 
 
 -- the word of block b, from what the words were
 abbrev left : ℕ → ℕ → List ℕ → ℕ → ℕ
-left back column starts b = cond (inReachOf back column b) (lowered (getD starts b 0) 1) (getD starts b 0)
+left back column starts b = cond (isLowered back column b) (lowered (getD starts b 0) 1) (getD starts b 0)
 
 -- of words that begin with that of block b
 getD-left-from : (back column b : ℕ) (starts : List ℕ) (k : ℕ) → k < length starts
-    → getD (leftStarts back column b starts) k 0 ≡ cond (inReachOf back column (b + k)) (lowered (getD starts k 0) 1) (getD starts k 0)
+    → getD (leftStarts back column b starts) k 0 ≡ cond (isLowered back column (b + k)) (lowered (getD starts k 0) 1) (getD starts k 0)
 getD-left-from back column b [] k h = absurd (omega arith)
 getD-left-from back column b (m ∷ starts) zero h = let e : b + 0 ≡ b = omega arith in rw e
 getD-left-from back column b (m ∷ starts) (suc k) h =
@@ -33,22 +33,22 @@ getD-left-from back column b (m ∷ starts) (suc k) h =
     rw e (getD-left-from back column (suc b) starts k (omega arith))
 
 pub getD-left : (back column : ℕ) (starts : List ℕ) (b : ℕ) → b < length starts
-    → getD (leftStarts back column 0 starts) b 0 ≡ cond (inReachOf back column b) (lowered (getD starts b 0) 1) (getD starts b 0)
+    → getD (leftStarts back column 0 starts) b 0 ≡ cond (isLowered back column b) (lowered (getD starts b 0) 1) (getD starts b 0)
 getD-left back column starts b h = let e : 0 + b ≡ b = omega arith in rw e at (getD-left-from back column 0 starts b h)
 
 -- ---- block after block
 
 module _ (back column : ℕ) where
-  within : (b : ℕ) → back ≤ b * blockRows → b * blockRows ≤ column → inReachOf back column b ≡ true
-  unfolding inReachOf
+  within : (b : ℕ) → back ≤ b * blockRows → b * blockRows ≤ column → isLowered back column b ≡ true
+  unfolding isLowered
   within b l r = rw (le-leb back (b * blockRows) l, le-leb (b * blockRows) column r)
 
-  before-back : (b : ℕ) → b * blockRows < back → inReachOf back column b ≡ false
-  unfolding inReachOf
+  before-back : (b : ℕ) → b * blockRows < back → isLowered back column b ≡ false
+  unfolding isLowered
   before-back b l = rw (lt-leb back (b * blockRows) l)
 
-  behind-column : (b : ℕ) → column < b * blockRows → inReachOf back column b ≡ false
-  unfolding inReachOf
+  behind-column : (b : ℕ) → column < b * blockRows → isLowered back column b ≡ false
+  unfolding isLowered
   behind-column b r = rw (lt-leb (b * blockRows) column r) (go (leb back (b * blockRows)))
     where
       go : (t : Bool) → (t && false) ≡ false

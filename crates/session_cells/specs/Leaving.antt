@@ -7,11 +7,11 @@ use lib.Dec.{leb}
 use Rattle.session_words.specs.Layout.{blockRows}
 use Rattle.session_cells.specs.Passing.{lowered}
 
--- the first row of block b lies from `back` up to the column's own
-unfoldable pub inReachOf : ℕ → ℕ → ℕ → Bool
-inReachOf back column b = leb back (b * blockRows) && leb (b * blockRows) column
+-- m at the first row of block b is lowered: that row lies from `back` up to the column's own
+unfoldable pub isLowered : ℕ → ℕ → ℕ → Bool
+isLowered back column b = leb back (b * blockRows) && leb (b * blockRows) column
 
 -- starts from block b on
 abbrev pub leftStarts : ℕ → ℕ → ℕ → List ℕ → List ℕ
 leftStarts back column b [] = []
-leftStarts back column b (m ∷ starts) = cond (inReachOf back column b) (lowered m 1) m ∷ leftStarts back column (suc b) starts
+leftStarts back column b (m ∷ starts) = cond (isLowered back column b) (lowered m 1) m ∷ leftStarts back column (suc b) starts

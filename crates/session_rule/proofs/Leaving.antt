@@ -21,7 +21,7 @@ use Rattle.session_words.specs.Layout.{blockRows}
 use Rattle.session_start.specs.Tables.{back, startOf}
 use Rattle.session_start.proofs.Tables.{back-test, hit-codes-in}
 use Rattle.session_cells.specs.Passing.{lowered}
-use Rattle.session_cells.specs.Leaving.{inReachOf}
+use Rattle.session_cells.specs.Leaving.{isLowered}
 
 -- no hits behind the column
 pub none-shared : (p g : List ℕ) (i j : ℕ) → j < i → shared p (interval g i j) ≡ 0
@@ -73,8 +73,8 @@ module _ (task : Task) (limited : Limited task) where
 
   -- starts of a column, by those of the one behind it
   pub left-start : (j b : ℕ) → j < hitCount task
-      → cond (inReachOf (back p g j) j b) (lowered (startOf p g (suc j) b) 1) (startOf p g (suc j) b) ≡ startOf p g j b
-  unfolding inReachOf
+      → cond (isLowered (back p g j) j b) (lowered (startOf p g (suc j) b) 1) (startOf p g (suc j) b) ≡ startOf p g j b
+  unfolding isLowered
   left-start j b l = go j l (leb (b * blockRows) j) refl
     where
       go : (j : ℕ) → j < hitCount task → (t : Bool) → leb (b * blockRows) j ≡ t

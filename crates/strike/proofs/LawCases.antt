@@ -6,7 +6,7 @@ use mathlib.Core.List.{List, [], _∷_, List·Memᴰ, List·Memᴰ·head, List·
 use lib.ListN.{length, getD}
 use Rattle.base.specs.Counts.{occ}
 use Rattle.kmers.specs.Kmers.{Entry, codes, positions, entries}
-use Rattle.strike.specs.Strike.{strike, struck}
+use Rattle.strike.specs.Strike.{strike}
 use Rattle.strike.proofs.Compute.{strike-computes}
 use Rattle.strike.proofs.Laws.{StrictlyRising, strike-length, strike-rising, strike-mem, mem-strike, read-keeps, read-strikes}
 

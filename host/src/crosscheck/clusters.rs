@@ -1,5 +1,5 @@
-//! Sessions of near copies with several blocks of rows, most of which are skipped, beside the form of Definition 1 over hits. Steps end
-//! within skipped blocks too, and every work word is compared behind each of them.
+//! Sessions of near copies with several blocks of rows, beside the form of Definition 1 over hits. Steps have random budgets, and every
+//! work word is compared behind each of them. How often a step ends inside a block that a longer one skips is counted in bench/tests.
 
 use super::numbers::Least;
 use super::stepping::hold_by_hits;
@@ -17,5 +17,5 @@ pub fn random(tally: &mut Tally) {
             tally.compare(|| format!("seed {seed}, {h} hits"), |met| hold_by_hits(&mut random, &task, h, met));
         }
     }
-    tally.end_lists("sessions of near copies: 64 to 1,000 hits, steps that end within skipped blocks", &LEAST);
+    tally.end_lists("sessions of near copies: 64 to 1,000 hits, several blocks of rows", &LEAST);
 }
