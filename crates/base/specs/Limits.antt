@@ -27,6 +27,10 @@ patternLimit = 4096
 abbrev pub weightLimit : ℕ
 weightLimit = 1000
 
+-- g, the divisor of the threshold f/g, is 1 to 1,000
+abbrev pub divisorLimit : ℕ
+divisorLimit = 1000
+
 -- h is at most 2,048
 abbrev pub hitLimit : ℕ
 hitLimit = 2048

@@ -10,6 +10,9 @@ pub const W_LIMIT: u32 = 64;
 
 pub const WEIGHT_LIMIT: u32 = 1000;
 
+// g, the divisor of the threshold f/g, is 1 to DIVISOR_LIMIT.
+pub const DIVISOR_LIMIT: u32 = 1000;
+
 pub const LETTER_LIMIT: usize = 1048576;
 
 // Entries of a text, and so the limit of c and of an interval's length.

@@ -1,9 +1,7 @@
--- Scores as unsigned words: with a bias of 2^31, so that they order as the scores do.
+-- Linear scores as unsigned words: with a bias of 2^31, so that they order as the scores do.
 use Prim.Native.Nat.{ℕ, suc, _+_, _-_, _*_}
-use lib.ListN.{length}
 use lib.IntN.{ℤ, pos, negsuc}
 use Rattle.base.specs.Limits.{signedLimit}
-use Rattle.mappings.specs.Score.{Task, lengthOf, sharedOf}
 
 -- 2^31: it takes the least signed number to 0
 abbrev pub bias : ℕ
@@ -12,10 +10,6 @@ bias = signedLimit
 -- (u + 2v)·m + 2^31 − v·(len + |p|)
 unfoldable pub biased : ℕ → ℕ → ℕ → ℕ → ℕ → ℕ
 biased u v size m len = (u + 2 * v) * m + bias - v * (len + size)
-
--- the biased score of [a, b]
-unfoldable pub biasedOf : Task → ℕ → ℕ → ℕ
-biasedOf task a b = biased (task .u) (task .v) (length (task .pattern)) (sharedOf task a b) (lengthOf a b)
 
 -- the word of a signed number, as of a threshold
 abbrev pub biasedZ : ℤ → ℕ

@@ -3,9 +3,9 @@ use Prim.Native.Nat.{ℕ, zero, suc, _*_, _/_}
 use mathlib.Core.List.{List, [], _∷_, _++_, map}
 use lib.Dec.{ltb}
 use lib.ListN.{length, getD}
-use lib.IntN.{ℤ}
 use Rattle.base.specs.Lists.{addIf, range}
 use Rattle.base.specs.Counts.{occ}
+use Rattle.mappings.specs.declared.Score.{Score}
 use Rattle.mappings.specs.Score.{Task, scoreOf, sharedOf}
 
 -- the hits among these entries of the text, the first of which has index `at`: the indices whose code is in p
@@ -53,7 +53,7 @@ rightEnd task cell = getD (hits task) (cell .column) 0
 pub record Mapping : Type 0 where
   pub a : ℕ
   pub b : ℕ
-  pub score : ℤ
+  pub score : Score
   pub m : ℕ
 
 unfoldable pub mappingOf : Task → Cell → Mapping

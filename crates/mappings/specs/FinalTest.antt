@@ -4,10 +4,9 @@ use Prim.Native.Nat.{ℕ, suc, _-_}
 use mathlib.Core.Bool.{Bool, _&&_}
 use lib.Dec.{leb, ltb}
 use lib.ListN.{length, getD}
-use lib.Signed.{leZ}
 use Rattle.base.specs.Lists.{every, range}
 use Rattle.base.specs.Counts.{occ}
-use Rattle.mappings.specs.Score.{Task, interval, scoreOf}
+use Rattle.mappings.specs.Score.{Task, interval, scoreOf, thresholdOf, atMost}
 use Rattle.mappings.specs.Cells.{Cell, leftEnd, rightEnd}
 
 -- t[i] occurs in [a, b] at most as often as in p
@@ -18,14 +17,14 @@ isReasonable task a b i = leb (occ (getD (task .text) i 0) (interval (task .text
 unfoldable pub isMaximal : Task → ℕ → ℕ → Bool
 isMaximal task a b =
     every
-    (λ (c : ℕ). every (λ (d : ℕ). leZ (scoreOf task c d) (scoreOf task a b)) (range b (length (task .text) - b)))
+    (λ (c : ℕ). every (λ (d : ℕ). atMost (scoreOf task c d) (scoreOf task a b)) (range b (length (task .text) - b)))
     (range 0 (suc a))
 
 unfoldable pub isFinal : Task → ℕ → ℕ → Bool
 isFinal task a b =
     leb a b
     && ltb b (length (task .text))
-    && leZ (task .threshold) (scoreOf task a b)
+    && atMost (thresholdOf (task .scoring)) (scoreOf task a b)
     && isReasonable task a b a
     && isReasonable task a b b
     && isMaximal task a b

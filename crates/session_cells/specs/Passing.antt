@@ -7,6 +7,7 @@ use lib.ListN.{length, getD, set}
 use Rattle.base.specs.Limits.{hitLimit, wordLimit}
 use Rattle.base.specs.Lists.{bit}
 use Rattle.session_words.specs.Layout.{indexFrom, reachFrom, bestFrom, blockRows, topsFrom, startsFrom, partLength}
+use Rattle.session_records.specs.Words.{atMost}
 use Rattle.session_records.specs.Records.{greater}
 use Rattle.session_cells.specs.declared.cells.Line.{Line}
 use Rattle.session_cells.specs.declared.cells.Passed.{Passed}
@@ -32,21 +33,25 @@ lowered m one = (m + wordLimit - one) % wordLimit
 unfoldable pub lineScore : Line → ℕ → ℕ → ℕ
 lineScore line m x = (line .gain * m + line .v * x + line .base) % wordLimit
 
+-- the order of the line's score words
+abbrev pub orderIn : Line → ℕ → ℕ → Bool
+orderIn line = atMost (line .fractions)
+
 -- 1 where hit i is reasonable as the left end in this line's column
 unfoldable pub inReach : Line → List ℕ → ℕ → ℕ
 inReach line part i = bit (ltb (line .column) (getD part (reachAt i) 0))
 
 -- the part with this score word entered in row i as a record, where it is greater than what the rows up to i have seen
-unfoldable pub entered : List ℕ → ℕ → ℕ → ℕ → List ℕ
-entered part i s seen =
-    cond (leb s seen)
+unfoldable pub entered : Bool → List ℕ → ℕ → ℕ → ℕ → List ℕ
+entered fractions part i s seen =
+    cond (atMost fractions s seen)
     part
-    (set (set part (bestAt i) s) (topAt (i / blockRows)) (greater leb s (getD part (topAt (i / blockRows)) 0)))
+    (set (set part (bestAt i) s) (topAt (i / blockRows)) (greater (atMost fractions) s (getD part (topAt (i / blockRows)) 0)))
 
 -- Definition 1 at a cell of row i, by words: its score word is at least what the rows up to i have seen, the threshold included, and
 -- both of its ends are reasonable
-unfoldable pub candidateTest : ℕ → ℕ → ℕ → ℕ → ℕ → Bool
-candidateTest seen s one back i = leb seen s && eqb one 1 && leb back i
+unfoldable pub candidateTest : Bool → ℕ → ℕ → ℕ → ℕ → ℕ → Bool
+candidateTest fractions seen s one back i = atMost fractions seen s && eqb one 1 && leb back i
 
 -- a column's update: what it answers, and the part of the work words afterwards
 pub record Update : Type 0 where
@@ -65,12 +70,12 @@ abbrev pub passRows : Line → ℕ → ℕ → ℕ → ℕ → List ℕ → Upda
 passRows line zero i m highest part = record { answer = nonePassed i m highest; part = part }
 passRows line (suc n) i m highest part =
     let s = lineScore line m (getD part i 0) in
-    let seen = greater leb highest (getD part (bestAt i) 0) in
+    let seen = greater (orderIn line) highest (getD part (bestAt i) 0) in
     let one = inReach line part i in
-    let after = entered part i s seen in
-    let later = passRows line n (suc i) (lowered m one) (greater leb seen s) after in
-    cond (candidateTest seen s one (line .back) i)
-    (record { answer = record { found = true; row = suc i; m = lowered m one; highest = greater leb seen s }; part = after })
+    let after = entered (line .fractions) part i s seen in
+    let later = passRows line n (suc i) (lowered m one) (greater (orderIn line) seen s) after in
+    cond (candidateTest (line .fractions) seen s one (line .back) i)
+    (record { answer = record { found = true; row = suc i; m = lowered m one; highest = greater (orderIn line) seen s }; part = after })
     later
 
 -- ---- block by block
@@ -85,12 +90,12 @@ bound line i m part = lineScore line m (getD part (restEnd line i - 1) 0)
 
 -- the rest of the block is skipped: it ends within the rows that are asked for, and its bound is less than what the rows before it have seen
 unfoldable pub skips : Line → ℕ → ℕ → ℕ → ℕ → List ℕ → Bool
-skips line to i m highest part = leb (restEnd line i) to && not (leb highest (bound line i m part))
+skips line to i m highest part = leb (restEnd line i) to && not (orderIn line highest (bound line i m part))
 
 -- behind the rest of the block of row i
 unfoldable pub skipped : Line → ℕ → ℕ → List ℕ → Passed
 skipped line i highest part =
-    nonePassed (restEnd line i) (getD part (startAt (i / blockRows + 1)) 0) (greater leb highest (getD part (topAt (i / blockRows)) 0))
+    nonePassed (restEnd line i) (getD part (startAt (i / blockRows + 1)) 0) (greater (orderIn line) highest (getD part (topAt (i / blockRows)) 0))
 
 -- the rest of the block of row i, or its rows below `to`
 unfoldable pub passRest : Line → ℕ → ℕ → ℕ → ℕ → List ℕ → Update

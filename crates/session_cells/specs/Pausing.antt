@@ -3,19 +3,18 @@
 use Prim.Native.Nat.{ℕ, zero, suc}
 use mathlib.Core.Bool.{cond}
 use mathlib.Core.List.{List}
-use lib.Dec.{leb}
 use lib.ListN.{getD}
 use Rattle.session_records.specs.Records.{greater}
 use Rattle.session_cells.specs.declared.cells.Line.{Line}
 use Rattle.session_cells.specs.declared.rows.Paused.{Paused}
-use Rattle.session_cells.specs.Passing.{reachAt, bestAt, lowered, lineScore, inReach}
+use Rattle.session_cells.specs.Passing.{reachAt, bestAt, lowered, lineScore, orderIn, inReach}
 
 -- the next n cells of the line from row i on; the rows before i have seen `highest`
 abbrev pub quietRows : Line → ℕ → ℕ → ℕ → ℕ → List ℕ → Paused
 quietRows line zero i m highest part = record { row = i; m = m; highest = highest; score = 0; reach = 0 }
 quietRows line (suc n) i m highest part =
     let s = lineScore line m (getD part i 0) in
-    let seen = greater leb highest (getD part (bestAt i) 0) in
+    let seen = greater (orderIn line) highest (getD part (bestAt i) 0) in
     let one = inReach line part i in
     let later = quietRows line n (suc i) (lowered m one) seen part in
-    cond (leb seen s) (record { row = suc i; m = lowered m one; highest = seen; score = s; reach = getD part (reachAt i) 0 }) later
+    cond (orderIn line seen s) (record { row = suc i; m = lowered m one; highest = seen; score = s; reach = getD part (reachAt i) 0 }) later

@@ -10,11 +10,12 @@ use Rattle.base.specs.Counts.{occ}
 use Rattle.base.specs.Replies.{Reply, accepted, refused}
 use Rattle.base.specs.Limits.{hitLimit}
 use Rattle.sorting.specs.Sorting.{Sorted, LowerBound}
-use Rattle.mappings.specs.Bias.{biasedZ}
+use Rattle.mappings.specs.declared.Scoring.{Scoring}
 use Rattle.mappings.specs.Score.{Task}
 use Rattle.mappings.specs.Cells.{hitsFrom, hits, hitCount}
 use Rattle.mappings.specs.HitCodes.{hitCodes}
 use Rattle.session_words.specs.Layout.{reachFrom, blockCount}
+use Rattle.session_start.specs.ScoreWords.{thresholdWord, firstNumber, secondNumber, kindNumber}
 use Rattle.session_start.specs.Tables.{reach, back, startOf}
 
 -- 1 where x stands at this index, else 0
@@ -63,15 +64,25 @@ unfoldable pub starts : List ℕ → List ℕ → List ℕ
 starts p g = map (startOf p g (length g)) (range 0 (suc (blockCount (length g))))
 
 -- words 0 to 10 of a session in which no cell has been passed
-abbrev pub freshHeading : ℕ → ℕ → ℕ → ℕ → ℕ → ℕ → List ℕ
-freshHeading h u v size threshold shared = h ∷ u ∷ v ∷ 0 ∷ 0 ∷ size ∷ threshold ∷ h ∷ 0 ∷ shared ∷ threshold ∷ []
+abbrev pub freshHeading : Scoring → ℕ → ℕ → ℕ → List ℕ
+freshHeading scoring h size shared =
+    h
+    ∷ firstNumber scoring
+    ∷ secondNumber scoring
+    ∷ 0
+    ∷ kindNumber scoring
+    ∷ size
+    ∷ thresholdWord scoring
+    ∷ h
+    ∷ 0
+    ∷ shared
+    ∷ thresholdWord scoring
+    ∷ []
 
 -- what start has at hand when it writes the work words of a task
-pub record Prepared (task : Task) (u v size threshold : ℕ) (index noted : List ℕ) : Type 0 where
-  pub u-is : u ≡ task .u
-  pub v-is : v ≡ task .v
+pub record Prepared (task : Task) (scoring : Scoring) (size : ℕ) (index noted : List ℕ) : Type 0 where
+  pub scoring-is : scoring ≡ task .scoring
   pub size-is : size ≡ length (task .pattern)
-  pub threshold-is : threshold ≡ biasedZ (task .threshold)
   pub index-is : index ≡ hits task
   pub backs-are : noted ≡ backs (task .pattern) (hitCodes task)
 

@@ -6,7 +6,9 @@ use lib.Dec.{ltb, eqb}
 use lib.ListN.{length}
 use Rattle.base.specs.Replies.{Reply, accepted, refused}
 use Rattle.session_start.specs.WorkWords.{sessionWords}
-use Rattle.base.specs.Limits.{outside, textLimit, weightLimit, patternLimit, hitLimit, workWords}
+use Rattle.base.specs.Limits.{outside, textLimit, weightLimit, divisorLimit, patternLimit, hitLimit, workWords}
+use Rattle.mappings.specs.declared.Scoring.{Scoring}
+use Rattle.mappings.specs.declared.Scoring.the-variants.{Linear, Jaccard}
 use Rattle.mappings.specs.Score.{Task}
 use Rattle.mappings.specs.Cells.{hitCount}
 
@@ -14,10 +16,19 @@ use Rattle.mappings.specs.Cells.{hitCount}
 unfoldable pub badWeights : ℕ → ℕ → Bool
 badWeights u v = outside 1 weightLimit u || outside 1 weightLimit v
 
--- what start answers, given how many work words it is lent: 7 to 11 in this order, 11 with h; or h
+-- g outside 1–1,000, or f over g
+unfoldable pub badFraction : ℕ → ℕ → Bool
+badFraction f g = outside 1 divisorLimit g || ltb g f
+
+-- 7 or 17, by the scoring; where neither applies, what is answered then
+abbrev pub judged : Scoring → Reply → Reply
+judged (Linear u v threshold) next = cond (badWeights u v) (refused 7 []) next
+judged (Jaccard f g) next = cond (badFraction f g) (refused 17 []) next
+
+-- what start answers, given how many work words it is lent: 7 or 17, then 8 to 11 in this order, 11 with h; or h
 unfoldable pub startReply : Task → ℕ → Reply
 startReply task lent =
-    cond (badWeights (task .u) (task .v)) (refused 7 [])
+    judged (task .scoring)
     (cond (ltb textLimit (length (task .text))) (refused 8 [])
     (cond (eqb (length (task .pattern)) 0 || ltb patternLimit (length (task .pattern))) (refused 9 [])
     (cond (ltb lent workWords) (refused 10 [])

@@ -1,16 +1,17 @@
 -- What each work word holds after q cells, given the words before start: docs/WORK_WORDS.md has the same as a table.
 use Prim.Native.Nat.{ℕ, zero, suc, _+_, _-_}
-use mathlib.Core.Bool.{cond, _&&_}
+use mathlib.Core.Bool.{Bool, cond, _&&_}
 use mathlib.Core.List.{List, [], _∷_, map}
 use lib.Dec.{leb, ltb}
 use lib.ListN.{length, getD, take, replicate}
 use Rattle.base.specs.Lists.{range}
 use Rattle.mappings.specs.Score.{Task, sharedOf}
-use Rattle.mappings.specs.Bias.{biasedOf, biasedZ}
 use Rattle.mappings.specs.Cells.{Cell, hits, hitCount, cellsOf, leftEnd, rightEnd}
 use Rattle.mappings.specs.HitCodes.{hitCodes}
 use Rattle.session_words.specs.Layout.{backFrom, indexFrom, reachFrom, bestFrom, blockCount, topsFrom, startsFrom}
 use Rattle.session_records.specs.Records.{highestBefore, withRecord, blockTop}
+use Rattle.session_records.specs.Words.{atMost}
+use Rattle.session_start.specs.ScoreWords.{byFractions, thresholdWord, scoreWordOf, firstNumber, secondNumber, kindNumber}
 use Rattle.session_start.specs.Tables.{reach, back, startOf}
 
 -- the place after q cells of h columns: how many columns are left, the next cell's column being the last of them; and its row
@@ -27,11 +28,15 @@ abbrev pub nextShared : Task → ℕ → ℕ → ℕ
 nextShared task zero row = 0
 nextShared task (suc j) row = sharedOf task (getD (hits task) row 0) (getD (hits task) j 0)
 
--- the column in hand after one more cell: a record in its row, where its score, biased to a word, is greater than the threshold and than
--- all records in the rows up to its own
+-- the order of the score words of a task
+abbrev pub orderOf : Task → ℕ → ℕ → Bool
+orderOf task = atMost (byFractions (task .scoring))
+
+-- the column in hand after one more cell: a record in its row, where its score word is greater than the threshold's and than all records in
+-- the rows up to its own
 unfoldable pub withCell : Task → List ℕ → Cell → List ℕ
 withCell task best cell =
-    withRecord leb (biasedZ (task .threshold)) best (cell .row) (biasedOf task (leftEnd task cell) (rightEnd task cell))
+    withRecord (orderOf task) (thresholdWord (task .scoring)) best (cell .row) (scoreWordOf task (leftEnd task cell) (rightEnd task cell))
 
 abbrev pub withCells : Task → List ℕ → List Cell → List ℕ
 withCells task best [] = best
@@ -43,19 +48,19 @@ bestAfter task q = withCells task (replicate (hitCount task) 0) (take q (cellsOf
 
 -- the greatest of the threshold and of the records in the rows before the next cell's
 unfoldable pub highestAfter : Task → ℕ → ℕ
-highestAfter task q = highestBefore leb (biasedZ (task .threshold)) (bestAfter task q) (nextRow (hitCount task) q)
+highestAfter task q = highestBefore (orderOf task) (thresholdWord (task .scoring)) (bestAfter task q) (nextRow (hitCount task) q)
 
--- words 0 to 10: h, u, v, the cells passed since start, the kind of score (0, linear), |p|, the threshold with the bias added,
--- the columns left, row and m of the next cell, and the greatest of the threshold and of the records in the rows before it
+-- words 0 to 10: h, u and v or f and g, the cells passed since start, the kind of score, |p|, the threshold as a score word, the columns
+-- left, row and m of the next cell, and the greatest of the threshold and of the records in the rows before it
 unfoldable pub heading : Task → ℕ → List ℕ
 heading task q =
     hitCount task
-    ∷ task .u
-    ∷ task .v
+    ∷ firstNumber (task .scoring)
+    ∷ secondNumber (task .scoring)
     ∷ q
-    ∷ 0
+    ∷ kindNumber (task .scoring)
     ∷ length (task .pattern)
-    ∷ biasedZ (task .threshold)
+    ∷ thresholdWord (task .scoring)
     ∷ columnsLeft (hitCount task) q
     ∷ nextRow (hitCount task) q
     ∷ nextShared task (columnsLeft (hitCount task) q) (nextRow (hitCount task) q)
@@ -64,7 +69,7 @@ heading task q =
 
 -- tops: the greatest record of each block of rows
 unfoldable pub topsAfter : Task → ℕ → List ℕ
-topsAfter task q = map (blockTop leb (bestAfter task q)) (range 0 (blockCount (hitCount task)))
+topsAfter task q = map (blockTop (orderOf task) (bestAfter task q)) (range 0 (blockCount (hitCount task)))
 
 -- starts: m at the first row of each block in the column in hand, and one 0 more
 unfoldable pub startsAfter : Task → ℕ → List ℕ
