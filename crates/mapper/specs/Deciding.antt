@@ -1,21 +1,25 @@
--- The deciding test at a candidate: the signed score, from weights and counts, against the signed threshold.
+-- The deciding test at a candidate: its score, from the scoring and the counts, against the threshold.
 use Prim.Native.Nat.{ℕ, _-_}
 use mathlib.Core.Bool.{Bool, cond, _&&_}
 use lib.Dec.{leb, ltb}
-use lib.IntN.{ℤ}
-use lib.Signed.{leZ}
-use Rattle.base.specs.Limits.{textLimit, weightLimit, patternLimit}
-use Rattle.mappings.specs.Unbiased.{unbiased}
-use Rattle.mappings.specs.Score.{linear, lengthOf}
+use Rattle.base.specs.Limits.{textLimit, weightLimit, divisorLimit, patternLimit}
+use Rattle.mappings.specs.declared.Score.{Score}
+use Rattle.mappings.specs.declared.Scoring.{Scoring}
+use Rattle.mappings.specs.declared.Scoring.the-variants.{Linear, Jaccard}
+use Rattle.mappings.specs.Score.{scored, thresholdOf, atMost, lengthOf}
 use Rattle.mapper.specs.declared.update.Terms.{Terms}
 use Rattle.mapper.specs.declared.answer.Stepped.{Stepped}
 use Rattle.mapper.specs.declared.answer.Stepped.the-variants.{Found, Spent}
 
--- weights and counts are such as sessions have, so that the score of [a, b] fits 32 signed bits: m is at most len and at most |p|
+-- the numbers of the scoring are at most those that start accepts
+abbrev pub isSmall : Scoring → Bool
+isSmall (Linear u v threshold) = leb u weightLimit && leb v weightLimit
+isSmall (Jaccard f g) = leb f divisorLimit && leb g divisorLimit
+
+-- weights and counts are such as sessions have, so that the score of [a, b] fits 32 bits: m is at most len and at most |p|
 unfoldable pub isScorable : Terms → ℕ → ℕ → ℕ → Bool
 isScorable terms a b m =
-    leb (terms .u) weightLimit
-    && leb (terms .v) weightLimit
+    isSmall (terms .scoring)
     && leb (terms .size) patternLimit
     && leb a b
     && ltb (b - a) textLimit
@@ -23,12 +27,12 @@ isScorable terms a b m =
     && leb m (lengthOf a b)
 
 -- the score of [a, b] with this m
-unfoldable pub candidateScore : Terms → ℕ → ℕ → ℕ → ℤ
-candidateScore terms a b m = linear (terms .u) (terms .v) (terms .size) m (lengthOf a b)
+unfoldable pub candidateScore : Terms → ℕ → ℕ → ℕ → Score
+candidateScore terms a b m = scored (terms .scoring) (terms .size) m (lengthOf a b)
 
 -- it is at least the threshold
 unfoldable pub decides : Terms → ℕ → ℕ → ℕ → Bool
-decides terms a b m = isScorable terms a b m && leZ (unbiased (terms .threshold)) (candidateScore terms a b m)
+decides terms a b m = isScorable terms a b m && atMost (thresholdOf (terms .scoring)) (candidateScore terms a b m)
 
 -- what is answered: found with the score that decided, or no more than the cells passed
 unfoldable pub decided : Terms → ℕ → ℕ → ℕ → ℕ → Stepped

@@ -3,17 +3,17 @@ use Prim.Native.Nat.{ℕ, suc, _≤_, _<_}
 use mathlib.Core.Path.{_≡_}
 use mathlib.Core.List.{List, [], _∷_, _++_}
 use lib.ListN.{length, getD, take, drop}
-use lib.Signed.{mag}
 use Rattle.base.specs.Replies.{accepted}
 use Rattle.sketch.specs.Replies.{sketchReply, sketchCodes, sketchPositions}
 use Rattle.strike.specs.Strike.{strikeReply, strikeCodes}
-use Rattle.base.specs.Limits.{workWords, signedLimit}
-use Rattle.mappings.specs.Score.{Task, taskWith}
+use Rattle.base.specs.Limits.{workWords}
+use Rattle.mappings.specs.Score.{Task, taskWith, ThresholdFits}
 use Rattle.mappings.specs.Cells.{hitCount}
 use Rattle.mappings.specs.Rule.{Answer, Step}
 use Rattle.mappings.specs.Demand.{stepAt, passedBefore, Demanded}
 use Rattle.requests.specs.declared.Settings.{Settings}
-use Rattle.session_words.specs.FirstWords.{hitsAt, uAt, vAt, passedAt}
+use Rattle.session_words.specs.FirstWords.{hitsAt, uAt, vAt, passedAt, kindAt}
+use Rattle.session_start.specs.ScoreWords.{firstNumber, secondNumber, kindNumber}
 use Rattle.session_start.specs.Start.{startReply}
 use Rattle.mapper.specs.declared.answer.Stepped.{Stepped}
 use Rattle.mapper.specs.Answers.{answerOf}
@@ -68,9 +68,9 @@ module _ (settings : Settings) (text read : List ℕ) (lent : Lent) (n m s r : �
 
   -- what start is given
   unfoldable pub startTask : Task
-  startTask = taskWith struckCodes patternCodes (settings .u) (settings .v) (settings .threshold)
+  startTask = taskWith struckCodes patternCodes (settings .scoring)
 
-  -- sketch of text and read, strike of both, and start accept, with h hits; the threshold is any signed 32-bit number
+  -- sketch of text and read, strike of both, and start accept, with h hits; a linear threshold is any signed 32-bit number
   pub record AllAccept (h : ℕ) : Type 0 where
     pub sketch-text : sketchReply (settings .k) (settings .w) text (length (lent .text-codes)) (length (lent .text-positions)) ≡ accepted (n ∷ [])
     pub sketch-read : sketchReply (settings .k) (settings .w) read (length (lent .read-codes)) (length (lent .read-positions)) ≡ accepted (m ∷ [])
@@ -79,19 +79,20 @@ module _ (settings : Settings) (text read : List ℕ) (lent : Lent) (n m s r : �
     pub strike-read : strikeReply textCodes readCodes readPositions (settings .c) (length (lent .pattern-codes)) (length (lent .pattern-positions))
         ≡ accepted (r ∷ [])
     pub start : startReply startTask (length (lent .work)) ≡ accepted (h ∷ [])
-    pub threshold-fits : mag (settings .threshold) < signedLimit
+    pub threshold-fits : ThresholdFits (settings .scoring)
 
--- words 0 to 3 of a session after q cells: h, u, v and the cells passed since start
+-- words 0 to 4 of a session after q cells: h, u and v or f and g, the cells passed since start, and the kind of score
 pub record FirstWords (task : Task) (q : ℕ) (words : List ℕ) : Type 0 where
   pub word0 : getD words hitsAt 0 ≡ hitCount task
-  pub word1 : getD words uAt 0 ≡ task .u
-  pub word2 : getD words vAt 0 ≡ task .v
+  pub word1 : getD words uAt 0 ≡ firstNumber (task .scoring)
+  pub word2 : getD words vAt 0 ≡ secondNumber (task .scoring)
   pub word3 : getD words passedAt 0 ≡ q
+  pub word4 : getD words kindAt 0 ≡ kindNumber (task .scoring)
 
 -- demand 3 of a task: what is demanded of the answers, and how the work words stand, from the words of the fresh session on
 pub record Demand3 (task : Task) (fresh : List ℕ) (steps : List Step) (answers : List Answer) (states : List (List ℕ)) : Type 0 where
   pub demanded : Demanded task steps answers
-  -- before the first step and after each, word 3 holds q, and words 0 to 2 what start wrote
+  -- before the first step and after each, word 3 holds q, and words 0 to 2 and 4 what start wrote
   pub words : (n : ℕ) → n ≤ length steps → FirstWords task (passedBefore answers n) (wordsAfter fresh states n)
   -- a refused step changes nothing
   pub unchanged : (n : ℕ) → n < length steps → stepAt steps n .lent < workWords → wordsAfter fresh states (suc n) ≡ wordsAfter fresh states n

@@ -5,13 +5,17 @@ use mathlib.Core.List.{List, _++_}
 use lib.Dec.{ltb, eqb}
 use lib.ListN.{getD, take, drop, set}
 use Rattle.base.specs.Limits.{wordLimit}
-use Rattle.session_words.specs.FirstWords.{uAt, vAt, passedAt}
+use Rattle.mappings.specs.declared.Scoring.{Scoring}
+use Rattle.mappings.specs.declared.Scoring.the-variants.{Linear, Jaccard}
+use Rattle.mappings.specs.Unbiased.{unbiased}
+use Rattle.session_words.specs.FirstWords.{uAt, vAt, passedAt, kindAt}
 use Rattle.session_words.specs.Layout.{sizeAt, thresholdAt, columnsAt, rowAt, mAt, highestAt, backFrom, indexFrom, startsFrom, partEnd, partLength}
+use Rattle.session_start.specs.ScoreWords.{byFractions}
 use Rattle.session_cells.specs.Passing.{Update, passRows, passBlocks}
 use Rattle.session_cells.specs.Leaving.{leftStarts}
 use Rattle.session_cells.specs.declared.cells.Line.{Line}
 use Rattle.session_cells.specs.declared.cells.Passed.{Passed}
-use Rattle.session_rule.specs.Lines.{lift}
+use Rattle.session_rule.specs.Lines.{gainOf, lossOf, liftOf}
 use Rattle.mapper.specs.declared.place.Place.{Place}
 use Rattle.mapper.specs.declared.update.Terms.{Terms}
 use Rattle.mapper.specs.declared.answer.Stepped.{Stepped}
@@ -67,23 +71,26 @@ settled work columns p =
 
 -- ---- the update of a column
 
+-- the scoring of the kind of score and its two numbers, and of the threshold's word, which a linear one has
+abbrev pub scoringIn : ℕ → ℕ → ℕ → ℕ → Scoring
+scoringIn kind first second threshold = cond (eqb kind 1) (Jaccard first second) (Linear first second (unbiased threshold))
+
 -- what the scores of the session in these words share
 unfoldable pub termsIn : List ℕ → Terms
 termsIn work = record {
-  u = getD work uAt 0;
-  v = getD work vAt 0;
+  scoring = scoringIn (getD work kindAt 0) (getD work uAt 0) (getD work vAt 0) (getD work thresholdAt 0);
   size = getD work sizeAt 0;
-  threshold = getD work thresholdAt 0;
 }
 
 -- what the cells of column j share
 unfoldable pub lineOf : List ℕ → Terms → ℕ → Line
 lineOf work terms j = record {
   column = j;
-  gain = terms .u + 2 * terms .v;
-  v = terms .v;
-  base = (lift - terms .v * (getD work (indexFrom + j) 0 + 1 + terms .size)) % wordLimit;
+  gain = gainOf (terms .scoring);
+  v = lossOf (terms .scoring);
+  base = (liftOf (terms .scoring) - lossOf (terms .scoring) * (getD work (indexFrom + j) 0 + 1 + terms .size)) % wordLimit;
   back = getD work (backFrom + j) 0;
+  fractions = byFractions (terms .scoring);
 }
 
 -- the part of the work words that a column's update is lent, and the words with that part put back

@@ -1,11 +1,12 @@
 // The answer of a step.
+use mappings::Score;
 
 // What a step answers.
 pub enum Stepped {
     Found {
         a: u32,
         b: u32,
-        score: i32,
+        score: Score,
         m: u32,
         cells: u32,
     },

@@ -27,14 +27,15 @@ const STARTS_AT: usize = STARTS - INDEX;
 
 const PART_LENGTH: usize = PART_END - INDEX;
 
-// What the cells of a column share: its number, the factors and the sum of the score words, and the row from which its hit is
-// reasonable as a right end.
+// What the cells of a column share: its number, the factors and the sum of the score words, the row from which its hit is reasonable as a
+// right end, and whether the score words are fractions.
 pub struct Line {
     pub column: u32,
     pub gain: u32,
     pub v: u32,
     pub base: u32,
     pub back: usize,
+    pub fractions: bool,
 }
 
 // Whether the last cell passed is a candidate; and of the next one the row, m, and the greatest of the threshold and of the records in the

@@ -1,18 +1,14 @@
--- The layout of the work words behind the first four: where each word and each table of a session stands. docs/WORK_WORDS.md says in a
+-- The layout of the work words behind the first five: where each word and each table of a session stands. docs/WORK_WORDS.md says in a
 -- table what they hold.
 use Prim.Native.Nat.{ℕ, _+_, _-_, _/_}
 
 -- ---- single words
 
--- the kind of score
-abbrev pub kindAt : ℕ
-kindAt = 4
-
 -- the pattern's number of entries
 abbrev pub sizeAt : ℕ
 sizeAt = 5
 
--- the threshold, biased to a word
+-- the threshold, as a score word
 abbrev pub thresholdAt : ℕ
 thresholdAt = 6
 
