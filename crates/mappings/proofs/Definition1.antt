@@ -8,19 +8,20 @@ use mathlib.Core.Bool.{Bool, true, _&&_}
 use mathlib.Core.List.{List}
 use lib.Dec.{leb, ltb, eqb}
 use lib.ListN.{length, getD}
-use lib.Signed.{leZ}
 use borrow.Author.Tests.{leb-true, le-leb, ltb-true, lt-ltb}
 use Rattle.base.specs.Lists.{bit, every, range}
 use Rattle.base.specs.Counts.{occ}
 use Rattle.base.proofs.Lists.{same-test, and-both, and-left, and-right, every-mem, mem-every, mem-range, range-mem}
 use Rattle.base.proofs.Counts.{bit-same}
-use Rattle.mappings.specs.Score.{Task, interval, linear, sharedOf, scoreOf}
+use Rattle.mappings.specs.declared.Score.{Score}
+use Rattle.mappings.specs.Score.{Task, interval, scored, thresholdOf, atMost, lengthOf, sharedOf, scoreOf}
+use Rattle.mappings.specs.Scored.{Scored}
 use Rattle.mappings.specs.Definition1.{Reasonable, AtMost, Final}
 use Rattle.mappings.specs.FinalTest.{isReasonable, isMaximal, isFinal}
 use Rattle.mappings.specs.Cells.{hits, hitCount}
-use Rattle.mappings.proofs.Integers.{leZ-trans}
 use Rattle.mappings.proofs.Shared.{more-left, more-right}
-use Rattle.mappings.proofs.Trim.{IsHit, Trimmed, trim, linear-trims}
+use Rattle.mappings.proofs.Trim.{IsHit, some-entry, Trimmed, trim}
+use Rattle.mappings.proofs.Scores.{scores}
 use Rattle.mappings.proofs.Hits.{hit-within, hit-in-pattern, hit-index, hit-at-most, hit-order}
 
 -- no interval that contains [a, b] scores more
@@ -30,17 +31,17 @@ Maximal task a b = (c d : ℕ) → c ≤ a → b ≤ d → d < length (task .tex
 maximal-statement : (task : Task) (a b : ℕ) → isMaximal task a b ≡ true → Maximal task a b
 unfolding isMaximal AtMost
 maximal-statement task a b e c d h k l =
-    every-mem (λ (x : ℕ). leZ (scoreOf task c x) (scoreOf task a b))
-    (every-mem (λ (y : ℕ). every (λ (x : ℕ). leZ (scoreOf task y x) (scoreOf task a b)) (range b (length (task .text) - b))) e
+    every-mem (λ (x : ℕ). atMost (scoreOf task c x) (scoreOf task a b))
+    (every-mem (λ (y : ℕ). every (λ (x : ℕ). atMost (scoreOf task y x) (scoreOf task a b)) (range b (length (task .text) - b))) e
     (mem-range 0 (suc a) zero-le (omega arith)))
     (mem-range b (length (task .text) - b) k (omega arith))
 
 statement-maximal : (task : Task) (a b : ℕ) → Maximal task a b → isMaximal task a b ≡ true
 unfolding isMaximal AtMost
 statement-maximal task a b m =
-    mem-every (λ (y : ℕ). every (λ (x : ℕ). leZ (scoreOf task y x) (scoreOf task a b)) (range b (length (task .text) - b))) (range 0 (suc a))
+    mem-every (λ (y : ℕ). every (λ (x : ℕ). atMost (scoreOf task y x) (scoreOf task a b)) (range b (length (task .text) - b))) (range 0 (suc a))
     (λ c i.
-    mem-every (λ (x : ℕ). leZ (scoreOf task c x) (scoreOf task a b)) (range b (length (task .text) - b))
+    mem-every (λ (x : ℕ). atMost (scoreOf task c x) (scoreOf task a b)) (range b (length (task .text) - b))
     (λ d j.
     (let r : (0 ≤ c) × (c < 0 + suc a) = range-mem 0 (suc a) i in
     let s : (b ≤ d) × (d < b + (length (task .text) - b)) = range-mem b (length (task .text) - b) j in
@@ -66,7 +67,7 @@ all-six b₁ b₂ b₃ b₄ b₅ b₆ h₆ =
 pub test-final : (task : Task) (a b : ℕ) → isFinal task a b ≡ true → Final task a b
 unfolding isFinal isReasonable Reasonable AtMost
 test-final task a b e =
-    let each = all-six (leb a b) (ltb b (length (task .text))) (leZ (task .threshold) (scoreOf task a b)) (isReasonable task a b a)
+    let each = all-six (leb a b) (ltb b (length (task .text))) (atMost (thresholdOf (task .scoring)) (scoreOf task a b)) (isReasonable task a b a)
     (isReasonable task a b b) (isMaximal task a b) e in
     record {
       ordered = leb-true a b (each .0);
@@ -136,23 +137,27 @@ cell-maximal : (task : Task) (i j : ℕ) → i ≤ j → j < hitCount task → M
 unfolding AtMost scoreOf sharedOf
 cell-maximal task i j h k m c d p q l =
     let x : ℕ → ℕ = λ n. getD (hits task) n 0 in
-    let r : Trimmed leZ (linear (task .u) (task .v) (length (task .pattern))) (task .pattern) (task .text) (x i) (x j) c d =
-    trim leZ (linear (task .u) (task .v) (length (task .pattern))) (linear-trims (task .u) (task .v) (length (task .pattern))) (task .pattern) (task .text)
+    let score : ℕ → ℕ → Score = scored (task .scoring) (length (task .pattern)) in
+    let laws : Scored Score atMost score = scores (task .scoring) (length (task .pattern)) in
+    let r : Trimmed atMost score (task .pattern) (task .text) (x i) (x j) c d =
+    trim atMost score laws (task .pattern) (task .text)
     (x i) (x j) c d p (hit-at-most task i j h k) q l (hit-in-pattern task i (omega arith)) (hit-in-pattern task j k)
     in
     let first = hit-index task (r .left) (omega (arith, hit-within task i (omega arith))) (r .hit-left) in
     let last = hit-index task (r .right) (omega arith) (r .hit-right) in
-    let wider : leZ (scoreOf task (x (first .0)) (x (last .0))) (scoreOf task (x i) (x j)) ≡ true =
+    let wider : atMost (scoreOf task (x (first .0)) (x (last .0))) (scoreOf task (x i) (x j)) ≡ true =
     m (first .0) (last .0) (hit-order task (first .0) i (first .1) (rw (first .2) (r .contains-left)))
     (hit-order task j (last .0) k (rw (last .2) (r .contains-right))) (last .1)
     in
-    leZ-trans (scoreOf task c d) (scoreOf task (r .left) (r .right)) (scoreOf task (x i) (x j)) (r .more) (rw (first .2, last .2) at wider)
+    let ends : r .left ≤ r .right = omega (arith, hit-at-most task i j h k) in
+    laws .transitive (scoreOf task c d) (scoreOf task (x i) (x j)) (sharedOf task (r .left) (r .right)) (lengthOf (r .left) (r .right))
+    (some-entry (r .left) (r .right) ends) (r .more) (rw (first .2, last .2) at wider)
 
 -- a cell's test: three conditions, and any test of being maximal among cells
 pub cell-final : (task : Task) (i j : ℕ) → i ≤ j → j < hitCount task → (top : Bool) → (top ≡ true → MaximalCell task i j)
     → (MaximalCell task i j → top ≡ true)
     → isFinal task (getD (hits task) i 0) (getD (hits task) j 0)
-    ≡ (leZ (task .threshold) (scoreOf task (getD (hits task) i 0) (getD (hits task) j 0))
+    ≡ (atMost (thresholdOf (task .scoring)) (scoreOf task (getD (hits task) i 0) (getD (hits task) j 0))
     && isReasonable task (getD (hits task) i 0) (getD (hits task) j 0) (getD (hits task) i 0)
     && isReasonable task (getD (hits task) i 0) (getD (hits task) j 0) (getD (hits task) j 0) && top)
 unfolding isFinal
@@ -161,7 +166,7 @@ cell-final task i j h k top f g =
     let b : ℕ = getD (hits task) j 0 in
     let ordered : Bool = leb a b in
     let within : Bool = ltb b (length (task .text)) in
-    let enough : Bool = leZ (task .threshold) (scoreOf task a b) in
+    let enough : Bool = atMost (thresholdOf (task .scoring)) (scoreOf task a b) in
     let left : Bool = isReasonable task a b a in
     let right : Bool = isReasonable task a b b in
     same-test (isFinal task a b) (enough && left && right && top)

@@ -1,13 +1,13 @@
 -- The order of ℤ by the test that computes, and scores ordered by natural numbers, with and without a bias.
 use Prim.Native.Nat.{ℕ, zero, suc, _+_, _-_, _*_, _≤_, _<_, zero-le}
-use native.Mathlib.Nat.{le-refl, le-antisymm, mul-sub, mul-le-mul-left}
+use native.Mathlib.Nat.{le-of-lt, le-antisymm, mul-sub, mul-le-mul-left}
 use native.Mathlib.Omega.{arith}
 use mathlib.Core.Path.{_≡_, refl, sym, ap, ap₂, _∙_}
 use mathlib.Core.Bool.{Bool, true, false, false≢true}
 use lib.Dec.{leb, ltb}
 use lib.IntN.{ℤ, pos, negsuc, subℕ, _-ℤ_}
 use lib.Signed.{leZ, mag}
-use borrow.Author.Tests.{ltb-true, ltb-false, le-ltb, leb-true, le-leb, lt-leb}
+use borrow.Author.Tests.{ltb-true, ltb-false, le-ltb, leb-true, leb-false, le-leb, lt-leb}
 use Rattle.base.proofs.Lists.{same-test}
 use Rattle.mappings.specs.Score.{distance, linear}
 use Rattle.mappings.specs.Bias.{bias, biased, biasedZ}
@@ -15,9 +15,11 @@ use Rattle.mappings.specs.Unbiased.{unbiased}
 
 -- ---- the order
 
-pub leZ-refl : (y : ℤ) → leZ y y ≡ true
-leZ-refl (pos n) = le-leb n n (le-refl n)
-leZ-refl (negsuc n) = le-leb n n (le-refl n)
+pub leZ-total : (y z : ℤ) → leZ y z ≡ false → leZ z y ≡ true
+leZ-total (pos a) (pos b) e = le-leb b a (le-of-lt (leb-false a b e))
+leZ-total (pos a) (negsuc b) e = refl
+leZ-total (negsuc a) (pos b) e = absurd (false≢true (sym e))
+leZ-total (negsuc a) (negsuc b) e = le-leb a b (le-of-lt (leb-false b a e))
 
 pub leZ-trans : (x y z : ℤ) → leZ x y ≡ true → leZ y z ≡ true → leZ x z ≡ true
 leZ-trans (pos a) (pos b) (pos c) h k = le-leb a c (omega (arith, leb-true a b h, leb-true b c k))

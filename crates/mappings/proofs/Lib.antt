@@ -1,5 +1,6 @@
 -- Laws about the score, Definition 1, cells and the rule, and examples that compute.
 pub mod Integers
+pub mod Scores
 pub mod Shared
 pub mod Trim
 pub mod Rising
