@@ -6,14 +6,16 @@ use native.Mathlib.Numerals.{add-one}
 use mathlib.Core.Path.{_≡_, refl, sym, _∙_}
 use mathlib.Core.Bool.{Bool, true, false, cond, _&&_, true≢false, false≢true}
 use mathlib.Core.List.{List}
-use borrow.Author.Tests.{le-leb, lt-leb, le-ltb, lt-ltb, leb-true, ltb-true, ltb-false}
+use borrow.Author.Tests.{le-ltb, lt-ltb, leb-true, ltb-true, ltb-false}
 use lib.Dec.{leb, ltb, eqb}
 use lib.ListN.{length, getD, set, length-set}
 use Rattle.base.proofs.Lists.{and-left}
 use Rattle.session_words.specs.Layout.{blockRows}
+use Rattle.session_records.specs.Words.{atMost}
 use Rattle.session_records.specs.Records.{greater}
+use Rattle.session_records.proofs.Words.{word-order}
 use Rattle.session_cells.specs.declared.cells.Line.{Line}
-use Rattle.session_cells.specs.Passing.{bestAt, topAt, lowered, lineScore, inReach, entered, candidateTest, Update, passRows}
+use Rattle.session_cells.specs.Passing.{bestAt, topAt, lowered, lineScore, orderIn, inReach, entered, candidateTest, Update, passRows}
 use Rattle.session_cells.specs.Passing.{restEnd, skips, skipped, passRest, passBlocks}
 
 -- ---- one cell
@@ -23,7 +25,7 @@ use Rattle.session_cells.specs.Passing.{restEnd, skips, skipped, passRes
 pub record AtCell (line : Line) (i m highest : ℕ) (part : List ℕ) (s one seen rest : ℕ) : Type 0 where
   pub score : s ≡ lineScore line m (getD part i 0)
   pub reach : one ≡ inReach line part i
-  pub known : seen ≡ greater leb highest (getD part (bestAt i) 0)
+  pub known : seen ≡ greater (orderIn line) highest (getD part (bestAt i) 0)
   pub lower : rest ≡ lowered m one
 
 -- both ends of a cell of row i are reasonable
@@ -37,25 +39,25 @@ behind found row m highest part = record { answer = record { found = found; row 
 module _ (line : Line) (i m highest : ℕ) (part : List ℕ) (s one seen rest : ℕ) (at : AtCell line i m highest part s one seen rest) where
   -- the laws below, in one: what is passed later is the same from the words that the code goes on with
   unrolled : (n : ℕ) → passRows line (suc n) i m highest part
-      ≡ cond (candidateTest seen s one (line .back) i) (behind true (i + 1) rest (greater leb seen s) (entered part i s seen))
-      (passRows line n (i + 1) rest (greater leb seen s) (entered part i s seen))
+      ≡ cond (candidateTest (line .fractions) seen s one (line .back) i)
+      (behind true (i + 1) rest (greater (orderIn line) seen s) (entered (line .fractions) part i s seen))
+      (passRows line n (i + 1) rest (greater (orderIn line) seen s) (entered (line .fractions) part i s seen))
   unrolled n = rw (at .lower, at .score, at .reach, at .known, add-one)
 
   -- a score word below what the rows up to it have seen matters to nothing
-  pub pass-low : (n : ℕ) → s < seen → passRows line (suc n) i m highest part ≡ passRows line n (i + 1) rest seen part
+  pub pass-low : (n : ℕ) → orderIn line seen s ≡ false → passRows line (suc n) i m highest part ≡ passRows line n (i + 1) rest seen part
   unfolding candidateTest entered greater
-  pass-low n l =
-      let below : s ≤ seen = omega arith in
-      unrolled n ∙ rw (lt-leb seen s l, le-leb s seen below)
+  pass-low n l = unrolled n ∙ rw (l, word-order (line .fractions) .total seen s l)
 
-  module _ (updated : List ℕ) (higher : ℕ) (l : seen ≤ s) (e : updated ≡ entered part i s seen) (g : higher ≡ greater leb seen s) where
+  module _ (updated : List ℕ) (higher : ℕ) (l : orderIn line seen s ≡ true) (e : updated ≡ entered (line .fractions) part i s seen)
+      (g : higher ≡ greater (orderIn line) seen s) where
     pub pass-stop : (n : ℕ) → reasonable line one i ≡ true → passRows line (suc n) i m highest part ≡ behind true (i + 1) rest higher updated
     unfolding candidateTest
-    pass-stop n t = unrolled n ∙ rw (le-leb seen s l, t, e, g)
+    pass-stop n t = unrolled n ∙ rw (l, t, e, g)
 
     pub pass-on : (n : ℕ) → reasonable line one i ≡ false → passRows line (suc n) i m highest part ≡ passRows line n (i + 1) rest higher updated
     unfolding candidateTest
-    pass-on n t = unrolled n ∙ rw (le-leb seen s l, t, e, g)
+    pass-on n t = unrolled n ∙ rw (l, t, e, g)
 
     -- the last cell, whether it is a candidate or not
     pub pass-last : (found : Bool) → found ≡ reasonable line one i → passRows line 1 i m highest part ≡ behind found (i + 1) rest higher updated
@@ -72,12 +74,13 @@ pub record Bounded (i n : ℕ) (part : List ℕ) (update : Update) : Type 0 wher
   pub moved : update .answer .found ≡ true → suc i ≤ update .answer .row
   pub size : length (update .part) ≡ length part
 
-length-entered : (part : List ℕ) (i s seen : ℕ) → length (entered part i s seen) ≡ length part
+length-entered : (fractions : Bool) (part : List ℕ) (i s seen : ℕ) → length (entered fractions part i s seen) ≡ length part
 unfolding entered
-length-entered part i s seen = go (leb s seen)
+length-entered fractions part i s seen = go (atMost fractions s seen)
   where
     go : (b : Bool)
-        → length (cond b part (set (set part (bestAt i) s) (topAt (i / blockRows)) (greater leb s (getD part (topAt (i / blockRows)) 0))))
+        → length (cond b part
+        (set (set part (bestAt i) s) (topAt (i / blockRows)) (greater (atMost fractions) s (getD part (topAt (i / blockRows)) 0))))
         ≡ length part
     go true = refl
     go false = simp length-set
@@ -96,10 +99,11 @@ pub bounded : (line : Line) (n i m highest : ℕ) (part : List ℕ) → Bounded 
 bounded line zero i m highest part = none-found i 0 i m highest part (omega arith)
 bounded line (suc n) i m highest part =
     let s = lineScore line m (getD part i 0) in
-    let seen = greater leb highest (getD part (bestAt i) 0) in
+    let seen = greater (orderIn line) highest (getD part (bestAt i) 0) in
     let one = inReach line part i in
-    go (candidateTest seen s one (line .back) i) (lowered m one) (greater leb seen s) (length-entered part i s seen)
-    (bounded line n (suc i) (lowered m one) (greater leb seen s) (entered part i s seen))
+    go (candidateTest (line .fractions) seen s one (line .back) i) (lowered m one) (greater (orderIn line) seen s)
+    (length-entered (line .fractions) part i s seen)
+    (bounded line n (suc i) (lowered m one) (greater (orderIn line) seen s) (entered (line .fractions) part i s seen))
   where
     go : (b : Bool) (rest higher : ℕ) {after : List ℕ} {later : Update} → length after ≡ length part → Bounded (suc i) n after later
         → Bounded i (suc n) part (cond b (behind true (suc i) rest higher after) later)

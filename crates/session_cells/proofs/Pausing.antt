@@ -1,20 +1,31 @@
 -- The cells up to the first that matters, unrolled by one cell; and passing a column by way of such cells.
-use Prim.Native.Nat.{ℕ, zero, suc, _+_, _-_, _≤_, _<_, min, zero-le}
+use Prim.Native.Nat.{ℕ, zero, suc, _+_, _-_, _≤_, min, zero-le}
 use native.Mathlib.Omega.{arith}
 use native.Mathlib.Numerals.{add-one}
 use mathlib.Core.Path.{_≡_, refl, sym, ap, _∙_, subst}
 use mathlib.Core.Bool.{Bool, true, false, cond}
 use mathlib.Core.List.{List}
-use borrow.Author.Tests.{le-leb, lt-leb, le-ltb, leb-true, leb-false}
-use lib.Dec.{leb, ltb}
+use borrow.Author.Tests.{le-ltb}
+use lib.Dec.{ltb}
 use lib.ListN.{getD}
 use Rattle.base.specs.Lists.{bit}
+use Rattle.session_records.specs.Words.{atMost}
 use Rattle.session_records.specs.Records.{greater}
+use Rattle.session_records.proofs.Words.{word-order}
 use Rattle.session_cells.specs.declared.cells.Line.{Line}
 use Rattle.session_cells.specs.declared.rows.Paused.{Paused}
-use Rattle.session_cells.specs.Passing.{reachAt, bestAt, lowered, lineScore, inReach, entered, Update, passRows}
+use Rattle.session_cells.specs.Passing.{reachAt, bestAt, lowered, lineScore, orderIn, inReach, entered, Update, passRows}
 use Rattle.session_cells.specs.Pausing.{quietRows}
 use Rattle.session_cells.proofs.Passing.{AtCell, reasonable, behind, pass-low, pass-stop, pass-on}
+
+-- ---- the order of a line's score words, where their kind is known
+
+module _ (line : Line) (fractions : Bool) (kind : line .fractions ≡ fractions) where
+  pub order-of : (a b : ℕ) {answer : Bool} → atMost fractions a b ≡ answer → orderIn line a b ≡ answer
+  order-of a b e = rw kind e
+
+  pub greater-of : (a b : ℕ) {seen : ℕ} → seen ≡ greater (atMost fractions) a b → seen ≡ greater (orderIn line) a b
+  greater-of a b e = rw kind e
 
 -- ---- one cell
 
@@ -24,14 +35,15 @@ pausedAt row m highest s reach = record { row = row; m = m; highest = highest; s
 
 module _ (line : Line) (i m highest : ℕ) (part : List ℕ) (s one seen rest : ℕ) (at : AtCell line i m highest part s one seen rest) where
   unrolled : (n : ℕ) → quietRows line (suc n) i m highest part
-      ≡ cond (leb seen s) (pausedAt (i + 1) rest seen s (getD part (reachAt i) 0)) (quietRows line n (i + 1) rest seen part)
+      ≡ cond (orderIn line seen s) (pausedAt (i + 1) rest seen s (getD part (reachAt i) 0)) (quietRows line n (i + 1) rest seen part)
   unrolled n = rw (at .lower, at .score, at .reach, at .known, add-one)
 
-  pub quiet-stop : (n : ℕ) → seen ≤ s → quietRows line (suc n) i m highest part ≡ pausedAt (i + 1) rest seen s (getD part (reachAt i) 0)
-  quiet-stop n l = unrolled n ∙ rw (le-leb seen s l)
+  pub quiet-stop : (n : ℕ) → orderIn line seen s ≡ true
+      → quietRows line (suc n) i m highest part ≡ pausedAt (i + 1) rest seen s (getD part (reachAt i) 0)
+  quiet-stop n l = unrolled n ∙ rw l
 
-  pub quiet-on : (n : ℕ) → s < seen → quietRows line (suc n) i m highest part ≡ quietRows line n (i + 1) rest seen part
-  quiet-on n l = unrolled n ∙ rw (lt-leb seen s l)
+  pub quiet-on : (n : ℕ) → orderIn line seen s ≡ false → quietRows line (suc n) i m highest part ≡ quietRows line n (i + 1) rest seen part
+  quiet-on n l = unrolled n ∙ rw l
 
 -- what the definitions say at a cell, its pause among it
 module _ (line : Line) (i m highest : ℕ) (part : List ℕ) where
@@ -39,14 +51,14 @@ module _ (line : Line) (i m highest : ℕ) (part : List ℕ) where
   score = lineScore line m (getD part i 0)
 
   abbrev seen : ℕ
-  seen = greater leb highest (getD part (bestAt i) 0)
+  seen = greater (orderIn line) highest (getD part (bestAt i) 0)
 
   abbrev rest : ℕ
   rest = lowered m (inReach line part i)
 
   -- the cell matters
   abbrev high : Bool
-  high = leb seen score
+  high = orderIn line seen score
 
   abbrev paused : Paused
   paused = pausedAt (i + 1) rest seen score (getD part (reachAt i) 0)
@@ -80,8 +92,8 @@ reaches line reach = bit (ltb (line .column) reach)
 -- the update from a pause on: the score word of its cell enters the row, and where the cell is no candidate the update goes on behind it
 abbrev resumed : Line → ℕ → List ℕ → Paused → Update
 resumed line to part q =
-    let after = entered part (q .row - 1) (q .score) (q .highest) in
-    let higher = greater leb (q .highest) (q .score) in
+    let after = entered (line .fractions) part (q .row - 1) (q .score) (q .highest) in
+    let higher = greater (orderIn line) (q .highest) (q .score) in
     cond (reasonable line (reaches line (q .reach)) (q .row - 1)) (behind true (q .row) (q .m) higher after)
     (passRows line (to - q .row) (q .row) (q .m) higher after)
 
@@ -91,7 +103,7 @@ none-matters : (line : Line) (i to m highest : ℕ) (part : List ℕ) → to ≡
 unfolding entered greater
 none-matters line i to m highest part e =
     let k : to - i ≡ 0 = omega arith in
-    rw (le-ltb (line .column) 0 zero-le, le-leb 0 highest zero-le, k)
+    rw (le-ltb (line .column) 0 zero-le, word-order (line .fractions) .lowest highest, k)
 
 module _ (line : Line) (n i to m highest : ℕ) (part : List ℕ) (e : to ≡ i + suc n) where
   -- a cell that matters
@@ -100,17 +112,17 @@ module _ (line : Line) (n i to m highest : ℕ) (part : List ℕ) (e : to ≡ i 
   unfolding inReach
   matters l true t =
       let j : i + 1 - 1 ≡ i = omega arith in
-      pass-stop _ _ _ _ _ _ _ _ _ (at-cell line i m highest part) _ _ (leb-true _ _ l) refl refl n t ∙ rw (j, t)
+      pass-stop _ _ _ _ _ _ _ _ _ (at-cell line i m highest part) _ _ l refl refl n t ∙ rw (j, t)
   matters l false t =
       let j : i + 1 - 1 ≡ i = omega arith in
       let k : to - (i + 1) ≡ n = omega arith in
-      pass-on _ _ _ _ _ _ _ _ _ (at-cell line i m highest part) _ _ (leb-true _ _ l) refl refl n t ∙ rw (j, t, k)
+      pass-on _ _ _ _ _ _ _ _ _ (at-cell line i m highest part) _ _ l refl refl n t ∙ rw (j, t, k)
 
   one-more : (c : Bool) → high line i m highest part ≡ c → (later : Paused)
       → passRows line n (i + 1) (rest line i m highest part) (seen line i m highest part) part ≡ resumed line to part later
       → passRows line (suc n) i m highest part ≡ resumed line to part (cond c (paused line i m highest part) later)
   one-more true t later r = matters t (reasonable line (inReach line part i) i) refl
-  one-more false t later r = pass-low _ _ _ _ _ _ _ _ _ (at-cell line i m highest part) n (leb-false _ _ t) ∙ r
+  one-more false t later r = pass-low _ _ _ _ _ _ _ _ _ (at-cell line i m highest part) n t ∙ r
 
 -- passing goes on from the pause as from the first row
 by-pauses : (line : Line) (n i to m highest : ℕ) (part : List ℕ) → to ≡ i + n
@@ -127,8 +139,8 @@ module _ (line : Line) (to i m highest : ℕ) (part : List ℕ) (q : Paused) (h 
   resumes : passRows line (to - i) i m highest part ≡ resumed line to part q
   resumes = by-pauses line (to - i) i to m highest part (omega arith) ∙ ap (resumed line to part) (sym a)
 
-  module _ (one higher : ℕ) (updated : List ℕ) (o : one ≡ reaches line (q .reach)) (g : higher ≡ greater leb (q .highest) (q .score))
-      (e : updated ≡ entered part (q .row - 1) (q .score) (q .highest)) where
+  module _ (one higher : ℕ) (updated : List ℕ) (o : one ≡ reaches line (q .reach)) (g : higher ≡ greater (orderIn line) (q .highest) (q .score))
+      (e : updated ≡ entered (line .fractions) part (q .row - 1) (q .score) (q .highest)) where
     pub pause-stop : reasonable line one (q .row - 1) ≡ true → passRows line (to - i) i m highest part ≡ behind true (q .row) (q .m) higher updated
     pause-stop t = resumes ∙ rw (← o, t, e, g)
 

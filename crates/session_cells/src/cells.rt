@@ -3,6 +3,7 @@
 // the score itself.
 use crate::rows::pass_row;
 use crate::rows::pass_rows;
+use crate::score::at_most;
 use crate::score::greater;
 use crate::score::score_word;
 use base::HIT_LIMIT;
@@ -27,8 +28,8 @@ const STARTS_AT: usize = STARTS - INDEX;
 
 const PART_LENGTH: usize = PART_END - INDEX;
 
-// What the cells of a column share: its number, the factors and the sum of the score words, the row from which its hit is reasonable as a
-// right end, and whether the score words are fractions.
+// What the cells of a column share: its number, the factors and the sum of the score words, the row from which its hit is reasonable as
+// a right end, and whether score words are fractions, else numbers.
 pub struct Line {
     pub column: u32,
     pub gain: u32,
@@ -77,7 +78,8 @@ fn is_skipped(part: &[u32], line: Line, to: usize, row: usize, m: u32, highest: 
     if to < end {
         return false;
     }
-    score_word(line.gain, m, line.v, part[end - 1], line.base) < highest
+    let bound = score_word(line.gain, m, line.v, part[end - 1], line.base);
+    !at_most(line.fractions, highest, bound)
 }
 
 // Behind the rest of the block of this row.
@@ -89,7 +91,7 @@ fn skip(part: &[u32], line: Line, row: usize, highest: u32) -> Passed
     none_passed(
         rest_end(line, row),
         part[STARTS_AT + block + 1],
-        greater(highest, part[TOPS_AT + block]),
+        greater(line.fractions, highest, part[TOPS_AT + block]),
     )
 }
 

@@ -2,8 +2,11 @@
 // seen, the threshold included; where it is at least that and its ends are reasonable, the cell is a candidate.
 use crate::cells::Line;
 use crate::cells::Passed;
+use crate::fractions::quiet_fractions;
+use crate::score::at_most;
 use crate::score::below;
 use crate::score::greater;
+use crate::score::greater_number;
 use crate::score::lowered;
 use crate::score::score_word;
 use session_words::BEST;
@@ -13,7 +16,7 @@ use session_words::REACH;
 use session_words::TOPS;
 ghost use mathlib.Core.Path.{_≡_};
 ghost use Prim.Native.Nat.{_-_, _≤_, _<_};
-ghost use mathlib.Core.Bool.{_&&_};
+ghost use mathlib.Core.Bool.{false, _&&_};
 ghost use lib.Dec.{eqb, leb};
 ghost use lib.ListN.{length};
 ghost use Rattle.base.specs.Limits.{hitLimit};
@@ -40,15 +43,15 @@ pub(crate) struct Paused {
 }
 
 // Enters this score word in its row, where it is greater than what the rows up to there have seen.
-fn enter(part: &mut [u32], row: usize, s: u32, seen: u32)
+fn enter(part: &mut [u32], fractions: bool, row: usize, s: u32, seen: u32)
     requires { ⌜ (length (now part) ≡ partLength) × (row < hitLimit) ⌝ }
-    ensures { λ _. ⌜ now (part .exit) ≡ entered (now (part .entry)) row s seen ⌝ }
+    ensures { λ _. ⌜ now (part .exit) ≡ entered fractions (now (part .entry)) row s seen ⌝ }
 {
-    if s <= seen {
+    if at_most(fractions, s, seen) {
         return;
     }
     let block = row / BLOCK_ROWS;
-    let top = greater(s, part[TOPS_AT + block]);
+    let top = greater(fractions, s, part[TOPS_AT + block]);
     part[BEST_AT + row] = s;
     part[TOPS_AT + block] = top;
 }
@@ -63,10 +66,9 @@ fn is_reasonable(one: u32, back: usize, row: usize) -> bool
     back <= row
 }
 
-// Passes the cells of rows from `from` up to `to`, or up to the first that matters. m0 is the first cell's m, and the rows before it have
-// seen highest0. It only reads; m and the row go on before the only test, so that the loop has one way on.
-fn quiet(part: &[u32], line: Line, from: usize, to: usize, m0: u32, highest0: u32) -> Paused
-    requires { ⌜ (length (now part) ≡ partLength) × (from ≤ to) × (to ≤ hitLimit) ⌝ }
+// `quiet` where score words are numbers. It only reads; m and the row go on before the only test, so that the loop has one way on.
+fn quiet_numbers(part: &[u32], line: Line, from: usize, to: usize, m0: u32, highest0: u32) -> Paused
+    requires { ⌜ (length (now part) ≡ partLength) × (from ≤ to) × (to ≤ hitLimit) × (line .fractions ≡ false) ⌝ }
     ensures { λ r. ⌜ r ≡ quietRows line (to - from) from m0 highest0 (now (part .entry)) ⌝ }
 {
     let mut m = m0;
@@ -75,7 +77,7 @@ fn quiet(part: &[u32], line: Line, from: usize, to: usize, m0: u32, highest0: u3
     while i < to {
         let s = score_word(line.gain, m, line.v, part[i], line.base);
         let reach = part[REACH_AT + i];
-        highest = greater(highest, part[BEST_AT + i]);
+        highest = greater_number(highest, part[BEST_AT + i]);
         m = lowered(m, below(line.column, reach));
         i += 1;
         if highest <= s {
@@ -95,6 +97,18 @@ fn quiet(part: &[u32], line: Line, from: usize, to: usize, m0: u32, highest0: u3
         score: 0,
         reach: 0,
     }
+}
+
+// Passes the cells of rows from `from` up to `to`, or up to the first that matters. m is the first cell's, and the rows before it have
+// seen `highest`.
+fn quiet(part: &[u32], line: Line, from: usize, to: usize, m: u32, highest: u32) -> Paused
+    requires { ⌜ (length (now part) ≡ partLength) × (from ≤ to) × (to ≤ hitLimit) ⌝ }
+    ensures { λ r. ⌜ r ≡ quietRows line (to - from) from m highest (now (part .entry)) ⌝ }
+{
+    if line.fractions {
+        return quiet_fractions(part, line, from, to, m, highest);
+    }
+    quiet_numbers(part, line, from, to, m, highest)
 }
 
 // Passes the cells of rows from `from` up to `to`, or up to the first candidate. m0 is the first cell's m, and the rows before it have
@@ -118,8 +132,8 @@ pub(crate) fn pass_rows(
         let q = quiet(part, line, i, to, m, highest);
         i = q.row;
         m = q.m;
-        enter(part, i - 1, q.score, q.highest);
-        highest = greater(q.highest, q.score);
+        enter(part, line.fractions, i - 1, q.score, q.highest);
+        highest = greater(line.fractions, q.highest, q.score);
         if is_reasonable(below(line.column, q.reach), line.back, i - 1) {
             return Passed {
                 found: true,
@@ -145,10 +159,10 @@ pub(crate) fn pass_row(part: &mut [u32], line: Line, row: usize, m: u32, highest
 {
     let s = score_word(line.gain, m, line.v, part[row], line.base);
     let one = below(line.column, part[REACH_AT + row]);
-    let seen = greater(highest, part[BEST_AT + row]);
+    let seen = greater(line.fractions, highest, part[BEST_AT + row]);
     let rest = lowered(m, one);
     let next = row + 1;
-    if s < seen {
+    if !at_most(line.fractions, seen, s) {
         return Passed {
             found: false,
             row: next,
@@ -156,11 +170,11 @@ pub(crate) fn pass_row(part: &mut [u32], line: Line, row: usize, m: u32, highest
             highest: seen,
         };
     }
-    enter(part, row, s, seen);
+    enter(part, line.fractions, row, s, seen);
     Passed {
         found: is_reasonable(one, line.back, row),
         row: next,
         m: rest,
-        highest: greater(seen, s),
+        highest: greater(line.fractions, seen, s),
     }
 }

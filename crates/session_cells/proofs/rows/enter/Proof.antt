@@ -1,15 +1,18 @@
 -- `rows::enter` meets its contract: a record is stored in its row and in the top of its block.
 use native.Mathlib.Omega.{arith}
+use mathlib.Core.Path.{sym, _∙_}
 use borrow.Author.Needs.{needs}
-use borrow.Author.Tests.{le-leb, lt-leb}
 use lib.ListN.{length-set}
 use Rattle.session_cells.specs.Passing.{entered}
 use Rattle.session_cells.proofs.rows.enter.Statement.{statement}
 use Rattle.session_cells.proofs.rows.enter.Tie as tie
 
+at-most-requires : tie.Need-at-most-requires
+at-most-requires c κs = search needs
+
 returns : tie.Need-returns
 unfolding entered
-returns c = simp (le-leb _ _ (c .if1 .taken))
+returns c = rw (sym (c .before .at-most .ensures) ∙ c .if1 .taken)
 
 add-greater : tie.Need-add-greater
 add-greater c = search needs
@@ -46,12 +49,15 @@ same-length c = search needs
 
 returns-2 : tie.Need-returns-2
 unfolding entered
-returns-2 c = simp (lt-leb _ _ (c .before .before .if1 .left), c .greater .ensures)
+returns-2 c =
+    let d = c .before .before in
+    simp (sym (d .before .at-most .ensures) ∙ d .if1 .left, c .greater .ensures)
 
 pub enter-spec : {M : Type 1} → statement M
 enter-spec =
     tie.close
     (tie.spec
+    at-most-requires
     returns
     add-greater
     mul-greater

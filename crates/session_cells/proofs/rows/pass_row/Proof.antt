@@ -1,6 +1,7 @@
 -- `rows::pass_row` meets its contract: what it answers is a column's update of one cell.
-use mathlib.Core.Path.{sym, ap}
+use mathlib.Core.Path.{sym, ap, _∙_}
 use borrow.Author.Needs.{needs}
+use borrow.Author.Tests.{not-true, not-false}
 use Rattle.session_cells.specs.Passing.{lineScore, inReach, Update}
 use Rattle.session_cells.proofs.Passing.{AtCell, pass-low, pass-last}
 use Rattle.session_cells.proofs.rows.pass_row.Statement.{statement}
@@ -67,9 +68,13 @@ lowered-requires c κs = search needs
 add-next : tie.Need-add-next
 add-next c = search needs
 
+at-most-requires : tie.Need-at-most-requires
+at-most-requires c κs = search needs
+
 returns : tie.Need-returns
 returns c =
-    let e = sym (pass-low _ _ _ _ _ _ _ _ _ (at-cell (c .before)) 0 (c .if1 .taken)) in
+    let d = c .before in
+    let e = sym (pass-low _ _ _ _ _ _ _ _ _ (at-cell (d .before)) 0 (sym (d .at-most .ensures) ∙ not-true _ (c .if1 .taken))) in
     (ap (λ (u : Update). u .answer) e, ap (λ (u : Update). u .part) e)
 
 enter-requires : tie.Need-enter-requires
@@ -89,7 +94,9 @@ returns-2 c =
     let j = c .before in
     let recorded = j .before .before .before in
     let d = recorded .before .before in
-    let e = sym (pass-last _ _ _ _ _ _ _ _ _ (at-cell (d .before)) (recorded .enter .last .0) (c .greater2 .result) (d .if1 .left)
+    let t = d .before in
+    let e = sym (pass-last _ _ _ _ _ _ _ _ _ (at-cell (t .before)) (recorded .enter .last .0) (c .greater2 .result)
+    (sym (t .at-most .ensures) ∙ not-false _ (d .if1 .left))
     (recorded .enter .ensures) (c .greater2 .ensures) (j .is-reasonable .result) (j .is-reasonable .ensures)) in
     (ap (λ (u : Update). u .answer) e, ap (λ (u : Update). u .part) e)
 
@@ -110,6 +117,7 @@ pass-row-spec =
     greater-requires
     lowered-requires
     add-next
+    at-most-requires
     returns
     enter-requires
     is-reasonable-requires

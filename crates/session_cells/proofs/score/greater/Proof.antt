@@ -1,16 +1,20 @@
--- `score::greater` meets its contract: each answer is the test that led to it.
-use borrow.Author.Tests.{le-leb, lt-leb}
-use Rattle.session_records.specs.Records.{greater}
+-- `score::greater` meets its contract: the answer is that of the order of the words' kind.
+use mathlib.Core.Path.{_∙_}
+use borrow.Author.Needs.{needs}
 use Rattle.session_cells.proofs.score.greater.Statement.{statement}
 use Rattle.session_cells.proofs.score.greater.Tie as tie
 
+greater-fraction-requires : tie.Need-greater-fraction-requires
+greater-fraction-requires c κs = search needs
+
 returns : tie.Need-returns
-unfolding greater
-returns c = simp (lt-leb _ _ (c .if1 .taken))
+returns c = c .greater-fraction .ensures ∙ rw (c .before .if1 .taken)
+
+greater-number-requires : tie.Need-greater-number-requires
+greater-number-requires c κs = search needs
 
 returns-2 : tie.Need-returns-2
-unfolding greater
-returns-2 c = simp (le-leb _ _ (c .if1 .left))
+returns-2 c = c .greater-number .ensures ∙ rw (c .before .if1 .left)
 
 pub greater-spec : {M : Type 1} → statement M
-greater-spec = tie.close (tie.spec returns returns-2)
+greater-spec = tie.close (tie.spec greater-fraction-requires returns greater-number-requires returns-2)

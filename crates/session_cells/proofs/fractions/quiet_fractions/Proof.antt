@@ -1,14 +1,15 @@
--- `rows::quiet` meets its contract. The loop's invariant: what is left to pass gives the same answer as the whole.
+-- `fractions::quiet_fractions` meets its contract. The loop's invariant: what is left to pass gives the same answer as the whole.
 use Prim.Native.Nat.{ℕ, suc, _+_, _-_, _≤_}
 use native.Mathlib.Omega.{arith}
 use mathlib.Core.Path.{_≡_, refl, sym, _∙_}
+use mathlib.Core.Bool.{Bool}
 use borrow.Author.Needs.{needs}
-use Rattle.session_cells.specs.Passing.{lineScore, inReach}
+use Rattle.session_cells.specs.Passing.{lineScore, orderIn, inReach}
 use Rattle.session_cells.specs.Pausing.{quietRows}
 use Rattle.session_cells.proofs.Passing.{AtCell}
-use Rattle.session_cells.proofs.Pausing.{quiet-stop, quiet-on}
-use Rattle.session_cells.proofs.rows.quiet.Statement.{statement}
-use Rattle.session_cells.proofs.rows.quiet.Tie as tie
+use Rattle.session_cells.proofs.Pausing.{order-of, greater-of, quiet-stop, quiet-on}
+use Rattle.session_cells.proofs.fractions.quiet_fractions.Statement.{statement}
+use Rattle.session_cells.proofs.fractions.quiet_fractions.Tie as tie
 
 abbrev Inv-loop : tie.InvT-loop
 Inv-loop part line from to m0 highest0 m₀ highest₀ i₀ m highest i =
@@ -18,7 +19,7 @@ abbrev μ-loop : tie.MeasureT-loop
 μ-loop part line from to m0 highest0 m₀ highest₀ i₀ m highest i = to - i
 
 -- the places of a turn, from the end of the cell's calls back to the turn's head, and the entry of the function
-abbrev known : tie.After-lowered Inv-loop μ-loop → tie.After-greater Inv-loop μ-loop
+abbrev known : tie.After-lowered Inv-loop μ-loop → tie.After-greater-fraction Inv-loop μ-loop
 known d = d .before .before
 
 abbrev scored : tie.After-lowered Inv-loop μ-loop → tie.After-score-word Inv-loop μ-loop
@@ -36,12 +37,12 @@ entry d = turn d .before .before
 module _ (d : tie.After-lowered Inv-loop μ-loop) where
   -- what is known at a cell before it is tested
   at-cell : AtCell (entry d .args .line) (turn d .loop .i) (turn d .loop .m) (turn d .loop .highest) (entry d .args .part .now)
-      (scored d .score-word .result) (d .before .below .result) (known d .greater .result) (d .lowered .result)
+      (scored d .score-word .result) (d .before .below .result) (known d .greater-fraction .result) (d .lowered .result)
   unfolding lineScore inReach
   at-cell = record {
     score = scored d .score-word .ensures;
     reach = d .before .below .ensures;
-    known = known d .greater .ensures;
+    known = greater-of (entry d .args .line) _ (entry d .pre .3) _ _ (known d .greater-fraction .ensures);
     lower = d .lowered .ensures;
   }
 
@@ -78,17 +79,17 @@ mul-reach c = search needs
 shared-slice-read-reach : tie.Need-shared-slice-read-reach Inv-loop μ-loop
 shared-slice-read-reach c = search needs
 
-add-greater : tie.Need-add-greater Inv-loop μ-loop
-add-greater c = search needs
+add-greater-fraction : tie.Need-add-greater-fraction Inv-loop μ-loop
+add-greater-fraction c = search needs
 
-mul-greater : tie.Need-mul-greater Inv-loop μ-loop
-mul-greater c = search needs
+mul-greater-fraction : tie.Need-mul-greater-fraction Inv-loop μ-loop
+mul-greater-fraction c = search needs
 
-shared-slice-read-greater : tie.Need-shared-slice-read-greater Inv-loop μ-loop
-shared-slice-read-greater c = search needs
+shared-slice-read-greater-fraction : tie.Need-shared-slice-read-greater-fraction Inv-loop μ-loop
+shared-slice-read-greater-fraction c = search needs
 
-greater-requires : tie.Need-greater-requires Inv-loop μ-loop
-greater-requires c κs = search needs
+greater-fraction-requires : tie.Need-greater-fraction-requires Inv-loop μ-loop
+greater-fraction-requires c κs = search needs
 
 below-requires : tie.Need-below-requires Inv-loop μ-loop
 below-requires c κs = search needs
@@ -99,26 +100,38 @@ lowered-requires c κs = search needs
 add-i : tie.Need-add-i Inv-loop μ-loop
 add-i c = search needs
 
+at-most-fraction-requires : tie.Need-at-most-fraction-requires Inv-loop μ-loop
+at-most-fraction-requires c κs = search needs
+
+-- the answer of the test, in the line's order
+ordered : (t : tie.After-at-most-fraction Inv-loop μ-loop) {answer : Bool} → t .at-most-fraction .result ≡ answer
+    → (let d = t .before in orderIn (entry d .args .line) (known d .greater-fraction .result) (scored d .score-word .result) ≡ answer)
+ordered t e =
+    let began = entry (t .before) in
+    order-of (began .args .line) _ (began .pre .3) _ _ (sym (t .at-most-fraction .ensures) ∙ e)
+
 returns : tie.Need-returns Inv-loop μ-loop
 returns c =
-    let d = c .before in
-    sym (quiet-stop _ _ _ _ _ _ _ _ _ (at-cell d) (left d) (c .if1 .taken)) ∙ from-here d
+    let t = c .before in
+    let d = t .before in
+    sym (quiet-stop _ _ _ _ _ _ _ _ _ (at-cell d) (left d) (ordered t (c .if1 .taken))) ∙ from-here d
 
 loop-less : tie.Need-loop-less Inv-loop μ-loop
 loop-less c = search needs
 
 loop-again : tie.Need-loop-again Inv-loop μ-loop
 loop-again c =
-    let d = c .before in
-    (search needs, sym (quiet-on _ _ _ _ _ _ _ _ _ (at-cell d) (left d) (c .if1 .left)) ∙ from-here d)
+    let t = c .before in
+    let d = t .before in
+    (search needs, sym (quiet-on _ _ _ _ _ _ _ _ _ (at-cell d) (left d) (ordered t (c .if1 .left))) ∙ from-here d)
 
 returns-2 : tie.Need-returns-2 Inv-loop μ-loop
 returns-2 c =
     let n : c .before .before .before .args .to - c .before .loop .i ≡ 0 = omega arith in
     rw n at (c .before .loop .inv .1)
 
-pub quiet-spec : {M : Type 1} → statement M
-quiet-spec =
+pub quiet-fractions-spec : {M : Type 1} → statement M
+quiet-fractions-spec =
     tie.close
     (tie.spec
     Inv-loop
@@ -130,13 +143,14 @@ quiet-spec =
     add-reach
     mul-reach
     shared-slice-read-reach
-    add-greater
-    mul-greater
-    shared-slice-read-greater
-    greater-requires
+    add-greater-fraction
+    mul-greater-fraction
+    shared-slice-read-greater-fraction
+    greater-fraction-requires
     below-requires
     lowered-requires
     add-i
+    at-most-fraction-requires
     returns
     loop-less
     loop-again
