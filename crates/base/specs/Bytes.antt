@@ -21,6 +21,9 @@ minus = 45
 abbrev pub plus : ℕ
 plus = 43
 
+abbrev pub slash : ℕ
+slash = 47
+
 -- the decimal digit of a number below 10, as a byte
 abbrev pub digit : ℕ → ℕ
 digit n = 48 + n

@@ -36,6 +36,8 @@ pub const MINUS: u8 = 45;
 
 pub const PLUS: u8 = 43;
 
+pub const SLASH: u8 = 47;
+
 pub const ZERO: u8 = 48;
 
 // Whether n is outside low to high.

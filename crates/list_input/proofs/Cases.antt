@@ -4,7 +4,9 @@ use mathlib.Core.Path.{_≡_, refl}
 use mathlib.Core.List.{List, [], _∷_, _++_}
 use lib.ListN.{replicate}
 use lib.IntN.{ℤ, pos, negsuc}
-use Rattle.base.specs.Bytes.{space, lineFeed}
+use Rattle.base.specs.Bytes.{asBytes, space, lineFeed}
+use Rattle.mappings.specs.declared.Scoring.{Scoring}
+use Rattle.mappings.specs.declared.Scoring.the-variants.{Linear, Jaccard}
 use Rattle.list_input.specs.Input.{Input, malformed, given, inputOf}
 use Rattle.list_input.proofs.Compute.{list-input-computes}
 
@@ -19,8 +21,11 @@ withThreshold t = (49 ∷ space ∷ 49 ∷ space ∷ 49 ∷ 48 ∷ 48 ∷ space 
 abbrev withK : List ℕ → List ℕ
 withK k = k ++ space ∷ 49 ∷ space ∷ 49 ∷ 48 ∷ 48 ∷ space ∷ 49 ∷ space ∷ 49 ∷ space ∷ 49 ∷ []
 
+abbrev scoredBy : ℕ → Scoring → Input
+scoredBy k scoring = given (record { k = k; w = 1; c = 100; scoring = scoring }) (65 ∷ 67 ∷ 65 ∷ 71 ∷ []) (65 ∷ 67 ∷ 71 ∷ [])
+
 abbrev readWith : ℕ → ℤ → Input
-readWith k threshold = given (record { k = k; w = 1; c = 100; u = 1; v = 1; threshold = threshold }) (65 ∷ 67 ∷ 65 ∷ 71 ∷ []) (65 ∷ 67 ∷ 71 ∷ [])
+readWith k threshold = scoredBy k (Linear 1 1 threshold)
 
 -- document 01's example, also with bytes behind the third line and without the last line feed; thresholds −2147483648, −2147483649, −0
 -- and 2147483648; k 4294967295, 4294967296, 01, −1 and none
@@ -57,6 +62,34 @@ input-cases =
       none = refl;
     }
 
+-- the word in the threshold's place, behind the fraction 3/4, and behind numbers of 32 bits that no session takes. Malformed: the word with a capital,
+-- with a space behind it, a letter short, a letter longer, behind a minus, or one field early; and an empty last field
+pub record WordCases : Type 0 where
+  pub word : inputOf (behind (asBytes "1 1 100 3 4 jaccard")) ≡ scoredBy 1 (Jaccard 3 4)
+  pub anyFraction : inputOf (behind (asBytes "1 1 100 0 4294967295 jaccard")) ≡ scoredBy 1 (Jaccard 0 4294967295)
+  pub capital : inputOf (behind (asBytes "1 1 100 3 4 Jaccard")) ≡ malformed
+  pub spaceBehind : inputOf (behind (asBytes "1 1 100 3 4 jaccard ")) ≡ malformed
+  pub short : inputOf (behind (asBytes "1 1 100 3 4 jaccar")) ≡ malformed
+  pub longer : inputOf (behind (asBytes "1 1 100 3 4 jaccards")) ≡ malformed
+  pub signed : inputOf (behind (asBytes "1 1 100 3 4 -jaccard")) ≡ malformed
+  pub empty : inputOf (behind (asBytes "1 1 100 3 4 ")) ≡ malformed
+  pub early : inputOf (behind (asBytes "1 1 100 3 jaccard 4")) ≡ malformed
+
+pub word-cases : WordCases
+unfolding list-input-computes
+word-cases =
+    record {
+      word = refl;
+      anyFraction = refl;
+      capital = refl;
+      spaceBehind = refl;
+      short = refl;
+      longer = refl;
+      signed = refl;
+      empty = refl;
+      early = refl;
+    }
+
 -- the first line of document 01's example, and a text line and a read line of so many letters A
 abbrev withLetters : ℕ → ℕ → List ℕ
 withLetters text read = withThreshold (49 ∷ lineFeed ∷ []) ++ replicate text 65 ++ lineFeed ∷ replicate read 65 ++ lineFeed ∷ []
@@ -74,7 +107,7 @@ pub record InputRefusals : Type 0 where
   pub textLong : inputOf (withLetters 4097 1) ≡ malformed
   pub readLong : inputOf (withLetters 1 4097) ≡ malformed
   pub longest : inputOf (withLetters 4096 4096)
-      ≡ given (record { k = 1; w = 1; c = 100; u = 1; v = 1; threshold = pos 1 }) (replicate 4096 65) (replicate 4096 65)
+      ≡ given (record { k = 1; w = 1; c = 100; scoring = Linear 1 1 (pos 1) }) (replicate 4096 65) (replicate 4096 65)
 
 pub input-refusals : InputRefusals
 unfolding list-input-computes

@@ -15,9 +15,10 @@ use Rattle.base.proofs.Lists.{and-left, and-right, decided}
 use Rattle.base.specs.Limits.{lineLimit, wordLimit, signedLimit}
 use Rattle.list_input.specs.Input.{inputLimit}
 use Rattle.base.specs.Bytes.{space, lineFeed, minus, digit}
-use Rattle.list_input.specs.Input.{isDigit, isDecimal, decimalValue, isUnsigned, isSigned, fields, lines, isFirstLine, isWellFormed, malformed, inputOf}
+use Rattle.list_input.specs.Input.{isDigit, isDecimal, decimalValue, isUnsigned, isSigned, isJaccard, isLastField, fields, lines}
+use Rattle.list_input.specs.Input.{isFirstLine, isWellFormed, malformed, inputOf}
 use Rattle.list_input.specs.Answers.{firstPart}
-use Rattle.list_input.proofs.Numbers.{signed-tests}
+use Rattle.list_input.proofs.Numbers.{signed-tests, word-is}
 use Rattle.list_input.proofs.Parts.{parts, first-at, first-more, two-parts, parts-more}
 use Rattle.list_input.proofs.Lines.{inputFrom, input-from, well-formed-lines, first, second, third, behind₃, three-lines, some-part}
 
@@ -181,9 +182,9 @@ length-unsigned l e =
     let v : decimalValue 0 l < wordLimit = ltb-true (decimalValue 0 l) wordLimit (and-right (isDecimal l) (ltb (decimalValue 0 l) wordLimit) e) in
     length-number l (and-left (isDecimal l) (ltb (decimalValue 0 l) wordLimit) e) (omega arith)
 
-length-threshold : (l : List ℕ) → isSigned l ≡ true → length l ≤ 11
-length-threshold [] e = omega arith
-length-threshold (b ∷ l) e = go (signed-tests b l e)
+length-signed : (l : List ℕ) → isSigned l ≡ true → length l ≤ 11
+length-signed [] e = omega arith
+length-signed (b ∷ l) e = go (signed-tests b l e)
   where
     go : ((b ≡ minus) × (isDecimal l ≡ true) × (decimalValue 0 l ≤ signedLimit))
         ⊎ ((isDecimal (b ∷ l) ≡ true) × (decimalValue 0 (b ∷ l) < signedLimit))
@@ -193,6 +194,13 @@ length-threshold (b ∷ l) e = go (signed-tests b l e)
         let v : decimalValue 0 (b ∷ l) < signedLimit = t .1 in
         let k : suc (length l) ≤ 10 = length-number (b ∷ l) (t .0) (omega arith) in
         omega arith
+
+length-last : (l : List ℕ) → isLastField l ≡ true → length l ≤ 11
+length-last l e = go (isJaccard l) refl
+  where
+    go : (t : Bool) → isJaccard l ≡ t → length l ≤ 11
+    go true t = let seven : length l ≡ 7 = ap length (word-is l t) in omega arith
+    go false t = length-signed l (rw t at e)
 
 -- the bytes of the parts, with one byte more for each part
 total : List (List ℕ) → ℕ
@@ -223,7 +231,7 @@ total-fields (a ∷ b ∷ c ∷ []) e = absurd (false≢true e)
 total-fields (a ∷ b ∷ c ∷ d ∷ []) e = absurd (false≢true e)
 total-fields (a ∷ b ∷ c ∷ d ∷ f ∷ []) e = absurd (false≢true e)
 total-fields (a ∷ b ∷ c ∷ d ∷ f ∷ g ∷ []) e =
-    let e₅ = and-left (isUnsigned a && isUnsigned b && isUnsigned c && isUnsigned d && isUnsigned f) (isSigned g) e in
+    let e₅ = and-left (isUnsigned a && isUnsigned b && isUnsigned c && isUnsigned d && isUnsigned f) (isLastField g) e in
     let e₄ = and-left (isUnsigned a && isUnsigned b && isUnsigned c && isUnsigned d) (isUnsigned f) e₅ in
     let e₃ = and-left (isUnsigned a && isUnsigned b && isUnsigned c) (isUnsigned d) e₄ in
     let e₂ = and-left (isUnsigned a && isUnsigned b) (isUnsigned c) e₃ in
@@ -232,7 +240,8 @@ total-fields (a ∷ b ∷ c ∷ d ∷ f ∷ g ∷ []) e =
     let c₁ : length c ≤ 10 = length-unsigned c (and-right (isUnsigned a && isUnsigned b) (isUnsigned c) e₃) in
     let d₁ : length d ≤ 10 = length-unsigned d (and-right (isUnsigned a && isUnsigned b && isUnsigned c) (isUnsigned d) e₄) in
     let f₁ : length f ≤ 10 = length-unsigned f (and-right (isUnsigned a && isUnsigned b && isUnsigned c && isUnsigned d) (isUnsigned f) e₅) in
-    let g₁ : length g ≤ 11 = length-threshold g (and-right (isUnsigned a && isUnsigned b && isUnsigned c && isUnsigned d && isUnsigned f) (isSigned g) e) in
+    let g₁ : length g ≤ 11 =
+    length-last g (and-right (isUnsigned a && isUnsigned b && isUnsigned c && isUnsigned d && isUnsigned f) (isLastField g) e) in
     omega arith
 total-fields (a ∷ b ∷ c ∷ d ∷ f ∷ g ∷ h ∷ fs) e =
     let six : eqb (length (a ∷ b ∷ c ∷ d ∷ f ∷ g ∷ h ∷ fs)) 6 ≡ false =

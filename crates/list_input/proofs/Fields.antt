@@ -8,20 +8,21 @@ use mathlib.Core.List.{List, [], _∷_, _++_}
 use lib.Dec.{ltb, leb, eqb}
 use lib.ListN.{length, getD, drop, length-drop}
 use lib.Seq.{drop-drop}
-use lib.IntN.{ℤ}
 use borrow.Author.Tests.{ltb-true, ltb-false, leb-true, ne-eqb}
 use Rattle.base.specs.Lists.{every}
 use Rattle.base.proofs.Lists.{and-left, and-right, decided}
 use Rattle.base.specs.Limits.{signedLimit}
 use Rattle.base.specs.Bytes.{space, minus, digit}
-use Rattle.list_input.specs.Input.{isDigit, isDecimal, decimalValue, isUnsigned, isSigned, signedValue, fields, isFirstLine, settingsOf}
-use Rattle.list_input.specs.Answers.{firstPart, fieldOf, thresholdOf, firstLineOf}
+use Rattle.mappings.specs.declared.Scoring.{Scoring}
+use Rattle.list_input.specs.Input.{isDigit, isDecimal, decimalValue, isUnsigned, isSigned, isJaccard, isLastField, scoringOf}
+use Rattle.list_input.specs.Input.{fields, isFirstLine, settingsOf}
+use Rattle.list_input.specs.Answers.{firstPart, fieldOf, lastFieldOf, firstLineOf}
 use Rattle.list_input.specs.declared.Field.the-variants.{Malformed as noField, Given as field}
-use Rattle.list_input.specs.declared.Threshold.{Threshold}
-use Rattle.list_input.specs.declared.Threshold.the-variants.{Malformed as noSigned, Value as signedNumber}
+use Rattle.list_input.specs.declared.LastField.{LastField}
+use Rattle.list_input.specs.declared.LastField.the-variants.{Malformed as noLastField, Given as scored}
 use Rattle.list_input.specs.declared.FirstLine.{FirstLine}
 use Rattle.list_input.specs.declared.FirstLine.the-variants.{Malformed as noFirstLine, Given as firstLine}
-use Rattle.list_input.proofs.Numbers.{after-cond, signed-tests}
+use Rattle.list_input.proofs.Numbers.{after-cond, signed-tests, word-is}
 use Rattle.list_input.proofs.Parts.{parts, first-more, parts-one, parts-more, first-le}
 
 cond-same : {A : Type 0} (b : Bool) (x : A) → cond b x x ≡ x
@@ -34,15 +35,19 @@ cond-and false b x y = refl
 
 -- ---- the answer from the numbers so far and the fields that are left
 
-abbrev pub made : List ℕ → ℤ → FirstLine
-made ns t = firstLine (getD ns 0 0) (getD ns 1 0) (getD ns 2 0) (getD ns 3 0) (getD ns 4 0) t
+abbrev made : List ℕ → Scoring → FirstLine
+made ns scoring = firstLine (getD ns 0 0) (getD ns 1 0) (getD ns 2 0) scoring
+
+-- how mappings are scored, from the numbers so far and the last field
+abbrev scoringBy : List ℕ → List ℕ → Scoring
+scoringBy ns p = scoringOf (getD ns 3 0) (getD ns 4 0) p
 
 abbrev lastField : List ℕ → List (List ℕ) → FirstLine
 lastField ns [] = noFirstLine
-lastField ns (p ∷ []) = cond (isSigned p) (made ns (signedValue p)) noFirstLine
+lastField ns (p ∷ []) = cond (isLastField p) (made ns (scoringBy ns p)) noFirstLine
 lastField ns (p ∷ q ∷ ps) = noFirstLine
 
--- n numbers and the threshold are left
+-- n numbers and the last field are left
 abbrev pub left : ℕ → List ℕ → List (List ℕ) → FirstLine
 left zero ns fs = lastField ns fs
 left (suc n) ns [] = noFirstLine
@@ -157,7 +162,7 @@ module _ (line : List ℕ) (from : ℕ) where
           let long : length l ≤ length p = ltb-false (length p) (length l) t in
           left-end n ns l (omega arith)
 
--- ---- the threshold, which is all that is left of the line
+-- ---- the last field, which is all that is left of the line
 
 -- digits have no space among them
 digits-whole : (l : List ℕ) → every isDigit l ≡ true → length (firstPart space l) ≡ length l
@@ -185,6 +190,14 @@ signed-whole (b ∷ l) e = go (signed-tests b l e)
         ap length (first-more space b l (ne-eqb b space (λ q. omega arith))) ∙ ap suc (digits-whole l (decimal-digits l (t .1)))
     go (inr t) = digits-whole (b ∷ l) (decimal-digits (b ∷ l) (t .0))
 
+last-whole : (l : List ℕ) → isLastField l ≡ true → length (firstPart space l) ≡ length l
+unfolding firstPart
+last-whole l e = go (isJaccard l) refl
+  where
+    go : (t : Bool) → isJaccard l ≡ t → length (firstPart space l) ≡ length l
+    go true t = ap (λ (w : List ℕ). length (firstPart space w)) (word-is l t) ∙ sym (ap length (word-is l t))
+    go false t = signed-whole l (rw t at e)
+
 more-than-one : (ns p : List ℕ) (l : List ℕ) → lastField ns (p ∷ parts space l) ≡ noFirstLine
 more-than-one ns p [] = refl
 more-than-one ns p (b ∷ l) = go (eqb b space) refl (parts space l) refl
@@ -195,29 +208,29 @@ more-than-one ns p (b ∷ l) = go (eqb b space) refl (parts space l) refl
     go false t (q ∷ qs) e = rw (t, e)
 
 module _ (ns l : List ℕ) where
-  -- a space is left: there are too many fields, and what has a space is no number
-  too-many : length (firstPart space l) < length l → (t : Bool) → isSigned l ≡ t
-      → lastField ns (parts space l) ≡ cond t (made ns (signedValue l)) noFirstLine
-  too-many h true s = absurd (omega (arith, signed-whole l s))
+  -- a space is left: there are too many fields, and what has a space is no last field
+  too-many : length (firstPart space l) < length l → (t : Bool) → isLastField l ≡ t
+      → lastField ns (parts space l) ≡ cond t (made ns (scoringBy ns l)) noFirstLine
+  too-many h true s = absurd (omega (arith, last-whole l s))
   too-many h false s = ap (lastField ns) (parts-more space l h) ∙ more-than-one ns (firstPart space l) (drop (suc (length (firstPart space l))) l)
 
-  left-last : left 0 ns (fields l) ≡ cond (isSigned l) (made ns (signedValue l)) noFirstLine
+  left-end-of-line : left 0 ns (fields l) ≡ cond (isLastField l) (made ns (scoringBy ns l)) noFirstLine
   unfolding fields
-  left-last = go (decided (ltb (length (firstPart space l)) (length l)))
+  left-end-of-line = go (decided (ltb (length (firstPart space l)) (length l)))
     where
       go : (ltb (length (firstPart space l)) (length l) ≡ true) ⊎ (ltb (length (firstPart space l)) (length l) ≡ false)
-          → lastField ns (parts space l) ≡ cond (isSigned l) (made ns (signedValue l)) noFirstLine
-      go (inl h) = too-many (ltb-true (length (firstPart space l)) (length l) h) (isSigned l) refl
+          → lastField ns (parts space l) ≡ cond (isLastField l) (made ns (scoringBy ns l)) noFirstLine
+      go (inl h) = too-many (ltb-true (length (firstPart space l)) (length l) h) (isLastField l) refl
       go (inr h) =
           let short : length (firstPart space l) ≤ length l = first-le space l in
           let long : length l ≤ length (firstPart space l) = ltb-false (length (firstPart space l)) (length l) h in
           ap (lastField ns) (parts-one space l (omega arith))
 
--- the answer from the numbers and what was read of the threshold
-abbrev pub asFirstLine : List ℕ → Threshold → FirstLine
-asFirstLine ns noSigned = noFirstLine
-asFirstLine ns (signedNumber t) = made ns t
+-- the answer from the numbers and what was read of the last field
+abbrev pub asFirstLine : List ℕ → LastField → FirstLine
+asFirstLine ns noLastField = noFirstLine
+asFirstLine ns (scored scoring) = made ns scoring
 
-pub left-threshold : (ns l : List ℕ) → left 0 ns (fields l) ≡ asFirstLine ns (thresholdOf l)
-unfolding thresholdOf
-left-threshold ns l = left-last ns l ∙ sym (after-cond (asFirstLine ns) (isSigned l) (signedNumber (signedValue l)) noSigned)
+pub left-last : (ns l : List ℕ) → left 0 ns (fields l) ≡ asFirstLine ns (lastFieldOf (getD ns 3 0) (getD ns 4 0) l)
+unfolding lastFieldOf
+left-last ns l = left-end-of-line ns l ∙ sym (after-cond (asFirstLine ns) (isLastField l) (scored (scoringBy ns l)) noLastField)

@@ -31,7 +31,7 @@ input-from bytes = refl
 -- the request from what was read of the first line, with the lengths of the three lines
 abbrev pub asRequest : FirstLine → ℕ → ℕ → ℕ → Request
 asRequest noFirstLine first text read = noRequest
-asRequest (firstLine k w c u v threshold) first text read = requestAt (record { k = k; w = w; c = c; u = u; v = v; threshold = threshold }) first text read
+asRequest (firstLine k w c scoring) first text read = requestAt (record { k = k; w = w; c = c; scoring = scoring }) first text read
 
 module _ (ls : List (List ℕ)) where
   pub few-lines : length ls < 4 → requestFrom ls ≡ noRequest

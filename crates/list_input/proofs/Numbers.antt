@@ -1,9 +1,9 @@
--- Laws of the numbers that are read: one digit after the other, with a limit.
+-- Laws of the numbers that are read, one digit after the other, with a limit; and of the last field of a first line.
 use Prim.Native.Nat.{ℕ, zero, suc, _+_, _-_, _*_, _^_, _≤_, _<_}
 use native.Mathlib.Omega.{arith}
-use mathlib.Core.Path.{_≡_, refl, sym, ap, _∙_}
+use mathlib.Core.Path.{_≡_, refl, sym, ap, ap₂, _∙_}
 use mathlib.Core.Logic.{_⊎_, inl, inr}
-use mathlib.Core.Bool.{Bool, true, false, cond, _&&_}
+use mathlib.Core.Bool.{Bool, true, false, cond, _&&_, false≢true}
 use mathlib.Core.List.{List, [], _∷_}
 use lib.Dec.{leb, ltb, eqb, leb·zero, leb·suc-suc}
 use lib.ListN.{length, getD, drop}
@@ -13,12 +13,15 @@ use Rattle.base.specs.Lists.{every}
 use Rattle.base.proofs.Lists.{and-left, and-right}
 use Rattle.base.specs.Limits.{signedLimit, wordLimit}
 use Rattle.base.specs.Bytes.{space, minus, digit}
-use Rattle.list_input.specs.Input.{isDigit, isDecimal, decimalValue, isUnsigned, isSigned, signedValue}
-use Rattle.list_input.specs.Answers.{firstPart, digitsOf, numberOf, fieldOf, thresholdOf}
+use Rattle.mappings.specs.declared.Scoring.the-variants.{Linear, Jaccard}
+use Rattle.list_input.specs.Input.{isDigit, isDecimal, decimalValue, isUnsigned, isSigned, signedValue, sameBytes, jaccardWord, isJaccard, scoringOf}
+use Rattle.list_input.specs.Answers.{firstPart, digitsOf, numberOf, fieldOf, thresholdOf, lastFieldOf}
 use Rattle.list_input.specs.declared.Number.{Number}
 use Rattle.list_input.specs.declared.Number.the-variants.{Malformed as noNumber, Value as number}
 use Rattle.list_input.specs.declared.Threshold.{Threshold}
 use Rattle.list_input.specs.declared.Threshold.the-variants.{Malformed as noSigned, Value as signedNumber}
+use Rattle.list_input.specs.declared.LastField.{LastField}
+use Rattle.list_input.specs.declared.LastField.the-variants.{Malformed as noLastField, Given as scored}
 use Rattle.list_input.specs.declared.Field.{Field}
 use Rattle.list_input.specs.declared.Field.the-variants.{Malformed as noField, Given as field}
 
@@ -205,3 +208,31 @@ threshold-plain (b ∷ l) some ne =
     rw (ne-eqb b minus ne)
     (ap (λ (t : Bool). cond t (signedNumber (pos v)) noSigned) (below-suc (isDecimal (b ∷ l)) v (signedLimit - 1))
     ∙ sym (after-cond asPositive (isDecimal (b ∷ l) && leb v (signedLimit - 1)) (number v) noNumber))
+
+-- ---- the last field: the word, or a threshold
+
+pub same-is : (l r : List ℕ) → sameBytes l r ≡ true → l ≡ r
+same-is [] [] e = refl
+same-is [] (y ∷ r) e = absurd (false≢true e)
+same-is (x ∷ l) [] e = absurd (false≢true e)
+same-is (x ∷ l) (y ∷ r) e =
+    let first : x ≡ y = eqb-true x y (and-left (eqb x y) (sameBytes l r) e) in
+    ap₂ (λ (b : ℕ) (rest : List ℕ). b ∷ rest) first (same-is l r (and-right (eqb x y) (sameBytes l r) e))
+
+pub word-is : (l : List ℕ) → isJaccard l ≡ true → l ≡ jaccardWord
+unfolding isJaccard
+word-is l e = same-is l jaccardWord e
+
+-- how mappings are scored, from the two numbers before the last field and the threshold that was read of it
+abbrev pub asLinear : ℕ → ℕ → Threshold → LastField
+asLinear fourth fifth noSigned = noLastField
+asLinear fourth fifth (signedNumber threshold) = scored (Linear fourth fifth threshold)
+
+module _ (fourth fifth : ℕ) (l : List ℕ) where
+  pub last-word : isJaccard l ≡ true → lastFieldOf fourth fifth l ≡ scored (Jaccard fourth fifth)
+  unfolding lastFieldOf scoringOf
+  last-word e = rw e
+
+  pub last-threshold : isJaccard l ≡ false → lastFieldOf fourth fifth l ≡ asLinear fourth fifth (thresholdOf l)
+  unfolding lastFieldOf scoringOf thresholdOf
+  last-threshold e = rw e (sym (after-cond (asLinear fourth fifth) (isSigned l) (signedNumber (signedValue l)) noSigned))

@@ -9,11 +9,13 @@ use Rattle.requests.specs.declared.Settings.{Settings}
 use Rattle.base.specs.Limits.{lineLimit}
 use Rattle.base.specs.Bytes.{space}
 use Rattle.list_input.specs.Input.{isDigit, isDecimal, decimalValue, isUnsigned, isSigned, signedValue, lines, fields, isFirstLine, isWellFormed}
-use Rattle.list_input.specs.Input.{settingsOf, Input, malformed, given}
+use Rattle.list_input.specs.Input.{isLastField, scoringOf, settingsOf, Input, malformed, given}
 use Rattle.list_input.specs.declared.Number.{Number}
 use Rattle.list_input.specs.declared.Number.the-variants.{Malformed as noNumber, Value as number}
 use Rattle.list_input.specs.declared.Threshold.{Threshold}
 use Rattle.list_input.specs.declared.Threshold.the-variants.{Malformed as noSigned, Value as signedNumber}
+use Rattle.list_input.specs.declared.LastField.{LastField}
+use Rattle.list_input.specs.declared.LastField.the-variants.{Malformed as noLastField, Given as lastField}
 use Rattle.list_input.specs.declared.Field.{Field}
 use Rattle.list_input.specs.declared.Field.the-variants.{Malformed as noField, Given as field}
 use Rattle.list_input.specs.declared.FirstLine.{FirstLine}
@@ -36,6 +38,10 @@ numberOf limit bytes = cond (isDecimal bytes && leb (decimalValue 0 bytes) limit
 unfoldable pub thresholdOf : List ℕ → Threshold
 thresholdOf bytes = cond (isSigned bytes) (signedNumber (signedValue bytes)) noSigned
 
+-- how mappings are scored, from the last field and the two numbers before it
+unfoldable pub lastFieldOf : ℕ → ℕ → List ℕ → LastField
+lastFieldOf fourth fifth bytes = cond (isLastField bytes) (lastField (scoringOf fourth fifth bytes)) noLastField
+
 -- a number of 32 bits from an index on with a space behind it, and the index behind the space
 unfoldable pub fieldOf : List ℕ → ℕ → Field
 fieldOf line from =
@@ -45,17 +51,17 @@ fieldOf line from =
     noField
 
 abbrev pub answerOf : Settings → FirstLine
-answerOf s = firstLine (s .k) (s .w) (s .c) (s .u) (s .v) (s .threshold)
+answerOf s = firstLine (s .k) (s .w) (s .c) (s .scoring)
 
--- the numbers of a first line with these fields
+-- what a first line with these fields asks for
 unfoldable pub firstLineOf : List (List ℕ) → FirstLine
 firstLineOf fs = cond (isFirstLine fs) (answerOf (settingsOf fs)) noFirstLine
 
--- the numbers of the first line, and where the text line and the read line stand, from the lengths of the first three lines: each begins
+-- what the first line asks for, and where the text line and the read line stand, from the lengths of the first three lines: each begins
 -- behind the line feed of the one before it
 abbrev pub requestAt : Settings → ℕ → ℕ → ℕ → Request
 requestAt s first text read =
-    request (s .k) (s .w) (s .c) (s .u) (s .v) (s .threshold) (first + 1) (first + 1 + text) (first + 1 + text + 1) (first + 1 + text + 1 + read)
+    request (s .k) (s .w) (s .c) (s .scoring) (first + 1) (first + 1 + text) (first + 1 + text + 1) (first + 1 + text + 1 + read)
 
 -- what stands in these lines
 abbrev pub requestFrom : List (List ℕ) → Request
@@ -75,8 +81,8 @@ part from end bytes = take (end - from) (drop from bytes)
 -- the input that a request stands for
 abbrev pub requestInput : Request → List ℕ → Input
 requestInput noRequest bytes = malformed
-requestInput (request k w c u v threshold text text-end read read-end) bytes =
-    given (record { k = k; w = w; c = c; u = u; v = v; threshold = threshold }) (part text text-end bytes) (part read read-end bytes)
+requestInput (request k w c scoring text text-end read read-end) bytes =
+    given (record { k = k; w = w; c = c; scoring = scoring }) (part text text-end bytes) (part read read-end bytes)
 
 -- the two lines lie within the bytes, and are not too long
 pub record LinesInside (text text-end read read-end : ℕ) (bytes : List ℕ) : Type 0 where
@@ -89,4 +95,4 @@ pub record LinesInside (text text-end read read-end : ℕ) (bytes : List ℕ) : 
 
 abbrev pub Inside : Request → List ℕ → Type 0
 Inside noRequest bytes = Unit {0}
-Inside (request k w c u v threshold text text-end read read-end) bytes = LinesInside text text-end read read-end bytes
+Inside (request k w c scoring text text-end read read-end) bytes = LinesInside text text-end read read-end bytes

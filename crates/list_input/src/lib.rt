@@ -1,16 +1,17 @@
-// Reading the three lines of standard input: `k w c u v threshold`, the text line and the read line.
+// Reading the three lines of standard input: `k w c u v threshold` or `k w c f g jaccard`, the text line and the read line.
 use base::LINE_FEED;
 use base::MINUS;
 use base::PATTERN_LIMIT;
 use base::SPACE;
 use base::WORD_LIMIT;
 use base::ZERO;
+use mappings::Scoring;
 ghost use mathlib.Core.Path.{_≡_};
 ghost use Prim.Native.Nat.{_≤_, _^_};
 ghost use lib.ListN.{length};
 ghost use lib.IntN.{pos, negℤ};
-ghost use Rattle.list_input.specs.Input.{fields};
-ghost use Rattle.list_input.specs.Answers.{firstPart, digitsOf, numberOf, thresholdOf, fieldOf, firstLineOf, requestOf};
+ghost use Rattle.list_input.specs.Input.{fields, sameBytes};
+ghost use Rattle.list_input.specs.Answers.{firstPart, digitsOf, numberOf, thresholdOf, lastFieldOf, fieldOf, firstLineOf, requestOf};
 
 const NINE: u8 = 57;
 
@@ -30,35 +31,37 @@ pub enum Threshold {
     Value(i32),
 }
 
+// How mappings are scored, or a last field that does not say it.
+pub enum LastField {
+    Malformed,
+    Given(Scoring),
+}
+
 // A number with a space behind it, and where the next field begins.
 pub enum Field {
     Malformed,
     Given { value: u32, next: usize },
 }
 
-// The numbers of the first line.
+// What the first line asks for.
 pub enum FirstLine {
     Malformed,
     Given {
         k: u32,
         w: u32,
         c: u32,
-        u: u32,
-        v: u32,
-        threshold: i32,
+        scoring: Scoring,
     },
 }
 
-// The numbers of the first line, and where the text line and the read line stand in the bytes.
+// What the first line asks for, and where the text line and the read line stand in the bytes.
 pub enum Request {
     Malformed,
     Given {
         k: u32,
         w: u32,
         c: u32,
-        u: u32,
-        v: u32,
-        threshold: i32,
+        scoring: Scoring,
         text: usize,
         text_end: usize,
         read: usize,
@@ -154,6 +157,44 @@ fn read_signed(bytes: &[u8]) -> Threshold
     }
 }
 
+// Whether two slices have the same bytes.
+fn same(a: &[u8], b: &[u8]) -> bool
+    ensures { λ r. ⌜ r ≡ sameBytes (now (a .entry)) (now (b .entry)) ⌝ }
+{
+    if a.len() != b.len() {
+        return false;
+    }
+    let mut i = 0;
+    while i < a.len() {
+        if a[i] != b[i] {
+            return false;
+        }
+        i += 1;
+    }
+    true
+}
+
+// How mappings are scored, from the last field of the first line and the two numbers before it: the word `jaccard` makes them f and g, a
+// threshold u and v.
+fn read_last_field(bytes: &[u8], fourth: u32, fifth: u32) -> LastField
+    ensures { λ r. ⌜ r ≡ lastFieldOf fourth fifth (now (bytes .entry)) ⌝ }
+{
+    if same(bytes, b"jaccard") {
+        return LastField::Given(Scoring::Jaccard {
+            f: fourth,
+            g: fifth,
+        });
+    }
+    match read_signed(bytes) {
+        Threshold::Malformed => LastField::Malformed,
+        Threshold::Value(threshold) => LastField::Given(Scoring::Linear {
+            u: fourth,
+            v: fifth,
+            threshold,
+        }),
+    }
+}
+
 // A number of 32 bits from an index on, with a space behind it.
 fn read_field(line: &[u8], from: usize) -> Field
     requires { ⌜ from ≤ length (now line) ⌝ }
@@ -173,7 +214,7 @@ fn read_field(line: &[u8], from: usize) -> Field
     }
 }
 
-// The first line: five numbers with a space behind each, then the threshold.
+// The first line: five numbers with a space behind each, then the last field.
 fn read_first_line(line: &[u8]) -> FirstLine
     ensures { λ r. ⌜ r ≡ firstLineOf (fields (now (line .entry))) ⌝ }
 {
@@ -192,15 +233,13 @@ fn read_first_line(line: &[u8]) -> FirstLine
             }
         }
     }
-    match read_signed(&line[at..]) {
-        Threshold::Malformed => FirstLine::Malformed,
-        Threshold::Value(threshold) => FirstLine::Given {
+    match read_last_field(&line[at..], numbers[3], numbers[4]) {
+        LastField::Malformed => FirstLine::Malformed,
+        LastField::Given(scoring) => FirstLine::Given {
             k: numbers[0],
             w: numbers[1],
             c: numbers[2],
-            u: numbers[3],
-            v: numbers[4],
-            threshold,
+            scoring,
         },
     }
 }
@@ -234,20 +273,11 @@ pub fn read_input(bytes: &[u8]) -> Request
     }
     match read_first_line(&bytes[..first_end]) {
         FirstLine::Malformed => Request::Malformed,
-        FirstLine::Given {
+        FirstLine::Given { k, w, c, scoring } => Request::Given {
             k,
             w,
             c,
-            u,
-            v,
-            threshold,
-        } => Request::Given {
-            k,
-            w,
-            c,
-            u,
-            v,
-            threshold,
+            scoring,
             text,
             text_end,
             read,

@@ -4,14 +4,16 @@ use native.Mathlib.Nat.{pow-suc, div-lt-iff-lt-mul}
 use native.Mathlib.Omega.{arith}
 use mathlib.Core.Path.{_≡_, refl, sym, subst}
 use mathlib.Core.Bool.{Bool, true, false}
-use mathlib.Core.List.{List, [], _∷_}
+use mathlib.Core.List.{List, [], _∷_, _++_}
 use lib.Dec.{ltb}
 use lib.ListN.{length, length-append}
 use lib.IntN.{ℤ, pos, negsuc}
 use borrow.Author.Tests.{lt-ltb, le-ltb, ltb-true, ltb-false}
-use Rattle.list_line.specs.Line.{fitting, digitsBefore, decimal, signed, line}
+use Rattle.list_line.specs.Line.{fitting, digitsBefore, decimal, signed, shownScore, line}
 use Rattle.list_line.proofs.Buffers.{fitting-all}
-use Rattle.base.specs.Bytes.{digit}
+use Rattle.base.specs.Bytes.{slash, digit}
+use Rattle.mappings.specs.declared.Score.{Score}
+use Rattle.mappings.specs.declared.Score.the-variants.{Number, Fraction}
 use Rattle.strands.specs.declared.Strand.{Strand}
 
 -- ---- one digit more
@@ -64,19 +66,29 @@ unfolding signed
 length-signed (pos n) = let h : length (decimal n) ≤ 10 = length-decimal n in omega arith
 length-signed (negsuc n) = let h : length (decimal (suc n)) ≤ 10 = length-decimal (suc n) in omega arith
 
-pub length-line : (first last : ℕ) (score : ℤ) (m perMille : ℕ) (strand : Strand) → length (line first last score m perMille strand) ≤ 58
+pub length-fraction : (m divisor : ℕ) → length (decimal m ++ slash ∷ decimal divisor) ≤ 21
+length-fraction m divisor =
+    let a : length (decimal m) ≤ 10 = length-decimal m in
+    let b : length (decimal divisor) ≤ 10 = length-decimal divisor in
+    simp length-append (omega arith)
+
+pub length-score : (score : Score) → length (shownScore score) ≤ 21
+unfolding shownScore
+length-score (Number z) = let h : length (signed z) ≤ 11 = length-signed z in omega arith
+length-score (Fraction m divisor) = length-fraction m divisor
+
+pub length-line : (first last : ℕ) (score : Score) (m perMille : ℕ) (strand : Strand) → length (line first last score m perMille strand) ≤ 68
 unfolding line
 length-line first last score m perMille strand =
     let a : length (decimal first) ≤ 10 = length-decimal first in
     let b : length (decimal last) ≤ 10 = length-decimal last in
-    let c : length (signed score) ≤ 11 = length-signed score in
+    let c : length (shownScore score) ≤ 21 = length-score score in
     let d : length (decimal m) ≤ 10 = length-decimal m in
     let e : length (decimal perMille) ≤ 10 = length-decimal perMille in
     simp length-append (omega arith)
 
--- so 64 bytes hold any line
-pub line-fits : (first last : ℕ) (score : ℤ) (m perMille : ℕ) (strand : Strand)
-    → fitting 64 (line first last score m perMille strand) ≡ line first last score m perMille strand
+-- so 68 bytes hold any line
+pub line-fits : (first last : ℕ) (score : Score) (m perMille : ℕ) (strand : Strand)
+    → fitting 68 (line first last score m perMille strand) ≡ line first last score m perMille strand
 line-fits first last score m perMille strand =
-    let short : length (line first last score m perMille strand) ≤ 58 = length-line first last score m perMille strand in
-    fitting-all 64 (line first last score m perMille strand) (omega arith)
+    fitting-all 68 (line first last score m perMille strand) (length-line first last score m perMille strand)

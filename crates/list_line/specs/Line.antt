@@ -1,4 +1,4 @@
--- The printed line: five numbers in decimal and the strand; the part of the buffer that the line writer returns, and the buffer afterwards.
+-- The printed line: four numbers in decimal, the score and the strand; the part of the buffer that the line writer returns, and the buffer afterwards.
 use Prim.Native.Nat.{ℕ, zero, suc, _+_, _/_, _%_}
 use mathlib.Core.Path.{_≡_}
 use mathlib.Core.Bool.{cond}
@@ -7,7 +7,9 @@ use lib.Dec.{leb, ltb}
 use lib.ListN.{length}
 use lib.IntN.{ℤ, pos, negsuc}
 use Rattle.base.specs.Replies.{over}
-use Rattle.base.specs.Bytes.{space, lineFeed, minus, plus, digit}
+use Rattle.base.specs.Bytes.{space, lineFeed, minus, plus, slash, digit}
+use Rattle.mappings.specs.declared.Score.{Score}
+use Rattle.mappings.specs.declared.Score.the-variants.{Number, Fraction}
 use Rattle.strands.specs.declared.Strand.{Strand}
 use Rattle.strands.specs.declared.Strand.the-variants.{Forward, Reverse}
 
@@ -25,15 +27,20 @@ unfoldable pub signed : ℤ → List ℕ
 signed (pos n) = decimal n
 signed (negsuc n) = minus ∷ decimal (suc n)
 
+-- a score: a signed number; or a fraction as m, a slash and the divisor, not reduced
+unfoldable pub shownScore : Score → List ℕ
+shownScore (Number z) = signed z
+shownScore (Fraction m divisor) = decimal m ++ slash ∷ decimal divisor
+
 -- the sign of a strand: + for the read as it is given, the minus sign for its reverse complement
 abbrev pub sign : Strand → ℕ
 sign Forward = plus
 sign Reverse = minus
 
 -- first letter, last letter, score, m, per mille, strand, one space between them and a line feed after
-unfoldable pub line : ℕ → ℕ → ℤ → ℕ → ℕ → Strand → List ℕ
+unfoldable pub line : ℕ → ℕ → Score → ℕ → ℕ → Strand → List ℕ
 line first last score m perMille strand =
-    decimal first ++ space ∷ decimal last ++ space ∷ signed score ++ space ∷ decimal m ++ space ∷ decimal perMille
+    decimal first ++ space ∷ decimal last ++ space ∷ shownScore score ++ space ∷ decimal m ++ space ∷ decimal perMille
     ++ space ∷ sign strand ∷ lineFeed ∷ []
 
 -- the part of the caller's buffer that is written, given the buffer's length: the empty part where these bytes are longer

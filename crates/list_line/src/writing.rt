@@ -2,17 +2,20 @@
 use base::LINE_FEED;
 use base::MINUS;
 use base::PLUS;
+use base::SLASH;
 use base::SPACE;
 use base::ZERO;
+use mappings::Score;
 use strands::Strand;
 ghost use mathlib.Core.Path.{_≡_};
 ghost use mathlib.Core.Bool.{false};
-ghost use mathlib.Core.List.{[], _∷_};
+ghost use mathlib.Core.List.{[], _∷_, _++_};
 ghost use Prim.Native.Nat.{_≤_};
 ghost use lib.ListN.{length, drop};
 ghost use lib.IntN.{pos, natAbs};
 ghost use lib.Signed.{leZ};
-ghost use Rattle.list_line.specs.Line.{decimal, signed, sign, line, fitting, LineWritten};
+ghost use Rattle.base.specs.Bytes.{slash};
+ghost use Rattle.list_line.specs.Line.{decimal, signed, shownScore, sign, line, fitting, LineWritten};
 ghost use Rattle.list_line.specs.Writing.{Written};
 
 // Writes the bytes from an index on and answers the next index. Where they do not all fit it writes none, and the index stays.
@@ -91,6 +94,28 @@ pub fn put_signed(out: &mut [u8], at: usize, z: i32) -> usize
     put_bytes(out, at, &digits[from..])
 }
 
+// A fraction as its two numbers with a slash between them, as `put_bytes` writes bytes. Both stand in a local buffer first: what does not fit
+// is not written in part.
+fn put_fraction(out: &mut [u8], at: usize, m: u32, divisor: u32) -> usize
+    ensures { λ r. ⌜ Written (decimal m ++ slash ∷ decimal divisor) at (now (out .entry)) (now (out .exit)) r ⌝ }
+{
+    let mut text = [0u8; 21];
+    let mut end = put_decimal(&mut text, 0, m);
+    end = put_byte(&mut text, end, SLASH);
+    end = put_decimal(&mut text, end, divisor);
+    put_bytes(out, at, &text[..end])
+}
+
+// A score, as `put_bytes` writes bytes.
+pub fn put_score(out: &mut [u8], at: usize, score: Score) -> usize
+    ensures { λ r. ⌜ Written (shownScore score) at (now (out .entry)) (now (out .exit)) r ⌝ }
+{
+    match score {
+        Score::Number(z) => put_signed(out, at, z),
+        Score::Fraction { m, divisor } => put_fraction(out, at, m, divisor),
+    }
+}
+
 // The sign of a strand.
 fn sign(strand: Strand) -> u8
     ensures { λ r. ⌜ r ≡ sign strand ⌝ }
@@ -107,19 +132,19 @@ fn write_line(
     out: &mut [u8],
     first: u32,
     last: u32,
-    score: i32,
+    score: Score,
     m: u32,
     per_mille: u32,
     strand: Strand,
 ) -> usize
     ensures { λ r. ⌜ LineWritten (line first last score m «per_mille» strand) (now (out .entry)) (now (out .exit)) r ⌝ }
 {
-    let mut text = [0u8; 64];
+    let mut text = [0u8; 68];
     let mut at = put_decimal(&mut text, 0, first);
     at = put_byte(&mut text, at, SPACE);
     at = put_decimal(&mut text, at, last);
     at = put_byte(&mut text, at, SPACE);
-    at = put_signed(&mut text, at, score);
+    at = put_score(&mut text, at, score);
     at = put_byte(&mut text, at, SPACE);
     at = put_decimal(&mut text, at, m);
     at = put_byte(&mut text, at, SPACE);
@@ -136,7 +161,7 @@ pub fn line<'a>(
     out: &'a mut [u8],
     first: u32,
     last: u32,
-    score: i32,
+    score: Score,
     m: u32,
     per_mille: u32,
     strand: Strand,

@@ -1,4 +1,4 @@
--- The task that the settings of a run (k, w, c, u, v and the threshold) make of the letters of text and read.
+-- The task that the settings of a run (k, w, c and the scoring) make of the letters of text and read.
 use Prim.Native.Nat.{ℕ}
 use mathlib.Core.List.{List}
 use Rattle.kmers.specs.Kmers.{Entry, codes}
@@ -15,6 +15,6 @@ textOf s text = struck (s .c) (sketch (s .k) (s .w) text)
 unfoldable pub patternOf : Settings → List ℕ → List ℕ → List Entry
 patternOf s text read = strike (codes (sketch (s .k) (s .w) text)) (s .c) (sketch (s .k) (s .w) read)
 
--- what is mapped: the codes of both, the weights and the threshold
+-- what is mapped: the codes of both, scored as the settings say
 unfoldable pub taskOf : Settings → List ℕ → List ℕ → Task
-taskOf s text read = taskWith (codes (textOf s text)) (codes (patternOf s text read)) (s .u) (s .v) (s .threshold)
+taskOf s text read = taskWith (codes (textOf s text)) (codes (patternOf s text read)) (s .scoring)

@@ -5,18 +5,17 @@ use native.Mathlib.Numerals.{add-one}
 use native.Mathlib.Omega.{arith}
 use mathlib.Core.Path.{_≡_, refl, sym, ap, _∙_}
 use mathlib.Core.List.{List, [], _∷_, _++_}
-use lib.ListN.{length, set, take, drop, length-set}
+use lib.ListN.{length, getD, set, take, drop, length-set}
 use lib.Seq.{take-suc-set, take-all}
-use mir.Facts.{toZ-ofZ}
-use borrow.Author.Needs.{needs, sfits-of}
+use borrow.Author.Needs.{needs}
 use denote.Ref.{now}
 use Rattle.list_input.specs.Input.{fields}
-use Rattle.list_input.specs.Answers.{fieldOf, thresholdOf, firstLineOf}
+use Rattle.list_input.specs.Answers.{fieldOf, lastFieldOf, firstLineOf}
 use Rattle.list_input.specs.declared.Field.the-variants.{Malformed as noField, Given as field}
-use Rattle.list_input.specs.declared.Threshold.{Threshold}
+use Rattle.list_input.specs.declared.LastField.{LastField}
 use Rattle.list_input.specs.declared.FirstLine.the-variants.{Malformed as noFirstLine}
 use Rattle.list_line.proofs.Buffers.{part-to-end}
-use Rattle.list_input.proofs.Fields.{made, left, left-all, left-field, next-inside, left-malformed, asFirstLine, left-threshold}
+use Rattle.list_input.proofs.Fields.{left, left-all, left-field, next-inside, left-malformed, asFirstLine, left-last}
 use Rattle.list_input.proofs.read_first_line.Statement.{statement}
 use Rattle.list_input.proofs.read_first_line.Tie as tie
 
@@ -37,14 +36,14 @@ entry-read-field c = turn-read-field c .before .before
 abbrev in-loop-read-field : tie.After-read-field Inv-loop μ-loop → tie.In-loop Inv-loop μ-loop
 in-loop-read-field c = c .before
 
-abbrev turn-read-signed : tie.After-read-signed Inv-loop μ-loop → tie.At-loop Inv-loop μ-loop
-turn-read-signed c = c .before .before .before
+abbrev turn-read-last-field : tie.After-read-last-field Inv-loop μ-loop → tie.At-loop Inv-loop μ-loop
+turn-read-last-field c = c .before .before .before
 
-abbrev entry-read-signed : tie.After-read-signed Inv-loop μ-loop → tie.Start Inv-loop μ-loop
-entry-read-signed c = turn-read-signed c .before .before
+abbrev entry-read-last-field : tie.After-read-last-field Inv-loop μ-loop → tie.Start Inv-loop μ-loop
+entry-read-last-field c = turn-read-last-field c .before .before
 
-abbrev loop-read-signed : tie.After-read-signed Inv-loop μ-loop → tie.After-loop Inv-loop μ-loop
-loop-read-signed c = c .before .before
+abbrev loop-read-last-field : tie.After-read-last-field Inv-loop μ-loop → tie.After-loop Inv-loop μ-loop
+loop-read-last-field c = c .before .before
 
 module _ (line numbers : List ℕ) (at i : ℕ) (long : length numbers ≡ 5)
     (same : left (5 - i) (take i numbers) (fields (drop at line)) ≡ firstLineOf (fields line)) where
@@ -63,13 +62,17 @@ module _ (line numbers : List ℕ) (at i : ℕ) (long : length numbers ≡ 5)
   no-field : i < 5 → fieldOf line at ≡ noField → noFirstLine ≡ firstLineOf (fields line)
   no-field h e = sym (left-malformed line at (5 - (i + 1)) (take i numbers) e) ∙ one-more h
 
-  all-read : 5 ≤ i → i ≤ 5 → {read other : Threshold} → read ≡ thresholdOf (take (length line - at) (drop at line)) → read ≡ other
+  -- what the last field makes of the fourth and the fifth number
+  abbrev last-of : List ℕ → LastField
+  last-of = lastFieldOf (getD numbers 3 0) (getD numbers 4 0)
+
+  all-read : 5 ≤ i → i ≤ 5 → {read other : LastField} → read ≡ last-of (take (length line - at) (drop at line)) → read ≡ other
       → asFirstLine numbers other ≡ firstLineOf (fields line)
   all-read h k {read} {other} is e =
       let five : 5 - i ≡ 0 = omega arith in
-      ap (asFirstLine numbers) (sym e ∙ is ∙ ap thresholdOf (part-to-end line (length line) at (omega arith)))
-      ∙ ap (λ (ns : List ℕ). asFirstLine ns (thresholdOf (drop at line))) (sym (take-all i numbers (omega arith)))
-      ∙ sym (left-threshold (take i numbers) (drop at line))
+      ap (asFirstLine numbers) (sym e ∙ is ∙ ap last-of (part-to-end line (length line) at (omega arith)))
+      ∙ ap (λ (ns : List ℕ). asFirstLine ns (lastFieldOf (getD ns 3 0) (getD ns 4 0) (drop at line))) (sym (take-all i numbers (omega arith)))
+      ∙ sym (left-last (take i numbers) (drop at line))
       ∙ ap (λ (n : ℕ). left n (take i numbers) (fields (drop at line))) (sym five)
       ∙ same
 
@@ -115,29 +118,29 @@ loop-again c = (
       (sym (c .before .before .before .read-field .ensures) ∙ c .before .value .given .1),
 )
 
-sub-read-signed : tie.Need-sub-read-signed Inv-loop μ-loop
-sub-read-signed c = search needs
+sub-read-last-field : tie.Need-sub-read-last-field Inv-loop μ-loop
+sub-read-last-field c = search needs
 
-part-read-signed-start : tie.Need-part-read-signed-start Inv-loop μ-loop
-part-read-signed-start c = search needs
+part-read-last-field-start : tie.Need-part-read-last-field-start Inv-loop μ-loop
+part-read-last-field-start c = search needs
 
-part-read-signed-end : tie.Need-part-read-signed-end Inv-loop μ-loop
-part-read-signed-end c = search needs
+part-read-last-field-end : tie.Need-part-read-last-field-end Inv-loop μ-loop
+part-read-last-field-end c = search needs
 
-read-signed-requires : tie.Need-read-signed-requires Inv-loop μ-loop
-read-signed-requires c κs = search needs
+array-read-read-last-field : tie.Need-array-read-read-last-field Inv-loop μ-loop
+array-read-read-last-field c = search needs
+
+array-read-read-last-field-2 : tie.Need-array-read-read-last-field-2 Inv-loop μ-loop
+array-read-read-last-field-2 c = search needs
+
+read-last-field-requires : tie.Need-read-last-field-requires Inv-loop μ-loop
+read-last-field-requires c κs = search needs
 
 enum-told-2 : tie.Need-enum-told-2 Inv-loop μ-loop
 enum-told-2 c = search needs
 
-enum-known-threshold : tie.Need-enum-known-threshold Inv-loop μ-loop
-enum-known-threshold c = search needs
-
-array-read-t21 : tie.Need-array-read-t21 Inv-loop μ-loop
-array-read-t21 c = search needs
-
-array-read-t24 : tie.Need-array-read-t24 Inv-loop μ-loop
-array-read-t24 c = search needs
+enum-known-scoring : tie.Need-enum-known-scoring Inv-loop μ-loop
+enum-known-scoring c = search needs
 
 array-read-t27 : tie.Need-array-read-t27 Inv-loop μ-loop
 array-read-t27 c = search needs
@@ -150,19 +153,19 @@ array-read-t33 c = search needs
 
 returns-2 : tie.Need-returns-2 Inv-loop μ-loop
 returns-2 c =
-    all-read (now (entry-read-signed (c .before .before) .args .line)) (turn-read-signed (c .before .before) .loop .numbers)
-    (turn-read-signed (c .before .before) .loop .at) (turn-read-signed (c .before .before) .loop .i)
-    (turn-read-signed (c .before .before) .loop .inv .2) (turn-read-signed (c .before .before) .loop .inv .3)
-    (loop-read-signed (c .before .before) .loop-test .left) (turn-read-signed (c .before .before) .loop .inv .0)
-    (c .before .before .read-signed .ensures) (c .enum-told2 .given .1)
+    all-read (now (entry-read-last-field (c .before .before) .args .line)) (turn-read-last-field (c .before .before) .loop .numbers)
+    (turn-read-last-field (c .before .before) .loop .at) (turn-read-last-field (c .before .before) .loop .i)
+    (turn-read-last-field (c .before .before) .loop .inv .2) (turn-read-last-field (c .before .before) .loop .inv .3)
+    (loop-read-last-field (c .before .before) .loop-test .left) (turn-read-last-field (c .before .before) .loop .inv .0)
+    (c .before .before .read-last-field .ensures) (c .enum-told2 .given .1)
 
 returns-3 : tie.Need-returns-3 Inv-loop μ-loop
-returns-3 c = ap (made (turn-read-signed (c .before .before .before) .loop .numbers)) (toZ-ofZ (sfits-of (c .known-told2 .given .0 .1)))
-    ∙ all-read (now (entry-read-signed (c .before .before .before) .args .line)) (turn-read-signed (c .before .before .before) .loop .numbers)
-    (turn-read-signed (c .before .before .before) .loop .at) (turn-read-signed (c .before .before .before) .loop .i)
-    (turn-read-signed (c .before .before .before) .loop .inv .2) (turn-read-signed (c .before .before .before) .loop .inv .3)
-    (loop-read-signed (c .before .before .before) .loop-test .left) (turn-read-signed (c .before .before .before) .loop .inv .0)
-    (c .before .before .before .read-signed .ensures) (c .before .threshold .given .1)
+returns-3 c =
+    all-read (now (entry-read-last-field (c .before .before .before) .args .line)) (turn-read-last-field (c .before .before .before) .loop .numbers)
+    (turn-read-last-field (c .before .before .before) .loop .at) (turn-read-last-field (c .before .before .before) .loop .i)
+    (turn-read-last-field (c .before .before .before) .loop .inv .2) (turn-read-last-field (c .before .before .before) .loop .inv .3)
+    (loop-read-last-field (c .before .before .before) .loop-test .left) (turn-read-last-field (c .before .before .before) .loop .inv .0)
+    (c .before .before .before .read-last-field .ensures) (c .before .scoring .given .1)
 
 pub read-first-line-spec : {M : Type 1} → statement M
 read-first-line-spec =
@@ -180,14 +183,14 @@ read-first-line-spec =
     add-i
     loop-less
     loop-again
-    sub-read-signed
-    part-read-signed-start
-    part-read-signed-end
-    read-signed-requires
+    sub-read-last-field
+    part-read-last-field-start
+    part-read-last-field-end
+    array-read-read-last-field
+    array-read-read-last-field-2
+    read-last-field-requires
     enum-told-2
-    enum-known-threshold
-    array-read-t21
-    array-read-t24
+    enum-known-scoring
     array-read-t27
     array-read-t30
     array-read-t33

@@ -5,8 +5,6 @@ use mathlib.Core.Path.{_≡_, sym, ap, _∙_}
 use mathlib.Core.List.{List, [], _∷_}
 use lib.ListN.{length, take, drop, length-drop}
 use lib.Seq.{length-take-le}
-use mir.Syntax.{w32}
-use mir.Facts.{toZ-ofZ}
 use denote.Ref.{now}
 use Rattle.base.specs.Bytes.{lineFeed}
 use Rattle.list_input.specs.Input.{lines}
@@ -15,7 +13,7 @@ use Rattle.list_input.specs.declared.FirstLine.{FirstLine}
 use Rattle.list_input.specs.declared.Request.the-variants.{Malformed as noRequest}
 use Rattle.list_input.proofs.Parts.{parts, found-inside, found-end, found-more}
 use Rattle.list_input.proofs.Lines.{asRequest, few-lines, long-text, long-read, by-first-line, some-part, first-inside, first-end, first-more}
-use borrow.Author.Needs.{needs, sfits-of}
+use borrow.Author.Needs.{needs}
 use Rattle.list_input.proofs.read_input.Statement.{statement}
 use Rattle.list_input.proofs.read_input.Tie as tie
 
@@ -245,12 +243,10 @@ returns-7 c =
     let at-line = c .before .before .before in
     let at-third = third at-line in
     let read = c .before .k .given .0 in
-    let z = toZ-ofZ {w = w32} {z = read .1 .1 .1 .1 .1 .0} (sfits-of (c .known-told .given .1 .1 .1 .1 .1 .0 .1)) in
     let n = length-first at-third in
     let m = length-text at-third in
     let l = length-read at-third in
-    (λ i. requestAt (record { k = read .0; w = read .1 .0; c = read .1 .1 .0; u = read .1 .1 .1 .0; v = read .1 .1 .1 .1 .0; threshold = z i }) (sym n i)
-    (sym m i) (sym l i))
+    (λ i. requestAt (record { k = read .0; w = read .1 .0; c = read .1 .1 .0; scoring = read .1 .1 .1 .0 }) (sym n i) (sym m i) (sym l i))
     ∙ sym (first-line-decides at-line (c .before .k .given .1))
 
 pub read-input-spec : {M : Type 1} → statement M

@@ -1,18 +1,17 @@
--- `writing::write_line` meets its contract: the twelve pieces written one after the other are the line, which fits 64 bytes.
+-- `writing::write_line` meets its contract: the twelve pieces written one after the other are the line, which fits 68 bytes.
 use Prim.Native.Nat.{ℕ, _≤_}
 use native.Mathlib.Omega.{arith}
 use mathlib.Core.Path.{_≡_, refl, sym, ap}
 use mathlib.Core.List.{List, [], _∷_, _++_, append-assoc}
 use lib.ListN.{length, replicate, length-append}
 use lib.Seq.{length-take-le}
-use lib.IntN.{ℤ}
-use mir.Facts.{toZ-ofZ}
 use Rattle.base.specs.Bytes.{space, lineFeed}
-use Rattle.list_line.specs.Line.{decimal, signed, sign, line}
+use Rattle.mappings.specs.declared.Score.{Score}
+use Rattle.list_line.specs.Line.{decimal, shownScore, sign, line}
 use Rattle.list_line.specs.Writing.{Written}
 use Rattle.strands.specs.declared.Strand.{Strand}
 use Rattle.list_line.proofs.Buffers.{joined, joined-by, same-bytes, start-index, start-part, start-length, from-start}
-use Rattle.list_line.proofs.Decimal.{length-decimal, length-signed, length-line}
+use Rattle.list_line.proofs.Decimal.{length-decimal, length-score, length-line}
 use borrow.Author.Needs.{needs}
 use Rattle.list_line.proofs.writing.write_line.Statement.{statement}
 use Rattle.list_line.proofs.writing.write_line.Tie as tie
@@ -21,11 +20,11 @@ use Rattle.list_line.proofs.writing.write_line.Tie as tie
 abbrev put-byte7-text24 : tie.After-text24 → tie.After-put-byte7
 put-byte7-text24 c = c .before
 
-module _ (first last : ℕ) (score : ℤ) (m perMille : ℕ) (strand : Strand) {t0 t1 t2 t3 t4 t5 t6 t7 t8 t9 t10 t11 t12 : List ℕ}
-    {n1 n2 n3 n4 n5 n6 n7 n8 n9 n10 n11 n12 : ℕ} (room : length t0 ≡ 64) where
+module _ (first last : ℕ) (score : Score) (m perMille : ℕ) (strand : Strand) {t0 t1 t2 t3 t4 t5 t6 t7 t8 t9 t10 t11 t12 : List ℕ}
+    {n1 n2 n3 n4 n5 n6 n7 n8 n9 n10 n11 n12 : ℕ} (room : length t0 ≡ 68) where
   pieces : Written (decimal first) 0 t0 t1 n1 → Written (space ∷ []) n1 t1 t2 n2
       → Written (decimal last) n2 t2 t3 n3 → Written (space ∷ []) n3 t3 t4 n4
-      → Written (signed score) n4 t4 t5 n5 → Written (space ∷ []) n5 t5 t6 n6
+      → Written (shownScore score) n4 t4 t5 n5 → Written (space ∷ []) n5 t5 t6 n6
       → Written (decimal m) n6 t6 t7 n7 → Written (space ∷ []) n7 t7 t8 n8
       → Written (decimal perMille) n8 t8 t9 n9 → Written (space ∷ []) n9 t9 t10 n10
       → Written (sign strand ∷ []) n10 t10 t11 n11 → Written (lineFeed ∷ []) n11 t11 t12 n12
@@ -34,7 +33,7 @@ module _ (first last : ℕ) (score : ℤ) (m perMille : ℕ) (strand : Strand) {
   pieces w1 w2 w3 w4 w5 w6 w7 w8 w9 w10 w11 w12 =
       let a : length (decimal first) ≤ 10 = length-decimal first in
       let b : length (decimal last) ≤ 10 = length-decimal last in
-      let c : length (signed score) ≤ 11 = length-signed score in
+      let c : length (shownScore score) ≤ 21 = length-score score in
       let d : length (decimal m) ≤ 10 = length-decimal m in
       let e : length (decimal perMille) ≤ 10 = length-decimal perMille in
       let x3 = joined-by w1 w2 w3 (omega arith) in
@@ -42,7 +41,7 @@ module _ (first last : ℕ) (score : ℤ) (m perMille : ℕ) (strand : Strand) {
       let x7 = joined-by x5 w6 w7 (simp length-append (omega arith)) in
       let x9 = joined-by x7 w8 w9 (simp length-append (omega arith)) in
       let x11 = joined-by x9 w10 w11 (simp length-append (omega arith)) in
-      let numbers : List ℕ = decimal first ++ space ∷ decimal last ++ space ∷ signed score ++ space ∷ decimal m ++ space ∷ decimal perMille in
+      let numbers : List ℕ = decimal first ++ space ∷ decimal last ++ space ∷ shownScore score ++ space ∷ decimal m ++ space ∷ decimal perMille in
       same-bytes (append-assoc numbers (space ∷ sign strand ∷ []) (lineFeed ∷ [])) (joined x11 w12 (simp length-append (omega arith)))
 
 -- the calls, from the last to the first
@@ -68,7 +67,7 @@ module _ (c : tie.After-put-byte7) where
   abbrev c6 : tie.After-put-byte3
   c6 = c7 .before .before .before
 
-  abbrev c5 : tie.After-put-signed
+  abbrev c5 : tie.After-put-score
   c5 = c6 .before .before .before
 
   abbrev c4 : tie.After-put-byte2
@@ -90,7 +89,7 @@ module _ (c : tie.After-put-byte7) where
   printed = let args = entry .args in line (args .first) (args .last) (args .score) (args .m) (args .per-mille) (args .strand)
 
   -- the line in the local bytes
-  text-is : Written printed 0 (replicate 64 0) (c .put-byte7 .last .0) (c .put-byte7 .result)
+  text-is : Written printed 0 (replicate 68 0) (c .put-byte7 .last .0) (c .put-byte7 .result)
   text-is =
       let args = entry .args in
       pieces
@@ -105,7 +104,7 @@ module _ (c : tie.After-put-byte7) where
       (c2 .put-byte .ensures)
       (c3 .put-decimal2 .ensures)
       (c4 .put-byte2 .ensures)
-      (same-bytes (ap signed (toZ-ofZ (entry .fits .score))) (c5 .put-signed .ensures))
+      (c5 .put-score .ensures)
       (c6 .put-byte3 .ensures)
       (c7 .put-decimal3 .ensures)
       (c8 .put-byte4 .ensures)
@@ -114,15 +113,14 @@ module _ (c : tie.After-put-byte7) where
       (same-bytes (ap (λ (b : ℕ). b ∷ []) (signed-by .sign .ensures)) (c11 .put-byte6 .ensures))
       (c .put-byte7 .ensures)
 
-  short : length printed ≤ 64
-  short = let args = entry .args in let h : length printed ≤ 58 =
-      length-line (args .first) (args .last) (args .score) (args .m) (args .per-mille) (args .strand) in omega arith
+  short : length printed ≤ 68
+  short = let args = entry .args in length-line (args .first) (args .last) (args .score) (args .m) (args .per-mille) (args .strand)
 
   inside : c .put-byte7 .result ≤ length (c .put-byte7 .last .0)
   inside =
       let e : c .put-byte7 .result ≡ length printed = start-index text-is short in
-      let l : length (c .put-byte7 .last .0) ≡ 64 = start-length text-is short in
-      let h : length printed ≤ 64 = short in
+      let l : length (c .put-byte7 .last .0) ≡ 68 = start-length text-is short in
+      let h : length printed ≤ 68 = short in
       omega arith
 
 slice-aggregate-put-decimal : tie.Need-slice-aggregate-put-decimal
@@ -149,11 +147,11 @@ slice-aggregate-put-byte-2 c = search needs
 put-byte-requires-2 : tie.Need-put-byte-requires-2
 put-byte-requires-2 c κs = search needs
 
-slice-aggregate-put-signed : tie.Need-slice-aggregate-put-signed
-slice-aggregate-put-signed c = search needs
+slice-aggregate-put-score : tie.Need-slice-aggregate-put-score
+slice-aggregate-put-score c = search needs
 
-put-signed-requires : tie.Need-put-signed-requires
-put-signed-requires c κs = search needs
+put-score-requires : tie.Need-put-score-requires
+put-score-requires c κs = search needs
 
 slice-aggregate-put-byte-3 : tie.Need-slice-aggregate-put-byte-3
 slice-aggregate-put-byte-3 c = search needs
@@ -231,8 +229,8 @@ write-line-spec =
     put-decimal-requires-2
     slice-aggregate-put-byte-2
     put-byte-requires-2
-    slice-aggregate-put-signed
-    put-signed-requires
+    slice-aggregate-put-score
+    put-score-requires
     slice-aggregate-put-byte-3
     put-byte-requires-3
     slice-aggregate-put-decimal-3
