@@ -8,14 +8,14 @@ use mathlib.Core.Bool.{Bool, true, false, _&&_}
 use lib.Arith.{digits-mod}
 use lib.Dec.{leb, ltb, eqb}
 use lib.ListN.{length, getD}
-use lib.Signed.{leZ, mag}
-use Rattle.base.specs.Limits.{patternLimit, wordLimit}
+use borrow.Author.Tests.{le-leb}
+use Rattle.base.specs.Limits.{patternLimit, hitLimit, wordLimit}
 use Rattle.base.specs.Lists.{bit}
+use Rattle.base.specs.Counts.{occ}
 use Rattle.base.proofs.Lists.{clash}
-use Rattle.mappings.specs.Score.{Task, lengthOf, scoreOf}
+use Rattle.mappings.specs.Score.{Task, interval, thresholdOf, atMost, lengthOf, sharedOf, scoreOf, ThresholdFits}
 use Rattle.mappings.specs.Definition1.{AtMost}
 use Rattle.mappings.specs.FinalTest.{isReasonable, isFinal, isFinalCell}
-use Rattle.mappings.specs.Bias.{bias, biasedOf}
 use Rattle.mappings.specs.Cells.{hits, hitCount, leftEnd, rightEnd}
 use Rattle.mappings.specs.HitCodes.{hitCodes}
 use Rattle.mappings.specs.Places.{place}
@@ -23,17 +23,18 @@ use Rattle.mappings.proofs.Cells.{cellAt}
 use Rattle.mappings.proofs.Definition1.{MaximalCell, test-final, cell-final}
 use Rattle.mappings.proofs.HitCodes.{length-hitCodes, cell-shared, cell-reasonable}
 use Rattle.mappings.proofs.Hits.{hit-within}
-use Rattle.mappings.proofs.Range.{Limited, shared-le-size, scores-order, threshold-order}
-use Rattle.mappings.proofs.Shared.{shared-left-end}
+use Rattle.mappings.proofs.Range.{Limited, shared-le-size}
+use Rattle.mappings.proofs.Shared.{shared-le-length, length-interval, shared-left-end}
 use Rattle.session_records.specs.Records.{highestBefore}
-use Rattle.session_records.proofs.Numbers.{number-order}
 use Rattle.session_records.proofs.Knowledge.{final-known, known-final}
 use Rattle.session_start.specs.Tables.{reach, back}
-use Rattle.session_start.specs.WorkWords.{bestAfter}
-use Rattle.session_start.proofs.Tables.{reach-test, back-test, hit-codes-in}
+use Rattle.session_start.specs.ScoreWords.{byFractions, scoreWord, scoreWordOf}
+use Rattle.session_start.specs.WorkWords.{orderOf, bestAfter}
+use Rattle.session_start.proofs.WorkWords.{task-order}
+use Rattle.session_start.proofs.Tables.{reach-test, back-within, back-test, hit-codes-in}
 use Rattle.session_cells.specs.Passing.{lowered, lineScore, candidateTest}
 use Rattle.session_rule.specs.Lines.{sessionLine, sharedAt}
-use Rattle.session_rule.proofs.Linear.{line-score}
+use Rattle.session_rule.proofs.Scores.{line-score, scores-order, threshold-order}
 use Rattle.session_rule.proofs.Knowing.{scoreAt, least, known}
 
 one-is : (b : Bool) → eqb (bit b) 1 ≡ b
@@ -48,11 +49,6 @@ module _ (task : Task) (limited : Limited task) where
   pub shared-few : (i j : ℕ) → i ≤ j → j < hitCount task → sharedAt task i j ≤ length (task .pattern)
   shared-few i j a l =
       subst (λ (n : ℕ). n ≤ length (task .pattern)) (cell-shared task i j a l) (shared-le-size task (getD (hits task) i 0) (getD (hits task) j 0))
-
-  pub score-is : (i j : ℕ) → i ≤ j → j < hitCount task
-      → lineScore (sessionLine task j) (sharedAt task i j) (getD (hits task) i 0) ≡ scoreAt task i j
-  unfolding scoreAt biasedOf lengthOf
-  score-is i j a l = line-score task limited i j (sharedAt task i j) a l (shared-few i j a l) ∙ rw (cell-shared task i j a l)
 
   -- ---- m along a column
 
@@ -91,23 +87,65 @@ module _ (task : Task) (limited : Limited task) where
           let s = shared-less (i + n) j (omega arith) l in
           rw e (let r = rows n (omega arith) in omega arith)
 
+  -- a cell shares its right end at least
+  shared-some : (i j : ℕ) → i ≤ j → j < hitCount task → 1 ≤ sharedAt task i j
+  shared-some i j a l =
+      let p = task .pattern in
+      let g = hitCodes task in
+      let own : leb (occ (getD g j 0) (interval g j j)) (occ (getD g j 0) p) ≡ true =
+      sym (back-test p g (hit-codes-in task) j j (le-refl j) (code-in j l))
+      ∙ le-leb (back p g j) j (back-within p g (hit-codes-in task) j (code-in j l)) in
+      let e : sharedAt task j j ≡ 1 + sharedAt task (suc j) j = shared-left-end p g j j (le-refl j) (code-in j l) ∙ rw own in
+      omega (arith, shared-falls i j j a (le-refl j) l)
+
+  -- and at most as many hits as there are
+  shared-hits : (i j : ℕ) → i ≤ j → j < hitCount task → sharedAt task i j ≤ hitCount task
+  shared-hits i j a l =
+      let m : sharedAt task i j ≤ length (interval (hitCodes task) i j) = shared-le-length (task .pattern) (interval (hitCodes task) i j) in
+      omega (arith, length-interval (hitCodes task) i j (code-in j l))
+
+  -- ---- score words
+
+  -- m of row i with the length of row k
+  pub score-with : hitCount task ≤ hitLimit → (i k j : ℕ) → i ≤ j → k ≤ j → j < hitCount task
+      → lineScore (sessionLine task j) (sharedAt task i j) (getD (hits task) k 0)
+      ≡ scoreWord (task .scoring) (length (task .pattern)) (sharedAt task i j) (suc (getD (hits task) j 0) - getD (hits task) k 0)
+  score-with small i k j a b l =
+      line-score task limited k j (sharedAt task i j) b l (shared-some i j a l) (shared-few i j a l) (le-trans (shared-hits i j a l) small)
+
+  -- a cell's score word, by m of the hits' codes
+  pub score-by : (i j : ℕ) → i ≤ j → j < hitCount task
+      → scoreAt task i j
+      ≡ scoreWord (task .scoring) (length (task .pattern)) (sharedAt task i j) (suc (getD (hits task) j 0) - getD (hits task) i 0)
+  unfolding scoreAt scoreWordOf lengthOf
+  score-by i j a l = rw (cell-shared task i j a l)
+
+  pub score-is : hitCount task ≤ hitLimit → (i j : ℕ) → i ≤ j → j < hitCount task
+      → lineScore (sessionLine task j) (sharedAt task i j) (getD (hits task) i 0) ≡ scoreAt task i j
+  score-is small i j a l = score-with small i i j a a l ∙ sym (score-by i j a l)
+
   -- ---- the tests
 
-  module _ (threshold-fits : mag (task .threshold) < bias) (i j : ℕ) (a : i ≤ j) (l : j < hitCount task) where
+  some-shared : (i j : ℕ) → i ≤ j → j < hitCount task → 1 ≤ sharedOf task (getD (hits task) i 0) (getD (hits task) j 0)
+  some-shared i j a l = rw (cell-shared task i j a l) (shared-some i j a l)
+
+  module _ (threshold-fits : ThresholdFits (task .scoring)) (i j : ℕ) (a : i ≤ j) (l : j < hitCount task) where
     abbrev x : ℕ
     x = getD (hits task) i 0
 
     abbrev y : ℕ
     y = getD (hits task) j 0
 
-    threshold-is : leZ (task .threshold) (scoreOf task x y) ≡ leb (least task) (scoreAt task i j)
+    threshold-is : atMost (thresholdOf (task .scoring)) (scoreOf task x y) ≡ orderOf task (least task) (scoreAt task i j)
     unfolding scoreAt
-    threshold-is = threshold-order task limited threshold-fits x y (hit-within task j l)
+    threshold-is = threshold-order task limited threshold-fits x y (hit-within task j l) (some-shared i j a l)
 
-    scores-are : (r c : ℕ) → c < hitCount task
-        → leZ (scoreOf task (getD (hits task) r 0) (getD (hits task) c 0)) (scoreOf task x y) ≡ leb (scoreAt task r c) (scoreAt task i j)
+    scores-are : (r c : ℕ) → r ≤ c → c < hitCount task
+        → atMost (scoreOf task (getD (hits task) r 0) (getD (hits task) c 0)) (scoreOf task x y) ≡ orderOf task (scoreAt task r c) (scoreAt task i j)
     unfolding scoreAt
-    scores-are r c k = scores-order task limited (getD (hits task) r 0) (getD (hits task) c 0) x y (hit-within task c k) (hit-within task j l)
+    scores-are r c o k =
+        scores-order task limited (getD (hits task) r 0) (getD (hits task) c 0) x y (hit-within task c k) (hit-within task j l)
+        (some-shared r c o k) (some-shared i j a l)
 
     left-is : isReasonable task x y x ≡ eqb (bit (ltb j (reach (task .pattern) (hitCodes task) i))) 1
     left-is =
@@ -120,28 +158,29 @@ module _ (task : Task) (limited : Limited task) where
 
     -- the tests by words are Definition 1's: one comparison stands for the threshold and for being maximal
     pub final-test : (q : ℕ) → place (hitCount task) i j ≡ q
-        → candidateTest (highestBefore leb (least task) (bestAfter task q) (suc i)) (scoreAt task i j)
+        → candidateTest (byFractions (task .scoring)) (highestBefore (orderOf task) (least task) (bestAfter task q) (suc i)) (scoreAt task i j)
         (bit (ltb j (reach (task .pattern) (hitCodes task) i))) (back (task .pattern) (hitCodes task) j) i
         ≡ isFinalCell task (cellAt i j)
     unfolding candidateTest isFinalCell leftEnd rightEnd AtMost
-    final-test q at = go (leb seen (scoreAt task i j)) refl (leZ (task .threshold) (scoreOf task x y)) refl
+    final-test q at = go (orderOf task seen (scoreAt task i j)) refl (atMost (thresholdOf (task .scoring)) (scoreOf task x y)) refl
       where
         seen : ℕ
-        seen = highestBefore leb (least task) (bestAfter task q) (suc i)
+        seen = highestBefore (orderOf task) (least task) (bestAfter task q) (suc i)
 
         ends : Bool
         ends = eqb (bit (ltb j (reach (task .pattern) (hitCodes task) i))) 1
 
-        not-final : (b : Bool) → isFinal task x y ≡ b → leZ (task .threshold) (scoreOf task x y) ≡ false → false ≡ b
+        not-final : (b : Bool) → isFinal task x y ≡ b → atMost (thresholdOf (task .scoring)) (scoreOf task x y) ≡ false → false ≡ b
         not-final true e f = clash (test-final task x y e .enough) f
         not-final false e f = refl
 
-        go : (b : Bool) → leb seen (scoreAt task i j) ≡ b → (c : Bool) → leZ (task .threshold) (scoreOf task x y) ≡ c
+        go : (b : Bool) → orderOf task seen (scoreAt task i j) ≡ b → (c : Bool) → atMost (thresholdOf (task .scoring)) (scoreOf task x y) ≡ c
             → (b && ends && leb (back (task .pattern) (hitCodes task) j) i) ≡ isFinal task x y
         go true t c f =
-            let k = final-known leb number-order (least task) (hitCount task) (scoreAt task) (bestAfter task q) i j a l (known task q i j a l at) t in
-            let maximal : MaximalCell task i j = λ r c p o n. scores-are r c n ∙ k .1 r c p o n in
-            let enough : leZ (task .threshold) (scoreOf task x y) ≡ true = threshold-is ∙ k .0 in
+            let k = final-known (orderOf task) (task-order task) (least task) (hitCount task) (scoreAt task) (bestAfter task q) i j a l
+            (known task q i j a l at) t in
+            let maximal : MaximalCell task i j = λ r c p o n. scores-are r c (omega arith) n ∙ k .1 r c p o n in
+            let enough : atMost (thresholdOf (task .scoring)) (scoreOf task x y) ≡ true = threshold-is ∙ k .0 in
             sym (cell-final task i j a l true (λ e. maximal) (λ e. refl)
             ∙ rw (enough, left-is, right-is) (unit ends (leb (back (task .pattern) (hitCodes task) j) i)))
           where
@@ -152,10 +191,10 @@ module _ (task : Task) (limited : Limited task) where
         go false t true f =
             let low : MaximalCell task i j → false ≡ true = λ m.
             sym t
-            ∙ known-final leb number-order (least task) (hitCount task) (scoreAt task) (bestAfter task q) i j a l (known task q i j a l at)
-            (sym threshold-is ∙ f) (λ r c p o n. sym (scores-are r c n) ∙ m r c p o n) in
+            ∙ known-final (orderOf task) (task-order task) (least task) (hitCount task) (scoreAt task) (bestAfter task q) i j a l (known task q i j a l at)
+            (sym threshold-is ∙ f) (λ r c p o n. sym (scores-are r c (omega arith) n) ∙ m r c p o n) in
             sym (cell-final task i j a l false (λ e. clash e refl) low
-            ∙ none (leZ (task .threshold) (scoreOf task x y) && isReasonable task x y x && isReasonable task x y y))
+            ∙ none (atMost (thresholdOf (task .scoring)) (scoreOf task x y) && isReasonable task x y x && isReasonable task x y y))
           where
             none : (b : Bool) → (b && false) ≡ false
             none true = refl

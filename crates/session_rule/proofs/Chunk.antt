@@ -4,7 +4,6 @@ use native.Mathlib.Omega.{arith}
 use mathlib.Core.Path.{_≡_, refl, sym, ap, _∙_}
 use mathlib.Core.Bool.{true, false}
 use mathlib.Core.List.{List}
-use lib.Dec.{leb}
 use lib.ListN.{length, getD}
 use Rattle.mappings.specs.Score.{Task}
 use Rattle.mappings.specs.Cells.{hits, hitCount, mappingOf}
@@ -18,7 +17,7 @@ use Rattle.mappings.proofs.Rule.{more-cells}
 use Rattle.session_words.specs.Layout.{blockCount, partLength}
 use Rattle.session_records.specs.Records.{highestBefore, blockTop}
 use Rattle.session_start.specs.Tables.{reach, startOf}
-use Rattle.session_start.specs.WorkWords.{bestAfter}
+use Rattle.session_start.specs.WorkWords.{orderOf, bestAfter}
 use Rattle.session_start.proofs.WorkWords.{Outside}
 use Rattle.session_cells.specs.Passing.{reachAt, bestAt, topAt, startAt, Update}
 use Rattle.session_rule.specs.Lines.{sharedAt}
@@ -37,7 +36,7 @@ module _ (task : Task) where
     pub index-word : (i : ℕ) → i < hitCount task → getD part i 0 ≡ getD (hits task) i 0
     pub reach-word : (i : ℕ) → i < hitCount task → getD part (reachAt i) 0 ≡ reach (task .pattern) (hitCodes task) i
     pub best-word : (i : ℕ) → i < hitCount task → getD part (bestAt i) 0 ≡ getD (bestAfter task q) i 0
-    pub top-word : (b : ℕ) → b < blockCount (hitCount task) → getD part (topAt b) 0 ≡ blockTop leb (bestAfter task q) b
+    pub top-word : (b : ℕ) → b < blockCount (hitCount task) → getD part (topAt b) 0 ≡ blockTop (orderOf task) (bestAfter task q) b
     pub start-word : (b : ℕ) → b ≤ blockCount (hitCount task) → getD part (startAt b) 0 ≡ startOf (task .pattern) (hitCodes task) (suc j) b
 
   -- words outside the column in hand and the tops of its blocks stay
@@ -47,7 +46,7 @@ module _ (task : Task) where
 
   -- m of the cell of row i, and the greatest of the threshold and of the records in the rows before it, where it stands in column j
   abbrev pub Known : ℕ → ℕ → ℕ → ℕ → ℕ → Type 0
-  Known j i q m highest = i ≤ j → (m ≡ sharedAt task i j) × (highest ≡ highestBefore leb (least task) (bestAfter task q) i)
+  Known j i q m highest = i ≤ j → (m ≡ sharedAt task i j) × (highest ≡ highestBefore (orderOf task) (least task) (bestAfter task q) i)
 
   -- the next cell is that of row i, after q cells
   pub record At (j i q m highest : ℕ) (part : List ℕ) : Type 0 where

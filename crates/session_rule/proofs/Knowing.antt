@@ -5,33 +5,31 @@ use native.Mathlib.Omega.{arith}
 use mathlib.Core.Path.{_≡_, refl, sym, ap, _∙_, subst}
 use mathlib.Core.Logic.{_⊎_, inl, inr}
 use mathlib.Core.List.{List, [], _∷_, _++_}
-use lib.Dec.{leb}
 use lib.ListN.{length, getD, take, replicate}
 use lib.Seq.{take-suc}
 use Rattle.base.proofs.Lists.{eq-or-ne}
 use Rattle.mappings.specs.Score.{Task}
-use Rattle.mappings.specs.Bias.{biasedOf, biasedZ}
 use Rattle.mappings.specs.Cells.{Cell, hits, hitCount, cellCount, cells, cellsOf, leftEnd, rightEnd}
 use Rattle.mappings.specs.Places.{place}
 use Rattle.mappings.proofs.Cells.{cellAt, cellCount-suc, cellCount-mono, length-cells, getD-cells, place-within, place-row, place-column}
 use Rattle.session_records.specs.Records.{withRecord}
-use Rattle.session_records.proofs.Numbers.{number-order}
 use Rattle.session_records.proofs.Knowledge.{Knows, knows-none, knows-cell, knows-column}
-use Rattle.session_start.specs.WorkWords.{withCell, withCells, bestAfter}
-use Rattle.session_start.proofs.WorkWords.{length-bestAfter}
+use Rattle.session_start.specs.ScoreWords.{thresholdWord, scoreWordOf}
+use Rattle.session_start.specs.WorkWords.{orderOf, withCell, withCells, bestAfter}
+use Rattle.session_start.proofs.WorkWords.{task-order, length-bestAfter}
 
 module _ (task : Task) where
   -- the score word of cell (i, j)
   unfoldable pub scoreAt : ℕ → ℕ → ℕ
-  scoreAt i j = biasedOf task (getD (hits task) i 0) (getD (hits task) j 0)
+  scoreAt i j = scoreWordOf task (getD (hits task) i 0) (getD (hits task) j 0)
 
   -- the score word of the threshold
   abbrev pub least : ℕ
-  least = biasedZ (task .threshold)
+  least = thresholdWord (task .scoring)
 
   -- what the column in hand knows where cell (i, j) is next
   abbrev pub KnowsAt : List ℕ → ℕ → ℕ → Type 0
-  KnowsAt best i j = Knows leb number-order least (hitCount task) scoreAt best i j
+  KnowsAt best i j = Knows (orderOf task) (task-order task) least (hitCount task) scoreAt best i j
 
   withCells-snoc : (best : List ℕ) (xs : List Cell) (cell : Cell) → withCells task best (xs ++ cell ∷ []) ≡ withCell task (withCells task best xs) cell
   withCells-snoc best [] cell = refl
@@ -39,7 +37,7 @@ module _ (task : Task) where
 
   -- the column in hand after the cell with number q + 1
   pub best-next : (i j q : ℕ) → i ≤ j → j < hitCount task → place (hitCount task) i j ≡ q
-      → bestAfter task (suc q) ≡ withRecord leb least (bestAfter task q) i (scoreAt i j)
+      → bestAfter task (suc q) ≡ withRecord (orderOf task) least (bestAfter task q) i (scoreAt i j)
   unfolding bestAfter cellsOf withCell leftEnd rightEnd scoreAt
   best-next i j q a l e =
       let h = hitCount task in
@@ -79,19 +77,20 @@ module _ (task : Task) where
       → KnowsAt (bestAfter task (suc q)) (suc i) j
   after-cell q i j a l e k =
       subst (λ (best : List ℕ). KnowsAt best (suc i) j) (sym (best-next i j q a l e))
-      (knows-cell leb number-order least (hitCount task) scoreAt (bestAfter task q) i j a l
+      (knows-cell (orderOf task) (task-order task) least (hitCount task) scoreAt (bestAfter task q) i j a l
       (subst (λ (n : ℕ). j < n) (sym (length-bestAfter task q)) l) k)
 
   pub known : (q i j : ℕ) → i ≤ j → j < hitCount task → place (hitCount task) i j ≡ q → KnowsAt (bestAfter task q) i j
   unfolding bestAfter
   known zero i j a l e =
       let f = first-cell i j l e in
-      subst (λ (r : ℕ). KnowsAt (replicate (hitCount task) 0) r j) (sym (f .0)) (knows-none leb number-order least (hitCount task) scoreAt j (f .1))
+      subst (λ (r : ℕ). KnowsAt (replicate (hitCount task) 0) r j) (sym (f .0))
+      (knows-none (orderOf task) (task-order task) least (hitCount task) scoreAt j (f .1))
   known (suc q) zero j a l e =
       let m : suc j < hitCount task = later-column j q l e in
       let f : suc (place (hitCount task) (suc j) (suc j)) ≡ suc q = sym (place-column (hitCount task) j m) ∙ e in
       let g : place (hitCount task) (suc j) (suc j) ≡ q = omega arith in
-      knows-column leb number-order least (hitCount task) scoreAt (bestAfter task (suc q)) j m
+      knows-column (orderOf task) (task-order task) least (hitCount task) scoreAt (bestAfter task (suc q)) j m
       (after-cell q (suc j) (suc j) (le-refl (suc j)) m g (known q (suc j) (suc j) (le-refl (suc j)) m g))
   known (suc q) (suc i) j a l e =
       let f : suc (place (hitCount task) i j) ≡ suc q = sym (place-row (hitCount task) i j) ∙ e in

@@ -1,5 +1,5 @@
 -- The cells of a column in the words of a session, passed by the rule.
-pub mod Linear
+pub mod Scores
 pub mod Knowing
 pub mod CellTests
 pub mod Chunk

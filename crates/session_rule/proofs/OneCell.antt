@@ -5,16 +5,14 @@ use mathlib.Core.Path.{_≡_, refl, sym, ap, _∙_, subst}
 use mathlib.Core.Logic.{_⊎_, inl, inr}
 use mathlib.Core.Bool.{Bool, true, false}
 use mathlib.Core.List.{List}
-use lib.Dec.{leb, ltb}
+use lib.Dec.{ltb}
 use lib.ListN.{length, getD, set, length-set}
 use lib.Seq.{getD-set-same, getD-set-other}
-use lib.Signed.{mag}
 use borrow.Author.Tests.{ltb-true, ltb-false}
 use Rattle.base.specs.Limits.{hitLimit}
 use Rattle.base.specs.Lists.{bit}
 use Rattle.base.proofs.Lists.{eq-or-ne}
-use Rattle.mappings.specs.Score.{Task}
-use Rattle.mappings.specs.Bias.{bias}
+use Rattle.mappings.specs.Score.{Task, ThresholdFits}
 use Rattle.mappings.specs.Cells.{hitCount}
 use Rattle.mappings.specs.FinalTest.{isFinalCell}
 use Rattle.mappings.specs.HitCodes.{hitCodes}
@@ -22,13 +20,13 @@ use Rattle.mappings.proofs.Cells.{cellAt}
 use Rattle.mappings.proofs.Range.{Limited}
 use Rattle.session_words.specs.Layout.{blockRows, blockCount}
 use Rattle.session_records.specs.Records.{greater, highestBefore, blockTop}
-use Rattle.session_records.proofs.Numbers.{number-order}
 use Rattle.session_records.proofs.Greater.{greater-first, greater-second}
 use Rattle.session_records.proofs.Highest.{before-suc}
 use Rattle.session_records.proofs.Recorded.{record-own, record-top, other-top, recorded, unrecorded}
 use Rattle.session_start.specs.Tables.{reach}
-use Rattle.session_start.specs.WorkWords.{bestAfter}
-use Rattle.session_start.proofs.WorkWords.{length-bestAfter}
+use Rattle.session_start.specs.ScoreWords.{byFractions}
+use Rattle.session_start.specs.WorkWords.{orderOf, bestAfter}
+use Rattle.session_start.proofs.WorkWords.{task-order, length-bestAfter}
 use Rattle.session_cells.specs.Passing.{reachAt, bestAt, topAt, startAt, lowered, lineScore, inReach, entered, candidateTest}
 use Rattle.session_rule.specs.Lines.{sessionLine, sharedAt}
 use Rattle.session_rule.proofs.Knowing.{scoreAt, least, best-next}
@@ -46,7 +44,7 @@ other-block i b n = go (ltb i (b * blockRows)) refl
     go true e = inl (ltb-true i (b * blockRows) e)
     go false e = inr (let l : b * blockRows ≤ i = ltb-false i (b * blockRows) e in omega arith)
 
-module _ (task : Task) (limited : Limited task) (threshold-fits : mag (task .threshold) < bias) (small : hitCount task ≤ hitLimit)
+module _ (task : Task) (limited : Limited task) (threshold-fits : ThresholdFits (task .scoring)) (small : hitCount task ≤ hitLimit)
     (j i q m highest : ℕ) (part : List ℕ) (a : i ≤ j) (l : j < hitCount task) (at : At task j i q m highest part) where
   row-in : i < hitCount task
   row-in = omega arith
@@ -59,20 +57,20 @@ module _ (task : Task) (limited : Limited task) (threshold-fits : mag (task .thr
   score = lineScore (sessionLine task j) m (getD part i 0)
 
   abbrev pub seen : ℕ
-  seen = greater leb highest (getD part (bestAt i) 0)
+  seen = greater (orderOf task) highest (getD part (bestAt i) 0)
 
   abbrev pub one : ℕ
   one = inReach (sessionLine task j) part i
 
   -- the rows up to i have seen this
   abbrev top : ℕ
-  top = highestBefore leb (least task) (bestAfter task q) (suc i)
+  top = highestBefore (orderOf task) (least task) (bestAfter task q) (suc i)
 
   score-at : score ≡ scoreAt task i j
-  score-at = rw (at .known a .0, at .holds .index-word i row-in) (score-is task limited i j a l)
+  score-at = rw (at .known a .0, at .holds .index-word i row-in) (score-is task limited small i j a l)
 
   seen-at : seen ≡ top
-  seen-at = rw (at .known a .1, at .holds .best-word i row-in) (sym (before-suc leb number-order (least task) (bestAfter task q) i in-best))
+  seen-at = rw (at .known a .1, at .holds .best-word i row-in) (sym (before-suc (orderOf task) (task-order task) (least task) (bestAfter task q) i in-best))
 
   pub one-reach : one ≡ bit (ltb j (reach (task .pattern) (hitCodes task) i))
   unfolding inReach
@@ -81,36 +79,36 @@ module _ (task : Task) (limited : Limited task) (threshold-fits : mag (task .thr
   pub m-next : lowered m one ≡ sharedAt task (suc i) j
   m-next = rw (at .known a .0, one-reach) (shared-next task limited i j a l)
 
-  pub test-at : candidateTest seen score one (sessionLine task j .back) i ≡ isFinalCell task (cellAt i j)
+  pub test-at : candidateTest (byFractions (task .scoring)) seen score one (sessionLine task j .back) i ≡ isFinalCell task (cellAt i j)
   test-at = rw (seen-at, score-at, one-reach) (final-test task limited threshold-fits i j a l q (at .place-is))
 
   -- ---- a record, or none
 
-  same-best : leb (scoreAt task i j) top ≡ true → bestAfter task (suc q) ≡ bestAfter task q
-  same-best t = best-next task i j q a l (at .place-is) ∙ unrecorded leb number-order (least task) (bestAfter task q) i (scoreAt task i j) t
+  same-best : orderOf task (scoreAt task i j) top ≡ true → bestAfter task (suc q) ≡ bestAfter task q
+  same-best t = best-next task i j q a l (at .place-is) ∙ unrecorded (orderOf task) (task-order task) (least task) (bestAfter task q) i (scoreAt task i j) t
 
-  set-best : leb (scoreAt task i j) top ≡ false → bestAfter task (suc q) ≡ set (bestAfter task q) i (scoreAt task i j)
-  set-best t = best-next task i j q a l (at .place-is) ∙ recorded leb number-order (least task) (bestAfter task q) i (scoreAt task i j) t
+  set-best : orderOf task (scoreAt task i j) top ≡ false → bestAfter task (suc q) ≡ set (bestAfter task q) i (scoreAt task i j)
+  set-best t = best-next task i j q a l (at .place-is) ∙ recorded (orderOf task) (task-order task) (least task) (bestAfter task q) i (scoreAt task i j) t
 
   -- what the rows up to i have seen then
-  pub seen-next : greater leb seen score ≡ highestBefore leb (least task) (bestAfter task (suc q)) (suc i)
-  seen-next = rw (seen-at, score-at) (go (leb (scoreAt task i j) top) refl)
+  pub seen-next : greater (orderOf task) seen score ≡ highestBefore (orderOf task) (least task) (bestAfter task (suc q)) (suc i)
+  seen-next = rw (seen-at, score-at) (go (orderOf task (scoreAt task i j) top) refl)
     where
-      go : (b : Bool) → leb (scoreAt task i j) top ≡ b
-          → greater leb top (scoreAt task i j) ≡ highestBefore leb (least task) (bestAfter task (suc q)) (suc i)
-      go true t = rw (same-best t) (greater-first leb number-order top (scoreAt task i j) t)
+      go : (b : Bool) → orderOf task (scoreAt task i j) top ≡ b
+          → greater (orderOf task) top (scoreAt task i j) ≡ highestBefore (orderOf task) (least task) (bestAfter task (suc q)) (suc i)
+      go true t = rw (same-best t) (greater-first (orderOf task) (task-order task) top (scoreAt task i j) t)
       go false t =
           rw (set-best t)
-          (greater-second leb number-order top (scoreAt task i j) t
-          ∙ sym (record-own leb number-order (least task) (bestAfter task q) i (scoreAt task i j) in-best t))
+          (greater-second (orderOf task) (task-order task) top (scoreAt task i j) t
+          ∙ sym (record-own (orderOf task) (task-order task) (least task) (bestAfter task q) i (scoreAt task i j) in-best t))
 
   -- the part with the record in it
-  module _ (t : leb (scoreAt task i j) top ≡ false) where
+  module _ (t : orderOf task (scoreAt task i j) top ≡ false) where
     abbrev block : ℕ
     block = i / blockRows
 
     abbrev raised : ℕ
-    raised = greater leb (scoreAt task i j) (getD part (topAt block) 0)
+    raised = greater (orderOf task) (scoreAt task i j) (getD part (topAt block) 0)
 
     abbrev inner : List ℕ
     inner = set part (bestAt i) (scoreAt task i j)
@@ -138,20 +136,22 @@ module _ (task : Task) (limited : Limited task) (threshold-fits : mag (task .thr
             ∙ at .holds .best-word r k
             ∙ sym (getD-set-other (bestAfter task q) i r (scoreAt task i j) 0 n)
 
-    top-words : (b : ℕ) → b < blockCount (hitCount task) → getD outer (topAt b) 0 ≡ blockTop leb (set (bestAfter task q) i (scoreAt task i j)) b
+    top-words : (b : ℕ) → b < blockCount (hitCount task)
+        → getD outer (topAt b) 0 ≡ blockTop (orderOf task) (set (bestAfter task q) i (scoreAt task i j)) b
     top-words b k = go (eq-or-ne b block)
       where
-        go : (b ≡ block) ⊎ (b ≡ block → ⊥) → getD outer (topAt b) 0 ≡ blockTop leb (set (bestAfter task q) i (scoreAt task i j)) b
+        go : (b ≡ block) ⊎ (b ≡ block → ⊥) → getD outer (topAt b) 0 ≡ blockTop (orderOf task) (set (bestAfter task q) i (scoreAt task i j)) b
         go (inl e) =
             let long : topAt block < length inner = rw (length-set part (bestAt i) (scoreAt task i j), at .holds .number) (omega (arith, few-blocks)) in
             rw e
             (getD-set-same inner (topAt block) raised 0 long
-            ∙ ap (greater leb (scoreAt task i j)) (at .holds .top-word block few-blocks)
-            ∙ sym (record-top leb number-order (least task) (bestAfter task q) i (scoreAt task i j) in-best t block (in-block i .0) (in-block i .1)))
+            ∙ ap (greater (orderOf task) (scoreAt task i j)) (at .holds .top-word block few-blocks)
+            ∙ sym (record-top (orderOf task) (task-order task) (least task) (bestAfter task q) i (scoreAt task i j) in-best t block
+            (in-block i .0) (in-block i .1)))
         go (inr n) =
             other-word (topAt b) (λ f. omega arith) (λ f. n (omega arith))
             ∙ at .holds .top-word b k
-            ∙ sym (other-top leb number-order (bestAfter task q) i (scoreAt task i j) b (other-block i b n))
+            ∙ sym (other-top (orderOf task) (task-order task) (bestAfter task q) i (scoreAt task i j) b (other-block i b n))
 
     record-holds : PartHolds task j (suc q) outer
     record-holds = record {
@@ -176,14 +176,15 @@ module _ (task : Task) (limited : Limited task) (threshold-fits : mag (task .thr
 
   -- ---- the part afterwards
 
-  entered-at : entered part i score seen ≡ entered part i (scoreAt task i j) top
+  entered-at : entered (byFractions (task .scoring)) part i score seen ≡ entered (byFractions (task .scoring)) part i (scoreAt task i j) top
   entered-at = rw (score-at, seen-at)
 
-  pub holds-next : PartHolds task j (suc q) (entered part i score seen)
+  pub holds-next : PartHolds task j (suc q) (entered (byFractions (task .scoring)) part i score seen)
   unfolding entered
-  holds-next = subst (PartHolds task j (suc q)) (sym entered-at) (go (leb (scoreAt task i j) top) refl)
+  holds-next = subst (PartHolds task j (suc q)) (sym entered-at) (go (orderOf task (scoreAt task i j) top) refl)
     where
-      go : (b : Bool) → leb (scoreAt task i j) top ≡ b → PartHolds task j (suc q) (entered part i (scoreAt task i j) top)
+      go : (b : Bool) → orderOf task (scoreAt task i j) top ≡ b
+          → PartHolds task j (suc q) (entered (byFractions (task .scoring)) part i (scoreAt task i j) top)
       go true t = rw t (record {
         number = at .holds .number;
         index-word = at .holds .index-word;
@@ -194,10 +195,11 @@ module _ (task : Task) (limited : Limited task) (threshold-fits : mag (task .thr
       })
       go false t = rw t (record-holds t)
 
-  pub same-next : SameOutside task part (entered part i score seen)
+  pub same-next : SameOutside task part (entered (byFractions (task .scoring)) part i score seen)
   unfolding entered
-  same-next = subst (SameOutside task part) (sym entered-at) (go (leb (scoreAt task i j) top) refl)
+  same-next = subst (SameOutside task part) (sym entered-at) (go (orderOf task (scoreAt task i j) top) refl)
     where
-      go : (b : Bool) → leb (scoreAt task i j) top ≡ b → SameOutside task part (entered part i (scoreAt task i j) top)
+      go : (b : Bool) → orderOf task (scoreAt task i j) top ≡ b
+          → SameOutside task part (entered (byFractions (task .scoring)) part i (scoreAt task i j) top)
       go true t = rw t (λ n o o′. refl)
       go false t = rw t (record-same t)

@@ -6,12 +6,10 @@ use mathlib.Core.Bool.{Bool, true, false, cond, _&&_}
 use mathlib.Core.List.{List}
 use lib.Dec.{leb, ltb, eqb}
 use lib.ListN.{getD}
-use lib.Signed.{mag}
 use borrow.Author.Tests.{eqb-true, ltb-true, ltb-false}
 use Rattle.base.specs.Limits.{hitLimit}
 use Rattle.base.proofs.Lists.{clash, and-left, and-right}
-use Rattle.mappings.specs.Score.{Task}
-use Rattle.mappings.specs.Bias.{bias}
+use Rattle.mappings.specs.Score.{Task, ThresholdFits}
 use Rattle.mappings.specs.Cells.{hitCount}
 use Rattle.mappings.specs.FinalTest.{isFinalCell}
 use Rattle.mappings.specs.Places.{place}
@@ -19,6 +17,8 @@ use Rattle.mappings.proofs.Cells.{cellAt, place-row}
 use Rattle.mappings.proofs.Range.{Limited}
 use Rattle.mappings.proofs.Rule.{rule-found, rule-pass}
 use Rattle.session_records.specs.Records.{greater}
+use Rattle.session_start.specs.ScoreWords.{byFractions}
+use Rattle.session_start.specs.WorkWords.{orderOf}
 use Rattle.session_cells.specs.Passing.{bestAt, lowered, lineScore, inReach, entered, candidateTest, Update, passRows}
 use Rattle.session_cells.specs.Passing.{restEnd, skips, passRest, passBlocks}
 use Rattle.session_rule.specs.Lines.{sessionLine, sharedAt}
@@ -28,23 +28,25 @@ use Rattle.session_rule.proofs.OneCell.{m-next, one-reach, test-at, see
 use Rattle.session_rule.proofs.Skipping.{next-cell, rest-within, place-further, ends-within, skip-chunk}
 
 -- a candidate's left end is reasonable
-candidate-one : (top s b back i : ℕ) → candidateTest top s b back i ≡ true → b ≡ 1
+candidate-one : (task : Task) (top s b back i : ℕ) → candidateTest (byFractions (task .scoring)) top s b back i ≡ true → b ≡ 1
 unfolding candidateTest
-candidate-one top s b back i t = eqb-true b 1 (and-right (leb top s) (eqb b 1) (and-left (leb top s && eqb b 1) (leb back i) t))
+candidate-one task top s b back i t =
+    eqb-true b 1 (and-right (orderOf task top s) (eqb b 1) (and-left (orderOf task top s && eqb b 1) (leb back i) t))
 
 chosen : (b : Bool) (one other : Update) → b ≡ true → cond b one other ≡ one
 chosen true one other e = refl
 chosen false one other e = clash e refl
 
-module _ (task : Task) (limited : Limited task) (threshold-fits : mag (task .threshold) < bias) (small : hitCount task ≤ hitLimit)
+module _ (task : Task) (limited : Limited task) (threshold-fits : ThresholdFits (task .scoring)) (small : hitCount task ≤ hitLimit)
     (j : ℕ) (l : j < hitCount task) where
   -- ---- cell by cell
 
   -- behind a cell
   behind : (i q m highest : ℕ) (part : List ℕ) → i ≤ j → At task j i q m highest part
       → At task j (suc i) (suc q) (lowered m (inReach (sessionLine task j) part i))
-      (greater leb (greater leb highest (getD part (bestAt i) 0)) (lineScore (sessionLine task j) m (getD part i 0)))
-      (entered part i (lineScore (sessionLine task j) m (getD part i 0)) (greater leb highest (getD part (bestAt i) 0)))
+      (greater (orderOf task) (greater (orderOf task) highest (getD part (bestAt i) 0)) (lineScore (sessionLine task j) m (getD part i 0)))
+      (entered (byFractions (task .scoring)) part i (lineScore (sessionLine task j) m (getD part i 0))
+      (greater (orderOf task) highest (getD part (bestAt i) 0)))
   behind i q m highest part a at = record {
     place-is = place-row (hitCount task) i j ∙ ap suc (at .place-is);
     known = λ c. (
@@ -67,23 +69,24 @@ module _ (task : Task) (limited : Limited task) (threshold-fits : mag (task .thr
       s = lineScore (sessionLine task j) m (getD part i 0)
 
       known : ℕ
-      known = greater leb highest (getD part (bestAt i) 0)
+      known = greater (orderOf task) highest (getD part (bestAt i) 0)
 
       reasonable : ℕ
       reasonable = inReach (sessionLine task j) part i
 
       after : List ℕ
-      after = entered part i s known
+      after = entered (byFractions (task .scoring)) part i s known
 
-      go : (b : Bool) → isFinalCell task (cellAt i j) ≡ b → i ≤ j → At task j (suc i) (suc q) (lowered m reasonable) (greater leb known s) after
-          → Chunk task j (suc i) n (suc q) after (passRows (sessionLine task j) n (suc i) (lowered m reasonable) (greater leb known s) after)
+      go : (b : Bool) → isFinalCell task (cellAt i j) ≡ b → i ≤ j
+          → At task j (suc i) (suc q) (lowered m reasonable) (greater (orderOf task) known s) after
+          → Chunk task j (suc i) n (suc q) after (passRows (sessionLine task j) n (suc i) (lowered m reasonable) (greater (orderOf task) known s) after)
           → Chunk task j i (suc n) q part (passRows (sessionLine task j) (suc n) i m highest part)
       go true e a next later =
-          let t : candidateTest known s reasonable (sessionLine task j .back) i ≡ true =
+          let t : candidateTest (byFractions (task .scoring)) known s reasonable (sessionLine task j .back) i ≡ true =
           test-at task limited threshold-fits small j i q m highest part a l at ∙ e in
           let h : i + 0 ≡ i = omega arith in
           let g : q + 1 ≡ suc q = omega arith in
-          let r : reasonable ≡ 1 = candidate-one known s reasonable (sessionLine task j .back) i t in
+          let r : reasonable ≡ 1 = candidate-one task known s reasonable (sessionLine task j .back) i t in
           rw t
           (one-found 0 (suc-le-suc zero-le) refl (ap suc (sym h))
           (rw h (one-more a next r))
@@ -94,17 +97,17 @@ module _ (task : Task) (limited : Limited task) (threshold-fits : mag (task .thr
           (λ B. (let z : 1 + B ≡ suc B = omega arith in rw (z, h)
           (rule-found task q (cellAt i j) (next-cell task i j q a l (at .place-is)) B e))))
         where
-          one-more : i ≤ j → At task j (suc i) (suc q) (lowered m reasonable) (greater leb known s) after → reasonable ≡ 1
+          one-more : i ≤ j → At task j (suc i) (suc q) (lowered m reasonable) (greater (orderOf task) known s) after → reasonable ≡ 1
               → lowered m reasonable + 1 ≡ sharedAt task i j
           one-more a next r =
               rw (m-next task limited threshold-fits small j i q m highest part a l at)
               (shared-one task limited i j a l (sym (one-reach task limited threshold-fits small j i q m highest part a l at) ∙ r))
       go false e a next later =
-          let t : candidateTest known s reasonable (sessionLine task j .back) i ≡ false =
+          let t : candidateTest (byFractions (task .scoring)) known s reasonable (sessionLine task j .back) i ≡ false =
           test-at task limited threshold-fits small j i q m highest part a l at ∙ e in
           rw t
           (join task j i (suc i) 1 n (suc n) q (suc q) part after
-          (passRows (sessionLine task j) n (suc i) (lowered m reasonable) (greater leb known s) after) (omega arith) (omega arith) (omega arith)
+          (passRows (sessionLine task j) n (suc i) (lowered m reasonable) (greater (orderOf task) known s) after) (omega arith) (omega arith) (omega arith)
           (same-next task limited threshold-fits small j i q m highest part a l at)
           (λ B. (let z : 1 + B ≡ suc B = omega arith in rw z (rule-pass task q (cellAt i j) (next-cell task i j q a l (at .place-is)) B e)))
           later)
@@ -119,9 +122,9 @@ module _ (task : Task) (limited : Limited task) (threshold-fits : mag (task .thr
       go : (t : Bool) → skips (sessionLine task j) to i m highest part ≡ t
           → Chunk task j i (min (restEnd (sessionLine task j) i) to - i) q part (passRest (sessionLine task j) to i m highest part)
       go true t =
-          let w : restEnd (sessionLine task j) i ≤ to = ends-within task limited threshold-fits j i q m highest to part a l at t in
+          let w : restEnd (sessionLine task j) i ≤ to = ends-within task limited threshold-fits small j i q m highest to part a l at t in
           let e : min (restEnd (sessionLine task j) i) to ≡ restEnd (sessionLine task j) i = omega arith in
-          rw (t, e) (skip-chunk task limited threshold-fits j i q m highest to part a l at t)
+          rw (t, e) (skip-chunk task limited threshold-fits small j i q m highest to part a l at t)
       go false t = rw t (rows-chunk (min (restEnd (sessionLine task j) i) to - i) i q m highest part (omega (arith, rest-within task i j a)) at)
 
   pub blocks-chunk : (n to i q m highest : ℕ) (part : List ℕ) → i ≤ to → to ≤ suc j → to - i ≤ n → At task j i q m highest part

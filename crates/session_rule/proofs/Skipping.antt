@@ -6,11 +6,10 @@ use mathlib.Core.Bool.{Bool, true, false, not}
 use mathlib.Core.List.{List, _∷_}
 use lib.Dec.{leb}
 use lib.ListN.{length, getD, drop}
-use lib.Signed.{mag}
 use Rattle.base.proofs.Lists.{and-left, and-right}
 use borrow.Author.Tests.{leb-true}
-use Rattle.mappings.specs.Score.{Task}
-use Rattle.mappings.specs.Bias.{bias, biased}
+use Rattle.base.specs.Limits.{hitLimit}
+use Rattle.mappings.specs.Score.{Task, ThresholdFits}
 use Rattle.mappings.specs.Cells.{hits, hitCount, cellsOf}
 use Rattle.mappings.specs.FinalTest.{isFinalCell}
 use Rattle.mappings.specs.Places.{place}
@@ -22,15 +21,16 @@ use Rattle.mappings.proofs.Range.{Limited}
 use Rattle.mappings.proofs.Rule.{rule-pass, more-cells}
 use Rattle.session_words.specs.Layout.{blockRows}
 use Rattle.session_records.specs.Records.{greater, highestBefore}
-use Rattle.session_records.proofs.Numbers.{number-order}
 use Rattle.session_records.proofs.Blocks.{block-highest}
 use Rattle.session_records.proofs.Skipping.{bound as bound-law, unreached}
-use Rattle.session_start.specs.WorkWords.{bestAfter}
-use Rattle.session_cells.specs.Passing.{candidateTest, topAt, startAt, restEnd, bound, skips, skipped}
+use Rattle.session_start.specs.ScoreWords.{scoreWord}
+use Rattle.session_start.specs.WorkWords.{orderOf, bestAfter}
+use Rattle.session_start.proofs.WorkWords.{task-order}
+use Rattle.session_cells.specs.Passing.{orderIn, candidateTest, topAt, startAt, restEnd, bound, skips, skipped}
 use Rattle.session_rule.specs.Lines.{sessionLine, sharedAt}
-use Rattle.session_rule.proofs.Linear.{linear-monotone, line-score}
+use Rattle.session_rule.proofs.Scores.{words-monotone}
 use Rattle.session_rule.proofs.Knowing.{scoreAt, least, best-next}
-use Rattle.session_rule.proofs.CellTests.{shared-few, score-is, shared-falls, final-test}
+use Rattle.session_rule.proofs.CellTests.{shared-falls, score-with, score-by, final-test}
 use Rattle.session_rule.proofs.Chunk.{At, Chunk, all-passed, more-none}
 
 -- the cell with number q + 1
@@ -58,7 +58,7 @@ not-true : (b : Bool) → not b ≡ true → b ≡ false
 not-true true e = sym e
 not-true false e = refl
 
-module _ (task : Task) (limited : Limited task) (threshold-fits : mag (task .threshold) < bias)
+module _ (task : Task) (limited : Limited task) (threshold-fits : ThresholdFits (task .scoring)) (small : hitCount task ≤ hitLimit)
     (j i q m highest to : ℕ) (part : List ℕ) (a : i ≤ j) (l : j < hitCount task) (at : At task j i q m highest part)
     (skip : skips (sessionLine task j) to i m highest part ≡ true) where
   abbrev end : ℕ
@@ -66,7 +66,7 @@ module _ (task : Task) (limited : Limited task) (threshold-fits : mag (task .thr
 
   -- the bound, by the definitions
   abbrev most : ℕ
-  most = biased (task .u) (task .v) (length (task .pattern)) (sharedAt task i j) (suc (getD (hits task) j 0) - getD (hits task) (end - 1) 0)
+  most = scoreWord (task .scoring) (length (task .pattern)) (sharedAt task i j) (suc (getD (hits task) j 0) - getD (hits task) (end - 1) 0)
 
   last-in : end - 1 ≤ j
   last-in = omega (arith, rest-within task i j a)
@@ -75,27 +75,25 @@ module _ (task : Task) (limited : Limited task) (threshold-fits : mag (task .thr
   unfolding bound
   bound-is =
       rw (at .known a .0, at .holds .index-word (end - 1) (omega (arith, last-in)))
-      (line-score task limited (end - 1) j (sharedAt task i j) last-in l (shared-few task limited i j a l))
+      (score-with task limited small i (end - 1) j a last-in l)
 
   pub ends-within : end ≤ to
   unfolding skips
-  ends-within = leb-true end to (and-left (leb end to) (not (leb highest (bound (sessionLine task j) i m part))) skip)
+  ends-within = leb-true end to (and-left (leb end to) (not (orderIn (sessionLine task j) highest (bound (sessionLine task j) i m part))) skip)
 
-  low : leb (highestBefore leb (least task) (bestAfter task q) i) most ≡ false
+  low : orderOf task (highestBefore (orderOf task) (least task) (bestAfter task q) i) most ≡ false
   unfolding skips
   low =
       rw (bound-is, at .known a .1)
-      at (not-true (leb highest (bound (sessionLine task j) i m part))
-      (and-right (leb end to) (not (leb highest (bound (sessionLine task j) i m part))) skip))
+      at (not-true (orderOf task highest (bound (sessionLine task j) i m part))
+      (and-right (leb end to) (not (orderOf task highest (bound (sessionLine task j) i m part))) skip))
 
   -- each cell of the rest scores at most the bound
-  bounded : (k : ℕ) → i ≤ k → k < end → leb (scoreAt task k j) most ≡ true
+  bounded : (k : ℕ) → i ≤ k → k < end → orderOf task (scoreAt task k j) most ≡ true
   bounded k b c =
       let in-column : k ≤ j = omega (arith, last-in) in
-      let e : scoreAt task k j ≡ biased (task .u) (task .v) (length (task .pattern)) (sharedAt task k j) (suc (getD (hits task) j 0) - getD (hits task) k 0) =
-      sym (score-is task limited k j in-column l) ∙ line-score task limited k j (sharedAt task k j) in-column l (shared-few task limited k j in-column l) in
-      rw e
-      (bound-law leb number-order (linear-monotone (task .u) (task .v) (length (task .pattern))) (λ (r : ℕ). sharedAt task r j)
+      rw (score-by task limited k j in-column l)
+      (bound-law (orderOf task) (task-order task) (words-monotone (task .scoring) (length (task .pattern))) (λ (r : ℕ). sharedAt task r j)
       (λ (r : ℕ). getD (hits task) r 0) (getD (hits task) j 0) i k (end - 1)
       (λ r s p o. shared-falls task limited r s j p (omega (arith, last-in)) l)
       (λ r s p o. hit-at-most task r s p (omega (arith, last-in)))
@@ -116,8 +114,8 @@ module _ (task : Task) (limited : Limited task) (threshold-fits : mag (task .thr
       let inside : i + n ≤ j = omega (arith, last-in) in
       let here : place (hitCount task) (i + n) j ≡ q + n = place-further (hitCount task) i n j q (at .place-is) in
       let under = bounded (i + n) (omega arith) (omega arith) in
-      let u = unreached leb number-order (least task) (bestAfter task q) i (i + n) (scoreAt task (i + n) j) most (omega arith) under low in
-      let seen : leb (highestBefore leb (least task) (bestAfter task (q + n)) (suc (i + n))) (scoreAt task (i + n) j) ≡ false =
+      let u = unreached (orderOf task) (task-order task) (least task) (bestAfter task q) i (i + n) (scoreAt task (i + n) j) most (omega arith) under low in
+      let seen : orderOf task (highestBefore (orderOf task) (least task) (bestAfter task (q + n)) (suc (i + n))) (scoreAt task (i + n) j) ≡ false =
       rw (before .same-best) (u .1) in
       let not-final : isFinalCell task (cellAt (i + n) j) ≡ false =
       sym (final-test task limited threshold-fits (i + n) j inside l (q + n) here) ∙ rw seen in
@@ -159,7 +157,8 @@ module _ (task : Task) (limited : Limited task) (threshold-fits : mag (task .thr
       block = i / blockRows
 
       behind : end ≤ j → (getD part (startAt (block + 1)) 0 ≡ sharedAt task (i + (end - i)) j)
-          × (greater leb highest (getD part (topAt block) 0) ≡ highestBefore leb (least task) (bestAfter task (q + (end - i))) (i + (end - i)))
+          × (greater (orderOf task) highest (getD part (topAt block) 0)
+          ≡ highestBefore (orderOf task) (least task) (bestAfter task (q + (end - i))) (i + (end - i)))
       behind c =
           let w = rest-within task i j a in
           let b : end ≡ (block + 1) * blockRows = rest-block task i j c in
@@ -168,5 +167,5 @@ module _ (task : Task) (limited : Limited task) (threshold-fits : mag (task .thr
           let all = idle (end - i) (omega (arith, w)) in (
             rw e (at .holds .start-word (block + 1) (omega arith)),
             rw (e, f, all .same-best, at .known a .1, at .holds .top-word block (omega arith))
-                (sym (block-highest leb number-order (least task) (bestAfter task q) block i (omega arith) (omega arith))),
+                (sym (block-highest (orderOf task) (task-order task) (least task) (bestAfter task q) block i (omega arith) (omega arith))),
           )
