@@ -7,14 +7,20 @@ use lib.ListN.{length, take, drop, replicate}
 use lib.IntN.{pos, negsuc}
 use borrow.Author.Tests.{lt-ltb, le-ltb}
 use Rattle.base.specs.Replies.{accepted, refused}
-use Rattle.mappings.specs.Score.{Task}
+use Rattle.mappings.specs.declared.Scoring.the-variants.{Linear, Jaccard}
+use Rattle.mappings.specs.Score.{Task, taskWith}
 use Rattle.mappings.proofs.Compute.{mappings-compute}
 use Rattle.session_records.specs.Records.{greater, highestBefore, withRecord, blockTop}
+use Rattle.session_records.specs.Words.{fractionWord, numerator, denominator, atMost}
+use Rattle.session_start.specs.ScoreWords.{scoreWordOf}
 use Rattle.session_start.specs.WorkWords.{withCell, bestAfter, highestAfter, heading, topsAfter, startsAfter, tables, sessionWords}
-use Rattle.session_start.specs.Start.{badWeights, startReply, startWords}
+use Rattle.session_start.specs.Start.{badWeights, badFraction, startReply, startWords}
 
 abbrev task : ℕ → ℕ → List ℕ → List ℕ → Task
-task u v text pattern = record { text = text; pattern = pattern; u = u; v = v; threshold = pos 1 }
+task u v text pattern = taskWith text pattern (Linear u v (pos 1))
+
+abbrev jaccard : ℕ → ℕ → List ℕ → List ℕ → Task
+jaccard f g text pattern = taskWith text pattern (Jaccard f g)
 
 -- each refused call also breaks what is checked after it, or may
 pub record StartRefusals : Type 0 where
@@ -65,7 +71,7 @@ start-words = record { first-four = refl; beyond = refl; refused-same = λ befor
 
 -- two hits of a code that the pattern has once, threshold −5: cells (0, 1), (1, 1) and (0, 0), which score 0, 1 and 1
 abbrev twice : Task
-twice = record { text = 7 ∷ 7 ∷ []; pattern = 7 ∷ []; u = 1; v = 1; threshold = negsuc 4 }
+twice = taskWith (7 ∷ 7 ∷ []) (7 ∷ []) (Linear 1 1 (negsuc 4))
 
 -- what changes with the cells passed: a record in each cell's row, and the greatest of them in the block; m of the next cell's column, whose
 -- hits are 0 and 1, then 0, then none; and what the rows before the next cell have seen
@@ -77,5 +83,46 @@ pub record SessionWords : Type 0 where
   pub highest : map (highestAfter twice) (0 ∷ 1 ∷ 2 ∷ 3 ∷ []) ≡ 2147483643 ∷ 2147483648 ∷ 2147483643 ∷ 2147483643 ∷ []
 
 pub session-words : SessionWords
-unfolding mappings-compute greater highestBefore withRecord blockTop withCell bestAfter highestAfter topsAfter startsAfter
+unfolding mappings-compute greater highestBefore withRecord blockTop atMost scoreWordOf withCell bestAfter highestAfter topsAfter startsAfter
 session-words = record { best = refl; tops = refl; starts = refl; highest = refl }
+
+-- ---- the weighted Jaccard
+
+pub record JaccardStarts : Type 0 where
+  -- 17: g outside 1–1,000, or f over g, with any text, pattern and work words, so before 8 to 11
+  pub g-low : (text pattern : List ℕ) (lent : ℕ) → startReply (jaccard 0 0 text pattern) lent ≡ refused 17 []
+  pub g-high : (text pattern : List ℕ) (lent : ℕ) → startReply (jaccard 1 1001 text pattern) lent ≡ refused 17 []
+  pub f-over : (text pattern : List ℕ) (lent : ℕ) → startReply (jaccard 1000 999 text pattern) lent ≡ refused 17 []
+  pub text-long : (text pattern : List ℕ) (lent : ℕ) → 65535 < length text → startReply (jaccard 1 2 text pattern) lent ≡ refused 8 []
+  -- accepted: f = 0, though no weight may be 0; f = g
+  pub f-zero : startReply (jaccard 0 1 (7 ∷ []) (7 ∷ [])) 16384 ≡ accepted (1 ∷ [])
+  pub f-equal : startReply (jaccard 1000 1000 (7 ∷ []) (7 ∷ [])) 16384 ≡ accepted (1 ∷ [])
+
+pub jaccard-starts : JaccardStarts
+unfolding mappings-compute badFraction startReply
+jaccard-starts =
+    record {
+      g-low = λ text pattern lent. refl;
+      g-high = λ text pattern lent. refl;
+      f-over = λ text pattern lent. refl;
+      text-long = λ text pattern lent over. rw (lt-ltb 65535 (length text) over) refl;
+      f-zero = refl;
+      f-equal = refl;
+    }
+
+-- the two hits again, with a threshold of 0/1: their cells score 1/2, 1/1 and 1/1
+abbrev twice-jaccard : Task
+twice-jaccard = jaccard 0 1 (7 ∷ 7 ∷ []) (7 ∷ [])
+
+-- words 0 to 10 of a fresh session: f and g in words 1 and 2, 1 in word 4, f/g in words 6 and 10, the least word for 0/g; and records of
+-- fractions
+pub record JaccardWords : Type 0 where
+  pub fresh : heading (jaccard 3 5 (7 ∷ 8 ∷ 7 ∷ []) (7 ∷ 9 ∷ [])) 0
+      ≡ 2 ∷ 3 ∷ 5 ∷ 0 ∷ 1 ∷ 2 ∷ 6291450 ∷ 2 ∷ 0 ∷ 1 ∷ 6291450 ∷ []
+  pub fresh-zero : heading twice-jaccard 0 ≡ 2 ∷ 0 ∷ 1 ∷ 0 ∷ 1 ∷ 1 ∷ 0 ∷ 2 ∷ 0 ∷ 1 ∷ 0 ∷ []
+  pub best : map (bestAfter twice-jaccard) (0 ∷ 1 ∷ 2 ∷ 3 ∷ [])
+      ≡ (0 ∷ 0 ∷ []) ∷ (2097149 ∷ 0 ∷ []) ∷ (2097149 ∷ 2097150 ∷ []) ∷ (2097150 ∷ 2097150 ∷ []) ∷ []
+
+pub jaccard-words : JaccardWords
+unfolding mappings-compute greater highestBefore withRecord fractionWord numerator denominator atMost scoreWordOf withCell bestAfter highestAfter heading
+jaccard-words = record { fresh = refl; fresh-zero = refl; best = refl }

@@ -5,12 +5,11 @@ use native.Mathlib.Omega.{arith}
 use mathlib.Core.Path.{_≡_, refl, sym, ap, ap₂, _∙_}
 use mathlib.Core.Logic.{inl, inr}
 use mathlib.Core.List.{List}
-use lib.Dec.{leb}
 use lib.ListN.{length, getD, replicate, length-replicate, getD-replicate}
 use lib.Seq.{sets}
 use borrow.Author.Tests.{lt-ltb}
 use Rattle.base.specs.Limits.{hitLimit, workWords}
-use Rattle.mappings.specs.Bias.{biasedZ}
+use Rattle.mappings.specs.declared.Scoring.{Scoring}
 use Rattle.mappings.specs.Score.{Task}
 use Rattle.mappings.specs.Cells.{hits, hitCount}
 use Rattle.mappings.specs.HitCodes.{hitCodes}
@@ -19,14 +18,14 @@ use Rattle.session_words.specs.Layout.{backFrom, indexFrom, reachFrom, bestFrom
 use Rattle.session_records.specs.Records.{blockTop}
 use Rattle.session_records.proofs.Highest.{before-none}
 use Rattle.session_records.proofs.Blocks.{no-top}
+use Rattle.session_start.specs.ScoreWords.{thresholdWord}
 use Rattle.session_start.specs.Tables.{reach, back, startOf}
-use Rattle.session_start.specs.WorkWords.{columnsLeft, nextRow, nextShared, bestAfter, highestAfter, sessionWords}
+use Rattle.session_start.specs.WorkWords.{columnsLeft, nextRow, nextShared, orderOf, bestAfter, highestAfter, sessionWords}
 use Rattle.session_start.specs.Noting.{backs, reaches, HoldsReach, starts, freshHeading, Prepared}
-use Rattle.session_records.proofs.Numbers.{number-order}
 use Rattle.session_start.proofs.Storing.{Put, put-at}
 use Rattle.session_start.proofs.Reaching.{length-backs, getD-backs, length-reaches}
 use Rattle.session_start.proofs.BlockStarts.{length-starts, getD-starts}
-use Rattle.session_start.proofs.WorkWords.{Outside, Free, hold-words, getD-table}
+use Rattle.session_start.proofs.WorkWords.{Outside, Free, task-order, hold-words, getD-table}
 
 -- ---- the place of a fresh session
 
@@ -43,9 +42,11 @@ shared-none : (task : Task) (h : ℕ) → hitCount task ≡ h → startOf (task 
 shared-none task zero e = refl
 shared-none task (suc j) e = sym (cell-shared task 0 j zero-le (omega arith))
 
-highest-none : (task : Task) → biasedZ (task .threshold) ≡ highestAfter task 0
+highest-none : (task : Task) → thresholdWord (task .scoring) ≡ highestAfter task 0
 unfolding highestAfter
-highest-none task = rw (row-none (hitCount task)) (sym (before-none leb number-order (biasedZ (task .threshold)) (bestAfter task 0)))
+highest-none task =
+    rw (row-none (hitCount task))
+    (sym (before-none (orderOf task) (task-order task) (thresholdWord (task .scoring)) (bestAfter task 0)))
 
 -- ---- all tables
 
@@ -70,7 +71,7 @@ module _ (task : Task) where
   g = hitCodes task
 
   abbrev heading : List ℕ
-  heading = freshHeading h (task .u) (task .v) (length p) (biasedZ (task .threshold)) (startOf p g h 0)
+  heading = freshHeading (task .scoring) h (length p) (startOf p g h 0)
 
   length-g : length g ≡ h
   length-g = length-hitCodes task
@@ -141,13 +142,13 @@ module _ (task : Task) where
     unfolding bestAfter
     best-at i l = past₆ (bestFrom + i) (omega arith) (inl (omega arith)) ∙ puts .put-best .inside i (rw best-long l)
 
-    tops-at : (b : ℕ) → b < blockCount h → getD w₇ (topsFrom + b) 0 ≡ blockTop leb (bestAfter task 0) b
+    tops-at : (b : ℕ) → b < blockCount h → getD w₇ (topsFrom + b) 0 ≡ blockTop (orderOf task) (bestAfter task 0) b
     unfolding bestAfter
     tops-at b l =
         past₇ (topsFrom + b) (omega arith)
         ∙ puts .put-tops .inside b (rw tops-long l)
         ∙ getD-replicate (blockCount h) b 0 0 l
-        ∙ sym (no-top leb number-order h b)
+        ∙ sym (no-top (orderOf task) (task-order task) h b)
 
     starts-at : (b : ℕ) → b ≤ blockCount h → getD w₇ (startsFrom + b) 0 ≡ startOf p g (columnsLeft h 0) b
     starts-at b l =
@@ -171,8 +172,8 @@ module _ (task : Task) where
             ∙ puts .put-index .same-length
             ∙ puts .put-back .same-length;
         h-word = head-at 0 (omega arith);
-        u-word = head-at 1 (omega arith);
-        v-word = head-at 2 (omega arith);
+        first-word = head-at 1 (omega arith);
+        second-word = head-at 2 (omega arith);
         kind-word = head-at 4 (omega arith);
         size-word = head-at 5 (omega arith);
         threshold-word = head-at 6 (omega arith);
@@ -194,8 +195,8 @@ module _ (task : Task) where
 -- ---- from what start has at hand
 
 -- the tables, stored one after the other; starts are told by what is in reach's place
-pub record Stores (task : Task) (u v size threshold m : ℕ) (index noted old w₁ w₂ w₃ w₄ w₅ w₆ w₇ : List ℕ) : Type 0 where
-  pub ready : Prepared task u v size threshold index noted
+pub record Stores (task : Task) (scoring : Scoring) (size m : ℕ) (index noted old w₁ w₂ w₃ w₄ w₅ w₆ w₇ : List ℕ) : Type 0 where
+  pub ready : Prepared task scoring size index noted
   pub back-table : w₁ ≡ sets old backFrom noted
   pub index-table : w₂ ≡ sets w₁ indexFrom index
   pub reach-table : w₃ ≡ sets w₂ reachFrom (reaches (task .pattern) (hitCodes task))
@@ -203,10 +204,10 @@ pub record Stores (task : Task) (u v size threshold m : ℕ) (index noted old w�
       → (m ≡ startOf p g (length index) 0) × (w₄ ≡ sets w₃ startsFrom (starts p g))
   pub best-table : w₅ ≡ sets w₄ bestFrom (replicate (length index) 0)
   pub tops-table : w₆ ≡ sets w₅ topsFrom (replicate (blockCount (length index)) 0)
-  pub heading-table : w₇ ≡ sets w₆ 0 (freshHeading (length index) u v size threshold m)
+  pub heading-table : w₇ ≡ sets w₆ 0 (freshHeading scoring (length index) size m)
 
-module _ (task : Task) (u v size threshold m : ℕ) (index noted old w₁ w₂ w₃ w₄ w₅ w₆ w₇ : List ℕ) where
-  pub stores-session : Stores task u v size threshold m index noted old w₁ w₂ w₃ w₄ w₅ w₆ w₇
+module _ (task : Task) (scoring : Scoring) (size m : ℕ) (index noted old w₁ w₂ w₃ w₄ w₅ w₆ w₇ : List ℕ) where
+  pub stores-session : Stores task scoring size m index noted old w₁ w₂ w₃ w₄ w₅ w₆ w₇
       → length index ≤ hitLimit → workWords ≤ length old
       → w₇ ≡ sessionWords task old 0
   stores-session stores few many =
@@ -264,7 +265,7 @@ module _ (task : Task) (u v size threshold m : ℕ) (index noted old w₁ w₂ w
       shared-is : m ≡ startOf (task .pattern) (hitCodes task) (hitCount task) 0
       shared-is = begun .0 ∙ ap (λ (k : ℕ). startOf (task .pattern) (hitCodes task) k 0) n
 
-      same-heading : freshHeading (length index) u v size threshold m ≡ heading task
+      same-heading : freshHeading scoring (length index) size m ≡ heading task
       same-heading = let r = stores .ready in cc (n, shared-is)
 
       p₇ : Put 0 (heading task) w₆ w₇

@@ -14,19 +14,20 @@ use borrow.Author.Tests.{le-leb, lt-leb, lt-ltb, le-ltb, leb-true, leb-false, lt
 use Rattle.base.specs.Limits.{hitLimit, workWords}
 use Rattle.base.specs.Lists.{range}
 use Rattle.base.proofs.Lists.{length-range, getD-range}
-use Rattle.mappings.specs.Bias.{biasedOf, biasedZ}
 use Rattle.mappings.specs.Score.{Task}
 use Rattle.mappings.specs.Cells.{Cell, hits, hitCount, cellsOf, leftEnd, rightEnd}
 use Rattle.mappings.specs.HitCodes.{hitCodes}
-use Rattle.session_words.specs.FirstWords.{hitsAt, uAt, vAt, passedAt}
-use Rattle.session_words.specs.Layout.{kindAt, sizeAt, thresholdAt, columnsAt, rowAt, mAt, highestAt}
+use Rattle.session_words.specs.FirstWords.{hitsAt, uAt, vAt, passedAt, kindAt}
+use Rattle.session_words.specs.Layout.{sizeAt, thresholdAt, columnsAt, rowAt, mAt, highestAt}
 use Rattle.session_words.specs.Layout.{backFrom, indexFrom, reachFrom, bestFrom, blockCount, topsFrom, startsFrom}
 use Rattle.session_records.specs.Records.{blockTop}
+use Rattle.session_records.specs.Order.{Preorder}
 use Rattle.session_records.proofs.Recorded.{length-withRecord}
+use Rattle.session_records.proofs.Words.{word-order}
+use Rattle.session_start.specs.ScoreWords.{byFractions, thresholdWord, scoreWordOf, firstNumber, secondNumber, kindNumber}
 use Rattle.session_start.specs.Tables.{reach, back, startOf}
-use Rattle.session_start.specs.WorkWords.{columnsLeft, nextRow, nextShared, withCell, withCells, bestAfter, highestAfter, topsAfter, startsAfter}
-use Rattle.session_start.specs.WorkWords.{heading, Table, tables, wordIn, sessionWords}
-use Rattle.session_records.proofs.Numbers.{number-order}
+use Rattle.session_start.specs.WorkWords.{columnsLeft, nextRow, nextShared, orderOf, withCell, withCells, bestAfter, highestAfter}
+use Rattle.session_start.specs.WorkWords.{topsAfter, startsAfter, heading, Table, tables, wordIn, sessionWords}
 
 -- index n lies outside the h words of a table that begins here
 abbrev pub Outside : ℕ → ℕ → ℕ → Type 0
@@ -46,16 +47,16 @@ pub record Free (h n : ℕ) : Type 0 where
 pub record HoldsTables (task : Task) (before : List ℕ) (q n : ℕ) (work : List ℕ) : Type 0 where
   pub number : length work ≡ length before
   pub h-word : getD work hitsAt 0 ≡ hitCount task
-  pub u-word : getD work uAt 0 ≡ task .u
-  pub v-word : getD work vAt 0 ≡ task .v
-  pub kind-word : getD work kindAt 0 ≡ 0
+  pub first-word : getD work uAt 0 ≡ firstNumber (task .scoring)
+  pub second-word : getD work vAt 0 ≡ secondNumber (task .scoring)
+  pub kind-word : getD work kindAt 0 ≡ kindNumber (task .scoring)
   pub size-word : getD work sizeAt 0 ≡ length (task .pattern)
-  pub threshold-word : getD work thresholdAt 0 ≡ biasedZ (task .threshold)
+  pub threshold-word : getD work thresholdAt 0 ≡ thresholdWord (task .scoring)
   pub back-word : (i : ℕ) → i < hitCount task → getD work (backFrom + i) 0 ≡ back (task .pattern) (hitCodes task) i
   pub index-word : (i : ℕ) → i < hitCount task → getD work (indexFrom + i) 0 ≡ getD (hits task) i 0
   pub reach-word : (i : ℕ) → i < hitCount task → getD work (reachFrom + i) 0 ≡ reach (task .pattern) (hitCodes task) i
   pub best-word : (i : ℕ) → i < hitCount task → getD work (bestFrom + i) 0 ≡ getD (bestAfter task q) i 0
-  pub tops-word : (b : ℕ) → b < blockCount (hitCount task) → getD work (topsFrom + b) 0 ≡ blockTop leb (bestAfter task q) b
+  pub tops-word : (b : ℕ) → b < blockCount (hitCount task) → getD work (topsFrom + b) 0 ≡ blockTop (orderOf task) (bestAfter task q) b
   pub starts-word : (b : ℕ) → b ≤ blockCount (hitCount task) → getD work (startsFrom + b) 0 ≡ startOf (task .pattern) (hitCodes task) n b
   pub free-word : (n : ℕ) → Free (hitCount task) n → getD work n 0 ≡ getD before n 0
 
@@ -100,12 +101,17 @@ out-table table rest old n k e (inr b) = go (leb (table .begins) n)
     go true = rw (e, le-ltb n (table .begins + k) b)
     go false = refl
 
+-- what is asked of the order of the score words
+pub task-order : (task : Task) → Preorder (orderOf task)
+task-order task = word-order (byFractions (task .scoring))
+
 length-withCells : (task : Task) (best : List ℕ) (cells : List Cell) → length (withCells task best cells) ≡ length best
 unfolding withCell
 length-withCells task best [] = refl
 length-withCells task best (cell ∷ cells) =
     length-withCells task (withCell task best cell) cells
-    ∙ length-withRecord leb number-order (biasedZ (task .threshold)) best (cell .row) (biasedOf task (leftEnd task cell) (rightEnd task cell))
+    ∙ length-withRecord (orderOf task) (task-order task) (thresholdWord (task .scoring)) best (cell .row)
+    (scoreWordOf task (leftEnd task cell) (rightEnd task cell))
 
 pub length-bestAfter : (task : Task) (q : ℕ) → length (bestAfter task q) ≡ hitCount task
 unfolding bestAfter
@@ -181,7 +187,7 @@ module _ (task : Task) (q : ℕ) where
 
   tops-number : length (topsAfter task q) ≡ blockCount h
   unfolding topsAfter
-  tops-number = length-table (blockTop leb (bestAfter task q)) (blockCount h)
+  tops-number = length-table (blockTop (orderOf task) (bestAfter task q)) (blockCount h)
 
   starts-number : length (startsAfter task q) ≡ suc (blockCount h)
   unfolding startsAfter
@@ -261,12 +267,12 @@ module _ (task : Task) (q : ℕ) where
     at-best : (i : ℕ) → i < h → wordIn (tables task q) old (bestFrom + i) ≡ getD (bestAfter task q) i 0
     at-best i l = to-best old (bestFrom + i) small (omega arith) ∙ in-table table₄ behind₄ old h i (length-bestAfter task q) l
 
-    at-tops : (b : ℕ) → b < blockCount h → wordIn (tables task q) old (topsFrom + b) ≡ blockTop leb (bestAfter task q) b
+    at-tops : (b : ℕ) → b < blockCount h → wordIn (tables task q) old (topsFrom + b) ≡ blockTop (orderOf task) (bestAfter task q) b
     unfolding topsAfter
     at-tops b l =
         to-tops old (topsFrom + b) small (omega arith)
         ∙ in-table table₅ behind₅ old (blockCount h) b tops-number l
-        ∙ getD-table (blockTop leb (bestAfter task q)) (blockCount h) b l
+        ∙ getD-table (blockTop (orderOf task) (bestAfter task q)) (blockCount h) b l
 
     at-starts : (b : ℕ) → b ≤ blockCount h → wordIn (tables task q) old (startsFrom + b) ≡ startOf p g (columnsLeft h q) b
     unfolding startsAfter
@@ -305,8 +311,8 @@ module _ (task : Task) (before : List ℕ) (q : ℕ) (small : hitCount task ≤ 
     held = record {
       number = session-number;
       h-word = head-word 0 (omega arith);
-      u-word = head-word 1 (omega arith);
-      v-word = head-word 2 (omega arith);
+      first-word = head-word 1 (omega arith);
+      second-word = head-word 2 (omega arith);
       kind-word = head-word 4 (omega arith);
       size-word = head-word 5 (omega arith);
       threshold-word = head-word 6 (omega arith);
@@ -329,8 +335,8 @@ module _ (task : Task) (before : List ℕ) (q : ℕ) (small : hitCount task ≤ 
     same-heading : (n : ℕ) → n < 11 → getD work n 0 ≡ getD (heading task q) n 0
     unfolding heading
     same-heading zero l = held .held .h-word
-    same-heading (suc zero) l = held .held .u-word
-    same-heading (suc (suc zero)) l = held .held .v-word
+    same-heading (suc zero) l = held .held .first-word
+    same-heading (suc (suc zero)) l = held .held .second-word
     same-heading (suc (suc (suc zero))) l = held .passed-word
     same-heading (suc (suc (suc (suc zero)))) l = held .held .kind-word
     same-heading (suc (suc (suc (suc (suc zero))))) l = held .held .size-word

@@ -1,7 +1,12 @@
 // Tables of words: arrays of zeros, and tables of the work words, each written from an index of its own: one word again and again,
 // a copy, and the heading.
+use crate::threshold::first_number;
+use crate::threshold::kind_number;
+use crate::threshold::second_number;
+use crate::threshold::threshold_word;
 use base::HIT_LIMIT;
 use base::PATTERN_LIMIT;
+use mappings::Scoring;
 use session_words::COLUMNS;
 use session_words::HIGHEST;
 use session_words::HITS;
@@ -14,12 +19,13 @@ use session_words::THRESHOLD;
 use session_words::U;
 use session_words::V;
 ghost use mathlib.Core.Path.{_≡_};
+ghost use mathlib.Core.Bool.{false};
 ghost use Prim.Native.Nat.{_+_, _≤_};
 ghost use lib.ListN.{length, replicate};
 ghost use lib.Seq.{sets};
 ghost use Rattle.base.specs.Limits.{hitLimit, patternLimit};
 ghost use Rattle.base.specs.Zeros.{zeros};
-ghost use Rattle.session_start.specs.Noting.{freshHeading};
+ghost use Rattle.session_start.specs.Noting.{badScoring, freshHeading};
 
 pub(crate) fn hit_zeros() -> [u32; HIT_LIMIT]
     ensures { λ r. ⌜ (hitLimit ≡ length r) × (r ≡ zeros hitLimit) ⌝ }
@@ -56,23 +62,19 @@ pub(crate) fn put_table(words: &[u32], at: usize, work: &mut [u32])
     }
 }
 
-pub(crate) fn put_heading(
-    h: u32,
-    u: u32,
-    v: u32,
-    size: u32,
-    threshold: u32,
-    shared: u32,
-    work: &mut [u32],
-)
-    requires { ⌜ 11 ≤ length (now work) ⌝ }
-    ensures { λ _. ⌜ now (work .exit) ≡ sets (now (work .entry)) 0 (freshHeading h u v size threshold shared) ⌝ }
+pub(crate) fn put_heading(scoring: Scoring, h: u32, size: u32, shared: u32, work: &mut [u32])
+    requires { ⌜ (11 ≤ length (now work)) × (badScoring scoring ≡ false) ⌝ }
+    ensures { λ _. ⌜ now (work .exit) ≡ sets (now (work .entry)) 0 (freshHeading scoring h size shared) ⌝ }
 {
+    let first = first_number(scoring);
+    let second = second_number(scoring);
+    let kind = kind_number(scoring);
+    let threshold = threshold_word(scoring);
     work[HITS] = h;
-    work[U] = u;
-    work[V] = v;
+    work[U] = first;
+    work[V] = second;
     work[PASSED] = 0;
-    work[KIND] = 0;
+    work[KIND] = kind;
     work[SIZE] = size;
     work[THRESHOLD] = threshold;
     work[COLUMNS] = h;

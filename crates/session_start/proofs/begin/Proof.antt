@@ -1,14 +1,6 @@
 -- `begin` meets its contract.
 use borrow.Author.Needs.{needs}
 use Rattle.base.specs.Limits.{patternLimit}
-use Rattle.mappings.specs.Score.{taskWith}
-use Rattle.session_start.specs.Answers.{startedReply}
-use Rattle.session_start.specs.Noting.{hitReply}
-use Rattle.session_start.specs.Start.{afterStart}
-use mir.ValLaws.{toZ-ofZ}
-use mir.Syntax.{w32}
-use lib.IntN.{ℤ}
-use mathlib.Core.Path.{subst}
 use Rattle.session_start.proofs.Starting.{sorted-front}
 use Rattle.sorting.specs.Sorting.{SortedCopyOf}
 use lib.Seq.{length-take-le}
@@ -92,7 +84,7 @@ begin-sorted-requires c κs =
     let rest = drop (length pattern) (zeros .result) in
     let copy : SortedCopyOf pattern (take (length pattern) (new ++ rest)) =
     sorted-front pattern (take (length pattern) (zeros .result)) new rest (sort .ensures .1) few part in
-    (entry (at-sorted c) .pre .0, omega (arith, copy .same-length), entry (at-sorted c) .pre .2, copy .in-order)
+    (entry (at-sorted c) .pre .0, omega (arith, copy .same-length), entry (at-sorted c) .pre .2, copy .in-order, entry (at-sorted c) .pre .3)
 
 same-length : tie.Need-same-length
 same-length c = search needs
@@ -109,14 +101,8 @@ returns c =
     let rest = drop (length pattern) (zeros .result) in
     let copy : SortedCopyOf pattern (take (length pattern) (new ++ rest)) =
     sorted-front pattern (take (length pattern) (zeros .result)) new rest (sort .ensures .1) few part in
-    let args = entry (at-sorted (c .before .before .before)) .args in
-    let same = toZ-ofZ w32 (args .threshold) (entry (at-sorted (c .before .before .before)) .fits .threshold) in (
-      subst (λ (z : ℤ). startedReply (c .before .before .begin-sorted .result) ≡ hitReply (taskWith (args .text .now) pattern (args .u) (args .v) z))
-          same (c .before .before .begin-sorted .ensures .0 pattern copy),
-      subst (λ (z : ℤ). c .before .before .begin-sorted .last .1 .1 .1 .1 .1 .0
-          ≡ afterStart (startedReply (c .before .before .begin-sorted .result)) (taskWith (args .text .now) pattern (args .u) (args .v) z) (args .work .now))
-          same (c .before .before .begin-sorted .ensures .1 pattern copy),
-    )
+    let begun = c .before .before .begin-sorted in
+    (begun .ensures .0 pattern copy, begun .ensures .1 pattern copy)
 
 pub begin-spec : {M : Type 1} → statement M
 begin-spec =

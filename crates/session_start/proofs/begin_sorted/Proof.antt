@@ -2,12 +2,9 @@
 use borrow.Author.Needs.{needs}
 use Rattle.mappings.specs.Score.{taskWith}
 use Rattle.session_start.proofs.Starting.{number-is, index-are, slots-begin, backs-are, reply-hits, reply-many, own-copy}
-use Rattle.mappings.specs.Bias.{biasedZ}
-use mir.ValLaws.{toZ-ofZ}
-use mir.Syntax.{w32}
 use lib.Seq.{length-take-le}
 use lib.ListN.{length}
-use mathlib.Core.Path.{refl, sym, ap, _∙_}
+use mathlib.Core.Path.{refl, sym, _∙_}
 use native.Mathlib.Omega.{arith}
 use Prim.Native.Nat.{_≤_}
 use Rattle.session_start.proofs.begin_sorted.Statement.{statement}
@@ -29,11 +26,8 @@ at-shared-slice-known c = at-hit-zeros c .before .before .before
 abbrev entry : tie.After-slots2 → tie.Start
 entry c = at-shared-slice-known c .before
 
-abbrev at-biased : tie.After-put-session-arg → tie.After-biased
-at-biased c = c .before
-
 abbrev else1 : tie.After-put-session-arg → tie.Else1
-else1 c = at-biased c .before .before .before
+else1 c = c .before .before .before
 
 -- there is room for each hit
 index-room : (c : tie.Else1) → c .before .before .before .collect .result ≤ length (c .before .before .before .collect .last .1 .1 .0)
@@ -62,7 +56,7 @@ returns c =
     let start = entry (c .before) in
     let collect = c .before .before .before .collect in (
       λ pattern copy.
-          let task = taskWith (start .args .text .now) pattern (start .args .u) (start .args .v) (start .args .threshold) in
+          let task = taskWith (start .args .text .now) pattern (start .args .scoring) in
           reply-many task (collect .result)
           (number-is task (start .args .sorted .now) (collect .last .1 .1 .0) (collect .last .1 .1 .1 .0) (collect .result) copy (collect .ensures))
           (c .if1 .taken),
@@ -84,9 +78,6 @@ slice-aggregate-put-session-2 c =
     let collect = at-collect (c .before .before .before) .collect in sym
     (length-take-le (collect .result) (collect .last .1 .1 .1 .0) (slots-room (c .before .before)))
 
-biased-requires : tie.Need-biased-requires
-biased-requires c κs = search needs
-
 put-session-requires : tie.Need-put-session-requires
 put-session-requires c κs =
     let few = else1 c in
@@ -94,10 +85,10 @@ put-session-requires c κs =
     let collect = few .before .before .before .collect in
     let index-long = length-take-le (collect .result) (collect .last .1 .1 .0) (index-room few) in
     let slots-long = length-take-le (collect .result) (collect .last .1 .1 .1 .0) (slots-room few) in
-    let task = taskWith (start .args .text .now) (start .args .sorted .now) (start .args .u) (start .args .v) (start .args .threshold) in (
+    let task = taskWith (start .args .text .now) (start .args .sorted .now) (start .args .scoring) in (
       slots-begin task (start .args .sorted .now) (collect .last .1 .1 .0) (collect .last .1 .1 .1 .0) (collect .result)
           (own-copy (start .args .sorted .now) (start .pre .3)) (collect .ensures) (index-room few) (slots-room few),
-      (start .pre .1, omega (arith, index-long, few .if1 .left), slots-long ∙ sym index-long, start .pre .2),
+      (start .pre .1, omega (arith, index-long, few .if1 .left), slots-long ∙ sym index-long, start .pre .2, start .pre .4),
     )
 
 same-length : tie.Need-same-length
@@ -112,17 +103,14 @@ returns-2 c =
     let index = collect .last .1 .1 .0 in
     let slots = collect .last .1 .1 .1 .0 in (
       λ pattern copy.
-          let task = taskWith (start .args .text .now) pattern (start .args .u) (start .args .v) (start .args .threshold) in
+          let task = taskWith (start .args .text .now) pattern (start .args .scoring) in
           reply-hits task (collect .result) (number-is task sorted index slots (collect .result) copy (collect .ensures)) (few .if1 .left),
       λ pattern copy.
-          let task = taskWith (start .args .text .now) pattern (start .args .u) (start .args .v) (start .args .threshold) in
+          let task = taskWith (start .args .text .now) pattern (start .args .scoring) in
           c .before .before .put-session .ensures task
           (record {
-            u-is = refl;
-            v-is = refl;
+            scoring-is = refl;
             size-is = copy .same-length;
-            threshold-is =
-                at-biased (c .before .before .before) .biased .ensures ∙ ap biasedZ (toZ-ofZ w32 (start .args .threshold) (start .fits .threshold));
             index-is = index-are task sorted index slots (collect .result) copy (collect .ensures) (index-room few) (slots-room few);
             backs-are = backs-are task sorted index slots (collect .result) copy (collect .ensures) (index-room few) (slots-room few);
           }),
@@ -142,7 +130,6 @@ begin-sorted-spec =
     slice-aggregate-put-session
     array-share-prefix-slots
     slice-aggregate-put-session-2
-    biased-requires
     put-session-requires
     same-length
     returns-2)

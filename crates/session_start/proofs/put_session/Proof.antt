@@ -80,7 +80,7 @@ put-words-requires c κs =
     let start = entry (zeroed put) in
     let sorted = start .args .sorted .now in
     let taken = start .args .slots .now in (
-      (start .pre .1 .1, ap length (front put) ∙ backs-long put ∙ start .pre .1 .2, start .pre .1 .3),
+      (start .pre .1 .1, ap length (front put) ∙ backs-long put ∙ start .pre .1 .2, start .pre .1 .3, start .pre .1 .4),
       subst (λ (l : List ℕ). (k : ℕ) → k < length l → getD l k 0 ≤ k) (sym (front put ∙ put .put-back .ensures))
           (backs-within sorted (wordsAt sorted taken) (words-in sorted taken (start .pre .0))),
     )
@@ -92,10 +92,8 @@ returns : tie.Need-returns
 returns c =
     let put = filled (c .before .before .before) in
     λ task ready. c .before .before .put-words .ensures task (record {
-      u-is = ready .u-is;
-      v-is = ready .v-is;
+      scoring-is = ready .scoring-is;
       size-is = ready .size-is;
-      threshold-is = ready .threshold-is;
       index-is = ready .index-is;
       backs-are = front put ∙ put .put-back .ensures ∙ ready .backs-are;
     })

@@ -85,9 +85,9 @@ returns c =
     let start = entry (back .before) in
     let args = start .args in
     λ task ready.
-    stores-session task (args .u) (args .v) (args .size) (args .threshold) (starts .put-starts .result) (args .index .now) (args .backs .now)
+    stores-session task (args .scoring) (args .size) (starts .put-starts .result) (args .index .now) (args .backs .now)
     (args .work .now) (back .put-table .last .1 .1 .0) (index .put-table2 .last .1 .1 .0) (reach .put-reach .last .1 .0)
-    (starts .put-starts .last .1 .0) (best .fill .last .1 .1 .1 .0) (tops .fill2 .last .1 .1 .1 .0) (heading .put-heading .last .1 .1 .1 .1 .1 .1 .0)
+    (starts .put-starts .last .1 .0) (best .fill .last .1 .1 .1 .0) (tops .fill2 .last .1 .1 .1 .0) (heading .put-heading .last .1 .1 .1 .1 .0)
     (record {
       ready = ready;
       back-table = back .put-table .ensures;
