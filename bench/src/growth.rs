@@ -9,7 +9,7 @@ use crate::made::Made;
 use crate::ours;
 use crate::plain::{complement, sketch, start, step, strike};
 use crate::runs::{BEFORE, as_they_are, complement_run, count_run, sketch_run, start_run, strike_read_run, strike_run};
-use crate::sessions::{HITS, PATTERN, Session, flat, flat_score, random_hits};
+use crate::sessions::{ABOVE_RISING, HITS, PATTERN, Session, flat, flat_score, random_hits, rising};
 use crate::steps::{Layout, step_run};
 use crate::table::{each, milliseconds, ratio};
 use crate::timing::{Run, best_times, timed};
@@ -168,10 +168,14 @@ fn steps(session: &Session, h: usize, budget: u32) -> Job<'static> {
 
 /// Sessions in which every cell is looked at and none is found.
 fn step_rows() {
-    let [half, all] = [HITS / 2, HITS].map(|hits| flat(hits, flat_score(hits) + 1));
-    for (name, budget) in [("one step", u32::MAX), ("steps of budget 1", 1)] {
-        let job = format!("{name} over all cells, all blocks live, h {} to {HITS}", HITS / 2);
-        print(&job, steps(&half, HITS / 2, budget), steps(&all, HITS, budget));
+    let linear = [HITS / 2, HITS].map(|hits| flat(hits, flat_score(hits) + 1));
+    let (f, g) = ABOVE_RISING;
+    let jaccard = [HITS / 2, HITS].map(|hits| rising(hits).under_jaccard(f, g));
+    for (score, [half, all]) in [("", linear), (" under Jaccard", jaccard)] {
+        for (name, budget) in [("one step", u32::MAX), ("steps of budget 1", 1)] {
+            let job = format!("{name} over all cells{score}, all blocks live, h {} to {HITS}", HITS / 2);
+            print(&job, steps(&half, HITS / 2, budget), steps(&all, HITS, budget));
+        }
     }
 }
 

@@ -25,11 +25,15 @@ fn print_sessions_legend() {
         "'former' is plain Rust with the proved step's former algorithm, which looks at every cell. 'ns each' is per cell. The threshold"
     );
     println!(
-        "of clusters and random repeats is a third of the perfect score. Checksums are of every answer and work word; the former and the"
+        "of clusters and random repeats is a third of the perfect score, and under Jaccard the fraction that is named. There 'former' is"
     );
     println!(
-        "fastest session have some words of their own, so that all four are compared without these, and proved and plain in all.\n"
+        "the same loop over all cells, and 'fastest', which scores linearly, has no time. Checksums are of every answer and work"
     );
+    println!(
+        "word; the former and the fastest session have some words of their own, so that all are compared without these, and proved and"
+    );
+    println!("plain in all.\n");
 }
 
 /// Prints what the columns of the letter decision's table mean.

@@ -3,6 +3,7 @@
 use host::calls::{self, Stepped};
 use host::exported::{self, StepWords};
 use host::reference::refusal::Refusal;
+use host::reference::score::Scoring;
 
 use crate::signatures::Count;
 
@@ -39,8 +40,11 @@ pub fn strike_read(
     signed(calls::strike_read(text, codes, positions, c, codes_out, positions_out))
 }
 
-pub fn start(text: &[u32], pattern: &[u32], u: u32, v: u32, threshold: i32, work: &mut [u32]) -> i32 {
-    signed(calls::start(text, pattern, u, v, threshold, work))
+pub fn start(text: &[u32], pattern: &[u32], scoring: Scoring, work: &mut [u32]) -> i32 {
+    signed(match scoring {
+        Scoring::Linear { u, v, threshold } => calls::start(text, pattern, u, v, threshold, work),
+        Scoring::Jaccard { f, g } => calls::start_jaccard(text, pattern, f, g, work),
+    })
 }
 
 /// A step whose answer's words are lent anew with each call, and not made anew.

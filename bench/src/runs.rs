@@ -3,6 +3,8 @@
 
 use std::hint::black_box;
 
+use host::reference::score::Scoring;
+
 use crate::made::Made;
 use crate::plain::work::WORK_WORDS;
 use crate::signatures::{Complement, Count, Shared, Sketch, Start, Strike, StrikeRead};
@@ -11,6 +13,7 @@ use crate::timing::{Run, timed};
 const C: u32 = 16;
 pub const U: u32 = 3;
 pub const V: u32 = 2;
+const LINEAR: Scoring = Scoring::Linear { u: U, v: V, threshold: 0 };
 
 /// What an output buffer and the work words hold before a run.
 pub const BEFORE: u32 = 1;
@@ -79,7 +82,7 @@ pub fn start_run<'a>(start: Start, shared: Shared, text: &'a [u32], pattern: &'a
     let mut work = before.clone();
     Box::new(move || {
         work.copy_from_slice(&before);
-        let (time, h) = timed(|| start(text, pattern, U, V, 0, &mut work));
+        let (time, h) = timed(|| start(text, pattern, LINEAR, &mut work));
         (time, made(h, &shared(&work, &before), &[]))
     })
 }

@@ -1,7 +1,8 @@
-//! The sessions of the speed tables, made from fixed seeds: hits that stand at random, clusters of near copies of one gene, and hits
-//! that give all cells one score.
+//! The sessions of the speed tables, made from fixed seeds: hits that stand at random, clusters of near copies of one gene, and hits of one
+//! code, that give all cells one score or scores that rise or fall.
 
 use host::random::Random;
+use host::reference::score::Scoring;
 
 use crate::jobs::spread;
 use crate::runs::{U, V};
@@ -9,22 +10,30 @@ use crate::runs::{U, V};
 pub const PATTERN: usize = 4_096;
 pub const HITS: usize = 2_048;
 
-/// The codes of a text and of a pattern, the weights, and the threshold.
+/// The codes of a text and of a pattern, and how they are scored.
+#[derive(Clone)]
 pub struct Session {
     pub text: Vec<u32>,
     pub pattern: Vec<u32>,
-    pub u: u32,
-    pub v: u32,
-    pub threshold: i32,
+    pub scoring: Scoring,
 }
 
 impl Session {
-    /// The same with the threshold at a third of the perfect score, u·|p|.
+    /// The same with the threshold at a third of the perfect score, u·|p|. Panics where the score is not linear.
     pub fn with_third(self) -> Session {
-        let threshold = (self.u as usize * self.pattern.len() / 3) as i32;
-        Session { threshold, ..self }
+        let Scoring::Linear { u, v, .. } = self.scoring else { panic!("a linear score") };
+        let threshold = (u as usize * self.pattern.len() / 3) as i32;
+        Session { scoring: Scoring::Linear { u, v, threshold }, ..self }
+    }
+
+    /// The same codes under Jaccard, with the threshold f/g.
+    pub fn under_jaccard(&self, f: u32, g: u32) -> Session {
+        Session { scoring: Scoring::Jaccard { f, g }, ..self.clone() }
     }
 }
+
+/// The weights 1 and 1, with the threshold 0.
+const ONES: Scoring = Scoring::Linear { u: 1, v: 1, threshold: 0 };
 
 /// A code that no pattern has.
 fn foreign(random: &mut Random) -> u32 {
@@ -49,7 +58,7 @@ pub fn random_hits(entries: usize, size: usize, hits: usize, threshold: i32) -> 
             placed += 1;
         }
     }
-    Session { text, pattern, u: U, v: V, threshold }
+    Session { text, pattern, scoring: Scoring::Linear { u: U, v: V, threshold } }
 }
 
 /// Near copies of a gene with repeats, as entries: so many copies that each keep so many of a hundred entries, and between them gaps
@@ -74,7 +83,7 @@ pub fn cluster(copies: usize, kept: usize) -> Session {
     let last =
         (0..text.len()).filter(|&at| pattern.contains(&text[at])).nth(HITS - 1).expect("a stray hit for each that is missing");
     text.truncate(last + 1);
-    Session { text, pattern, u: 1, v: 1, threshold: 0 }.with_third()
+    Session { text, pattern, scoring: ONES }.with_third()
 }
 
 /// The score of every cell of a flat session with so many hits.
@@ -86,5 +95,22 @@ pub fn flat_score(hits: usize) -> i32 {
 /// entries behind it, and both ends are always reasonable. Weights are 1.
 pub fn flat(hits: usize, threshold: i32) -> Session {
     let text = (0..hits * 3 - 2).map(|at| if at % 3 == 0 { spread(0) } else { spread(1) }).collect();
-    Session { text, pattern: vec![spread(0); hits], u: 1, v: 1, threshold }
+    Session { text, pattern: vec![spread(0); hits], scoring: Scoring::Linear { u: 1, v: 1, threshold } }
+}
+
+/// The threshold under Jaccard that no cell of a rising session reaches, though nearly every block of rows could.
+pub const ABOVE_RISING: (u32, u32) = (4, 125);
+
+/// So many hits of one code, which the pattern has as often, at every 32nd entry: under Jaccard a cell of n hits scores n / (31·n + c) with
+/// c at least 0, less than 4/125 with up to 2,048 hits, and all ends are reasonable. The first row of a block of 64 with the length of the
+/// last scores more than that.
+pub fn rising(hits: usize) -> Session {
+    let text = (0..hits * 32 - 31).map(|at| if at % 32 == 0 { spread(0) } else { spread(1) }).collect();
+    Session { text, pattern: vec![spread(0); hits], scoring: ONES }
+}
+
+/// So many hits of one code, which the pattern has once, side by side: every cell's score is greater than all before it in rows up to its
+/// own, and its ends are reasonable only where they are one.
+pub fn all_records(hits: usize) -> Session {
+    Session { text: vec![spread(0); hits], pattern: vec![spread(0)], scoring: ONES }
 }

@@ -43,7 +43,7 @@ fn pass_all(
         each(answer);
         match answer {
             Stepped::Spent(cells) => passed.cells += cells as usize,
-            Stepped::Found { cells, .. } => {
+            Stepped::Found { cells, .. } | Stepped::FoundJaccard { cells, .. } => {
                 passed.cells += cells as usize;
                 passed.found += 1;
             }
@@ -58,8 +58,10 @@ fn pass_all(
 
 /// Asks the compiler to make a mapping that is found, though the timed run does not look at it.
 fn make(answer: Stepped) {
-    if let Stepped::Found { a, b, score, m, .. } = answer {
-        black_box((a, b, score, m));
+    match answer {
+        Stepped::Found { a, b, score, m, .. } => drop(black_box((a, b, score, m))),
+        Stepped::FoundJaccard { a, b, m, divisor, .. } => drop(black_box((a, b, m, divisor))),
+        _ => {}
     }
 }
 
@@ -67,6 +69,7 @@ fn make(answer: Stepped) {
 fn add(sum: &mut Sum, answer: Stepped) {
     match answer {
         Stepped::Found { a, b, score, m, cells } => sum.add([0, a, b, score as u32, m, cells]),
+        Stepped::FoundJaccard { a, b, m, divisor, cells } => sum.add([3, a, b, divisor, m, cells]),
         Stepped::Finished(cells) => sum.add([1, cells]),
         Stepped::Spent(cells) => sum.add([2, cells]),
         Stepped::Refused(number) => sum.add([number, 0]),
@@ -87,7 +90,7 @@ fn made(mut answers: Sum, work: &[u32], layout: Layout) -> Made {
 
 fn fresh(start: Start, session: &Session) -> Vec<u32> {
     let mut work = vec![BEFORE; WORK_WORDS];
-    let h = start(&session.text, &session.pattern, session.u, session.v, session.threshold, &mut work);
+    let h = start(&session.text, &session.pattern, session.scoring, &mut work);
     assert!(h >= 0, "an accepted start");
     work
 }

@@ -1,4 +1,4 @@
-//! The eight calls with answers as a Rust program wants them: a result, or a refusal.
+//! The nine calls with answers as a Rust program wants them: a result, or a refusal.
 
 use crate::exported::{self, StepWords};
 use crate::reference::refusal::{Refusal, refused, refused_with};
@@ -81,10 +81,31 @@ pub fn start(text: &[u32], pattern: &[u32], u: u32, v: u32, threshold: i32, work
     answered(number, value)
 }
 
+/// h, under the weighted Jaccard with the threshold f/g.
+pub fn start_jaccard(text: &[u32], pattern: &[u32], f: u32, g: u32, work: &mut [u32]) -> Result<usize, Refusal> {
+    let mut number = 0;
+    let value = exported::start_jaccard(text, pattern, f, g, work, &mut number);
+    answered(number, value)
+}
+
 /// What a step answers.
 #[derive(Clone, Copy, Debug, PartialEq, Eq)]
 pub enum Stepped {
-    Found { a: u32, b: u32, score: i32, m: u32, cells: u32 },
+    Found {
+        a: u32,
+        b: u32,
+        score: i32,
+        m: u32,
+        cells: u32,
+    },
+    /// under Jaccard, whose score is m over the divisor
+    FoundJaccard {
+        a: u32,
+        b: u32,
+        m: u32,
+        divisor: u32,
+        cells: u32,
+    },
     Finished(u32),
     Spent(u32),
     Refused(u32),
@@ -97,6 +118,7 @@ pub fn stepped(kind: u32, words: StepWords) -> Stepped {
         0 => Stepped::Found { a, b, score, m, cells },
         1 => Stepped::Finished(cells),
         2 => Stepped::Spent(cells),
+        3 => Stepped::FoundJaccard { a, b, m, divisor: score as u32, cells },
         number => Stepped::Refused(number),
     }
 }

@@ -3,6 +3,7 @@
 use crate::random::Random;
 use crate::reference::complement::reverse_complement;
 use crate::reference::input::Settings;
+use crate::reference::score::{Score, Scoring};
 
 /// The letters that a case draws from: all four, few of them (which makes ties), lower case, and some outside the eight.
 const ALPHABETS: [&[u8]; 6] =
@@ -113,29 +114,99 @@ pub fn through_a_repeat(random: &mut Random, longest: usize) -> (Vec<u8>, Vec<u8
     (text, near_copy(random, read, rate, alphabet))
 }
 
-/// Settings that are mostly accepted, with a k and w that mostly suit a text of this length. The threshold is one of a few that
-/// stand out.
+/// A k and w that mostly suit a text of this length.
+fn measures(random: &mut Random, longest: usize) -> (u32, u32) {
+    let k = if random.once_in(9) { random.between(1, 15) } else { random.between(1, (longest / 20).clamp(1, 7)) };
+    let w = if random.once_in(9) { random.between(1, 64) } else { random.between(1, (longest / 12).clamp(1, 6)) };
+    (k as u32, w as u32)
+}
+
+/// The limits of occurrences that a case draws from.
+const LIMITS: [u32; 9] = [1, 2, 3, 5, 100, 100, 1000, 65_535, 65_535];
+
+/// Settings that are mostly accepted, for a text of this length. The threshold is one of a few that stand out.
 pub fn settings(random: &mut Random, longest: usize) -> Settings {
     let (u, v) = match random.below(10) {
         0 => (random.between(1, 1000) as u32, random.between(1, 1000) as u32),
         1 => (random.between(0, 1) as u32 * 1000, random.between(1000, 1001) as u32),
         _ => random.one_of(&[(1, 1), (1, 1), (2, 1), (1, 2), (3, 1), (1, 5), (7, 1), (1000, 1000), (1, 1000), (1000, 1)]),
     };
-    let k = if random.once_in(9) { random.between(1, 15) } else { random.between(1, (longest / 20).clamp(1, 7)) };
-    let w = if random.once_in(9) { random.between(1, 64) } else { random.between(1, (longest / 12).clamp(1, 6)) };
-    Settings {
-        k: k as u32,
-        w: w as u32,
-        c: random.one_of(&[1, 2, 3, 5, 100, 100, 1000, 65_535, 65_535]),
-        u,
-        v,
-        threshold: random.one_of(&[i32::MIN, -1000, -30, -10, -3, -1, 0, 1, 2, 3, 6, 10, 30, 1000, i32::MAX]),
-    }
+    let (k, w) = measures(random, longest);
+    let c = random.one_of(&LIMITS);
+    let threshold = random.one_of(&[i32::MIN, -1000, -30, -10, -3, -1, 0, 1, 2, 3, 6, 10, 30, 1000, i32::MAX]);
+    Settings { k, w, c, scoring: Scoring::Linear { u, v, threshold } }
+}
+
+/// The same weights with a threshold that is so much above a linear score.
+pub fn threshold_near(scoring: Scoring, score: Score, above: i32) -> Scoring {
+    let Scoring::Linear { u, v, .. } = scoring else { panic!("a linear score, and not {scoring:?}") };
+    Scoring::Linear { u, v, threshold: score.number() as i32 + above }
+}
+
+/// A threshold under Jaccard that is mostly accepted: one of a few that stand out, or any.
+pub fn fraction(random: &mut Random) -> Scoring {
+    let (f, g) = match random.below(10) {
+        0 => random.one_of(&[
+            (0, 0),
+            (1, 0),
+            (2, 1),
+            (1000, 999),
+            (0, 1001),
+            (1, 1001),
+            (1001, 1001),
+            (u32::MAX, 1),
+            (1, u32::MAX),
+        ]),
+        1..4 => {
+            let g = random.between(1, 1000);
+            (random.below(g + 1) as u32, g as u32)
+        }
+        _ => random.one_of(&[
+            (0, 1),
+            (0, 1000),
+            (1, 1000),
+            (1, 100),
+            (1, 20),
+            (1, 5),
+            (1, 3),
+            (2, 4),
+            (2, 3),
+            (999, 1000),
+            (1, 1),
+            (1000, 1000),
+        ]),
+    };
+    Scoring::Jaccard { f, g }
+}
+
+/// Settings under Jaccard that are mostly accepted, for a text of this length.
+pub fn jaccard_settings(random: &mut Random, longest: usize) -> Settings {
+    let scoring = fraction(random);
+    let (k, w) = measures(random, longest);
+    Settings { k, w, c: random.one_of(&LIMITS), scoring }
+}
+
+/// A threshold at a score under Jaccard or beside it: the same fraction as it is or in other numbers, or one whose divisor is a little
+/// smaller or greater. Any fraction where its numbers would be too great.
+pub fn fraction_near(random: &mut Random, score: Score) -> Scoring {
+    let Score::Fraction { m, divisor } = score else { panic!("a score under Jaccard: {score:?}") };
+    let (f, g) = match random.below(6) {
+        0 => (2 * m, 2 * divisor),
+        1 => (m, divisor + 1),
+        2 => (m, divisor - 1),
+        3 => (m + 1, divisor),
+        _ => (m, divisor),
+    };
+    if f <= g && (1..=1_000).contains(&g) { Scoring::Jaccard { f, g } } else { fraction(random) }
 }
 
 /// The first line of these settings, with its line feed.
 pub fn first_line(s: &Settings) -> Vec<u8> {
-    format!("{} {} {} {} {} {}\n", s.k, s.w, s.c, s.u, s.v, s.threshold).into_bytes()
+    let scoring = match s.scoring {
+        Scoring::Linear { u, v, threshold } => format!("{u} {v} {threshold}"),
+        Scoring::Jaccard { f, g } => format!("{f} {g} jaccard"),
+    };
+    format!("{} {} {} {scoring}\n", s.k, s.w, s.c).into_bytes()
 }
 
 /// The three lines.

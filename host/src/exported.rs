@@ -1,4 +1,4 @@
-//! The eight calls of the proved library `exports`, with slices in place of pointers and lengths: `number` becomes 0 where the call is
+//! The nine calls of the proved library `exports`, with slices in place of pointers and lengths: `number` becomes 0 where the call is
 //! accepted, else the refusal number, and the result is the value answered, or the second value.
 //! Assumes that the declarations below are those of the library: the linker compares names and nothing else.
 
@@ -77,6 +77,17 @@ unsafe extern "C" {
         u: u32,
         v: u32,
         threshold: i32,
+        work: *mut u32,
+        work_length: usize,
+        number: *mut u32,
+    ) -> usize;
+    fn huddlewool_start_jaccard(
+        text: *const u32,
+        text_length: usize,
+        pattern: *const u32,
+        pattern_length: usize,
+        f: u32,
+        g: u32,
         work: *mut u32,
         work_length: usize,
         number: *mut u32,
@@ -178,7 +189,16 @@ pub fn start(text: &[u32], pattern: &[u32], u: u32, v: u32, threshold: i32, work
     }
 }
 
-/// The words that a step answers with. Those that its answer does not have keep their content.
+/// A start under the weighted Jaccard with the threshold f/g.
+pub fn start_jaccard(text: &[u32], pattern: &[u32], f: u32, g: u32, work: &mut [u32], number: &mut u32) -> usize {
+    let work_at = work.as_mut_ptr();
+    unsafe {
+        huddlewool_start_jaccard(text.as_ptr(), text.len(), pattern.as_ptr(), pattern.len(), f, g, work_at, work.len(), number)
+    }
+}
+
+/// The words that a step answers with; `score` is the divisor where a mapping is found under Jaccard. Those that its answer does not
+/// have keep their content.
 #[derive(Clone, Copy, Debug, Default, PartialEq, Eq)]
 pub struct StepWords {
     pub a: u32,
@@ -188,7 +208,7 @@ pub struct StepWords {
     pub cells: u32,
 }
 
-/// Found is 0, finished is 1, spent is 2, and another number is a refusal's.
+/// Found is 0, finished is 1, spent is 2, found under Jaccard is 3, and another number is a refusal's.
 pub fn step(work: &mut [u32], budget: u32, words: &mut StepWords) -> u32 {
     let StepWords { a, b, score, m, cells } = words;
     unsafe { huddlewool_step(work.as_mut_ptr(), work.len(), budget, a, b, score, m, cells) }

@@ -1,4 +1,4 @@
-//! The host's calls of the two functions with bytes and numbers only, those of the eight with buffers, and beside them a reference
+//! The host's calls of the two functions with bytes and numbers only, those of the nine with buffers, and beside them a reference
 //! of documents 01 and 02.
 //! Assumes that the declarations below are those of the proved library `exports`: the linker compares names and nothing else.
 

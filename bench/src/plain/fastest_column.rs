@@ -6,6 +6,7 @@
 use super::column::{At, Passed};
 use super::fastest_work::{GROUNDS, LARGE, LARGE_TOPS, LIFTED, PEAKS, SMALL, SMALL_TOPS};
 use super::line::Line;
+use super::scored::Scored;
 use super::work::{BACK, BEST, INDEX, MAX_HITS, REACH, Words};
 
 /// Where the block of this row ends, if it has so many rows: there, or with the column.

@@ -1,9 +1,11 @@
 //! Start with an open-addressing table of the pattern's codes in place of the search, for the fastest step.
 
+use host::reference::score::Scoring;
+
 use super::fastest_column::put_peak;
 use super::fastest_work::{GROUNDS, LARGE, LARGE_TOPS, LIFTED, SMALL, SMALL_TOPS};
 use super::search::MAX_PATTERN;
-use super::start::{Hits, Settings, put_heading, refusal};
+use super::start::{Hits, put_heading, refusal};
 use super::work::{BACK, BEST, INDEX, MAX_HITS, REACH, Words};
 
 const SLOTS: usize = 1 << 14;
@@ -108,9 +110,10 @@ fn lift(work: &mut Words, h: usize, gain: u32, v: u32) -> u32 {
     m
 }
 
-/// Answers h, or the refusal number negated.
-pub fn start(text: &[u32], pattern: &[u32], u: u32, v: u32, threshold: i32, work: &mut [u32]) -> i32 {
-    let number = refusal(text, pattern, u, v, work);
+/// Answers h, or the refusal number negated. Panics where the score is not linear.
+pub fn start(text: &[u32], pattern: &[u32], scoring: Scoring, work: &mut [u32]) -> i32 {
+    let Scoring::Linear { u, v, .. } = scoring else { panic!("the fastest session scores linearly") };
+    let number = refusal(text, pattern, scoring, work);
     if number != 0 {
         return -number;
     }
@@ -124,6 +127,6 @@ pub fn start(text: &[u32], pattern: &[u32], u: u32, v: u32, threshold: i32, work
     let shared = lift(work, h, u + 2 * v, v);
     work[SMALL_TOPS..SMALL_TOPS + h.div_ceil(SMALL)].fill(0);
     work[LARGE_TOPS..LARGE_TOPS + h.div_ceil(LARGE)].fill(0);
-    put_heading(work, h, Settings { u, v, size: pattern.len(), threshold }, shared);
+    put_heading(work, h, scoring, pattern.len(), shared);
     h as i32
 }

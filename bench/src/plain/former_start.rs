@@ -1,5 +1,7 @@
 //! Start for the former step, which needs one more table.
 
+use host::reference::score::Scoring;
+
 use super::start;
 use super::work::{BACK, WORK_WORDS};
 
@@ -7,8 +9,8 @@ use super::work::{BACK, WORK_WORDS};
 pub const WHOLE: usize = 10_240;
 
 /// Answers h, or the refusal number negated.
-pub fn start(text: &[u32], pattern: &[u32], u: u32, v: u32, threshold: i32, work: &mut [u32]) -> i32 {
-    let h = start::start(text, pattern, u, v, threshold, work);
+pub fn start(text: &[u32], pattern: &[u32], scoring: Scoring, work: &mut [u32]) -> i32 {
+    let h = start::start(text, pattern, scoring, work);
     if h > 0 {
         let words = work.first_chunk_mut::<WORK_WORDS>().expect("16,384 words");
         let mut m = 0;

@@ -4,6 +4,7 @@ use host::calls::Stepped;
 
 use super::former_column::Passed;
 use super::former_start::WHOLE;
+use super::scored::Scored;
 use super::work::{COLUMNS, INDEX, PASSED, ROW, SHARED, Words};
 
 /// The place of a session: how many columns are left, and the row and the m of the next cell.
@@ -38,14 +39,19 @@ impl Place {
     }
 }
 
-/// The answer for a final cell of this m and score that was passed last, in the row before this one.
-pub fn found(work: &Words, columns: usize, row: usize, m: u32, score: i32, cells: u32) -> Stepped {
-    Stepped::Found { a: work[INDEX + row - 1], b: work[INDEX + columns - 1], score, m, cells }
+/// The answer for a final cell of this m, of whose score this is answered, and which was passed last, in the row before this one.
+pub fn found<L: Scored>(work: &Words, columns: usize, row: usize, m: u32, score: i32, cells: u32) -> Stepped {
+    L::found(work[INDEX + row - 1], work[INDEX + columns - 1], score, m, cells)
 }
 
 /// The cells from this place on, at most `budget` of them. `update` passes cells of the place's column, at most so many.
 #[inline(always)]
-pub fn walk(work: &mut Words, start: Place, budget: u32, update: impl Fn(&mut Words, Place, usize) -> Passed) -> Stepped {
+pub fn walk<L: Scored>(
+    work: &mut Words,
+    start: Place,
+    budget: u32,
+    update: impl Fn(&mut Words, Place, usize) -> Passed,
+) -> Stepped {
     let mut place = start;
     let mut left = budget;
     while place.columns > 0 {
@@ -57,7 +63,7 @@ pub fn walk(work: &mut Words, start: Place, budget: u32, update: impl Fn(&mut Wo
         left -= (passed.row - place.row) as u32;
         let cells = budget - left;
         if let Some(score) = passed.found {
-            let answer = found(work, place.columns, passed.row, passed.m, score, cells);
+            let answer = found::<L>(work, place.columns, passed.row, passed.m, score, cells);
             Place { row: passed.row, m: passed.m.wrapping_sub(1), ..place }.settled(work).save(work, cells);
             return answer;
         }

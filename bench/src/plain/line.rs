@@ -1,6 +1,9 @@
-//! The score of a cell: as a word that orders as the scores do, and as the signed number that decides at a candidate.
+//! The linear score of a cell: as a word that orders as the scores do, and as the signed number that decides at a candidate.
 
-use super::work::BIAS;
+use host::calls::Stepped;
+
+use super::scored::Scored;
+use super::work::{BACK, BIAS, INDEX, SIZE, THRESHOLD, U, V, Words};
 
 /// The numbers of a session that its cells share.
 #[derive(Clone, Copy)]
@@ -24,40 +27,82 @@ pub struct Line {
 }
 
 impl Line {
-    pub fn new(terms: Terms, column: usize, index: u32, back: u32) -> Line {
-        let base = BIAS.wrapping_sub(terms.v.wrapping_mul(index.wrapping_add(1).wrapping_add(terms.size)));
-        Line { column: column as u32, index, base, back, terms }
-    }
-
     /// What a score grows by with m.
     #[inline(always)]
     pub fn gain(&self) -> u32 {
         self.terms.u + 2 * self.terms.v
     }
 
-    /// A score plus the bias: u·m − v·(len + |p| − 2m), with what the column's cells share summed up beforehand.
-    #[inline(always)]
-    pub fn word(&self, m: u32, index: u32) -> u32 {
-        self.gain().wrapping_mul(m).wrapping_add(self.terms.v.wrapping_mul(index)).wrapping_add(self.base)
-    }
-
     /// m of the cell that has this score word and the left end at this index.
     pub fn shared(&self, word: u32, index: u32) -> u32 {
         word.wrapping_sub(self.base).wrapping_sub(self.terms.v.wrapping_mul(index)) / self.gain()
     }
+}
 
-    /// Whether a cell of this row, whose left end is reasonable up to this reach, is so at both ends.
+/// A score is its word.
+impl Scored for Line {
+    type Score = u32;
+
     #[inline(always)]
-    pub fn is_reasonable(&self, row: usize, reach: u32) -> bool {
-        self.column < reach && self.back as usize <= row
+    fn new(words: &Words, column: usize) -> Line {
+        let terms = Terms { u: words[U], v: words[V], size: words[SIZE], threshold: words[THRESHOLD] };
+        let (index, back) = (words[INDEX + column], words[BACK + column]);
+        let base = BIAS.wrapping_sub(terms.v.wrapping_mul(index.wrapping_add(1).wrapping_add(terms.size)));
+        Line { column: column as u32, index, base, back, terms }
     }
 
-    /// The score of the cell with this m and the left end at this index, if it reaches the threshold.
-    pub fn enough(&self, m: u32, index: u32) -> Option<i32> {
+    #[inline(always)]
+    fn column(&self) -> u32 {
+        self.column
+    }
+
+    #[inline(always)]
+    fn back(&self) -> u32 {
+        self.back
+    }
+
+    #[inline(always)]
+    fn threshold(&self) -> u32 {
+        self.terms.threshold
+    }
+
+    /// A score plus the bias: u·m − v·(len + |p| − 2m), with what the column's cells share summed up beforehand.
+    #[inline(always)]
+    fn score(&self, m: u32, index: u32) -> u32 {
+        self.gain().wrapping_mul(m).wrapping_add(self.terms.v.wrapping_mul(index)).wrapping_add(self.base)
+    }
+
+    /// The score itself.
+    fn enough(&self, m: u32, index: u32) -> Option<i32> {
         let Terms { u, v, size, threshold } = self.terms;
         let [u, v, size, m] = [u, v, size, m].map(|number| number as i32);
         let len = self.index as i32 - index as i32 + 1;
         let score = u * m - v * (len + size - 2 * m);
         Some(score).filter(|&score| score >= threshold.wrapping_sub(BIAS) as i32)
+    }
+
+    #[inline(always)]
+    fn found(a: u32, b: u32, score: i32, m: u32, cells: u32) -> Stepped {
+        Stepped::Found { a, b, score, m, cells }
+    }
+
+    #[inline(always)]
+    fn of_word(word: u32) -> u32 {
+        word
+    }
+
+    #[inline(always)]
+    fn word_of(score: u32) -> u32 {
+        score
+    }
+
+    #[inline(always)]
+    fn is_below(one: u32, other: u32) -> bool {
+        one < other
+    }
+
+    #[inline(always)]
+    fn or_greater(score: u32, word: u32) -> u32 {
+        score.max(word)
     }
 }

@@ -1,6 +1,9 @@
 //! Start by the algorithm of the proved function: a sorted copy of p, a search for each text entry, and one pass over the hits in
 //! which the places of a code in the sorted copy are the ring of its last hits.
 
+use host::reference::score::Scoring;
+
+use super::fraction_line::fraction_word;
 use super::radix::{sort_keys, word_of};
 use super::search::{MAX_PATTERN, lower_bound};
 use super::work::{
@@ -15,19 +18,39 @@ pub struct Hits {
     pub number: usize,
 }
 
-/// What a session is made of beside its hits.
-#[derive(Clone, Copy)]
-pub struct Settings {
-    pub u: u32,
-    pub v: u32,
-    pub size: usize,
-    pub threshold: i32,
+/// What a scoring puts into words: its two numbers, its kind, and the threshold's word.
+struct Heading {
+    first: u32,
+    second: u32,
+    kind: u32,
+    threshold: u32,
+}
+
+fn heading(scoring: Scoring) -> Heading {
+    match scoring {
+        Scoring::Linear { u, v, threshold } => {
+            Heading { first: u, second: v, kind: 0, threshold: (threshold as u32).wrapping_add(BIAS) }
+        }
+        Scoring::Jaccard { f, g } => {
+            Heading { first: f, second: g, kind: 1, threshold: if f == 0 { 0 } else { fraction_word(f, g) } }
+        }
+    }
+}
+
+/// Whether two numbers are refused under a score of this kind.
+pub fn refused_numbers(kind: u32, first: u32, second: u32) -> bool {
+    match kind {
+        0 => !(1..=1_000).contains(&first) || !(1..=1_000).contains(&second),
+        1 => !(1..=1_000).contains(&second) || first > second,
+        _ => true,
+    }
 }
 
 /// The number that refuses these arguments before the hits are known, or 0.
-pub fn refusal(text: &[u32], pattern: &[u32], u: u32, v: u32, work: &[u32]) -> i32 {
-    if !(1..=1_000).contains(&u) || !(1..=1_000).contains(&v) {
-        return 7;
+pub fn refusal(text: &[u32], pattern: &[u32], scoring: Scoring, work: &[u32]) -> i32 {
+    let Heading { first, second, kind, .. } = heading(scoring);
+    if refused_numbers(kind, first, second) {
+        return if kind == 0 { 7 } else { 17 };
     }
     if text.len() > 65_535 {
         return 8;
@@ -106,14 +129,14 @@ pub fn put_starts(h: usize, work: &mut [u32]) -> u32 {
 }
 
 /// Writes the single words of a fresh session.
-pub fn put_heading(work: &mut [u32], h: usize, settings: Settings, shared: u32) {
+pub fn put_heading(work: &mut [u32], h: usize, scoring: Scoring, size: usize, shared: u32) {
+    let Heading { first, second, kind, threshold } = heading(scoring);
     work[HITS] = h as u32;
-    work[U] = settings.u;
-    work[V] = settings.v;
+    work[U] = first;
+    work[V] = second;
     work[PASSED] = 0;
-    work[KIND] = 0;
-    work[SIZE] = settings.size as u32;
-    let threshold = (settings.threshold as u32).wrapping_add(BIAS);
+    work[KIND] = kind;
+    work[SIZE] = size as u32;
     work[THRESHOLD] = threshold;
     work[COLUMNS] = h as u32;
     work[ROW] = 0;
@@ -122,8 +145,8 @@ pub fn put_heading(work: &mut [u32], h: usize, settings: Settings, shared: u32) 
 }
 
 /// Answers h, or the refusal number negated.
-pub fn start(text: &[u32], pattern: &[u32], u: u32, v: u32, threshold: i32, work: &mut [u32]) -> i32 {
-    let number = refusal(text, pattern, u, v, work);
+pub fn start(text: &[u32], pattern: &[u32], scoring: Scoring, work: &mut [u32]) -> i32 {
+    let number = refusal(text, pattern, scoring, work);
     if number != 0 {
         return -number;
     }
@@ -138,6 +161,6 @@ pub fn start(text: &[u32], pattern: &[u32], u: u32, v: u32, threshold: i32, work
     let backs = backs(sorted, &hits.slots[..h]);
     put_tables(&hits.index[..h], &backs[..h], work);
     let shared = put_starts(h, work);
-    put_heading(work, h, Settings { u, v, size: pattern.len(), threshold }, shared);
+    put_heading(work, h, scoring, pattern.len(), shared);
     h as i32
 }

@@ -5,37 +5,32 @@
 use host::calls::Stepped;
 
 use super::column::{Passed, pass, pass_one};
-use super::line::{Line, Terms};
+use super::fraction_line::FractionLine;
+use super::line::Line;
+use super::scored::Scored;
+use super::start::refused_numbers;
 use super::walk::{Columns, Place, found, walk};
-use super::work::{
-    BACK, BLOCK_ROWS, COLUMNS, HITS, INDEX, MAX_HITS, PASSED, ROW, SIZE, STARTS, THRESHOLD, U, V, WORK_WORDS, Words, part,
-};
+use super::work::{BACK, BLOCK_ROWS, COLUMNS, HITS, KIND, MAX_HITS, PASSED, ROW, STARTS, U, V, WORK_WORDS, Words, part};
 
 /// The words of the session, or what step answers without passing a cell: a refusal, or spent where the place lies in no column.
 #[inline(always)]
 pub fn judged(work: &mut [u32]) -> Result<&mut Words, Stepped> {
     let Some(words) = work.first_chunk_mut::<WORK_WORDS>() else { return Err(Stepped::Refused(10)) };
     let (h, passed) = (words[HITS], words[PASSED]);
-    let weights = (1..=1_000).contains(&words[U]) && (1..=1_000).contains(&words[V]);
-    if h as usize > MAX_HITS || !weights || passed > h * (h + 1) / 2 {
+    let refused = refused_numbers(words[KIND], words[U], words[V]);
+    if h as usize > MAX_HITS || refused || passed > h * (h + 1) / 2 {
         return Err(Stepped::Refused(15));
     }
     if words[COLUMNS] > h || words[ROW] > words[COLUMNS] { Err(Stepped::Spent(0)) } else { Ok(words) }
 }
 
-#[inline(always)]
-pub fn line(words: &Words, column: usize) -> Line {
-    let terms = Terms { u: words[U], v: words[V], size: words[SIZE], threshold: words[THRESHOLD] };
-    Line::new(terms, column, words[INDEX + column], words[BACK + column])
-}
-
 /// By blocks of 64 rows.
 struct Blocks;
 
-impl Columns for Blocks {
+impl<L: Scored> Columns<L> for Blocks {
     #[inline(always)]
-    fn update(&self, words: &mut Words, place: Place, left: usize) -> Passed {
-        let line = line(words, place.columns - 1);
+    fn update(&self, words: &mut Words, place: Place<L::Score>, left: usize) -> Passed<L::Score> {
+        let line = L::new(words, place.columns - 1);
         let to = place.at.row + left.min(place.columns - place.at.row);
         pass(&mut part(words), &line, place.at, to)
     }
@@ -53,28 +48,33 @@ impl Columns for Blocks {
 
 /// The step of more cells. Kept apart, so that a step of one cell saves few registers.
 #[inline(never)]
-fn walk_on(words: &mut Words, place: Place, budget: u32) -> Stepped {
-    walk(words, place, budget, Blocks)
+fn walk_on<L: Scored>(words: &mut Words, place: Place<L::Score>, budget: u32) -> Stepped {
+    walk::<L>(words, place, budget, Blocks)
 }
 
 /// The step of one cell in a column that has a further row.
 #[inline(always)]
-fn walk_one(words: &mut Words, place: Place) -> Stepped {
-    let line = line(words, place.columns - 1);
+fn walk_one<L: Scored>(words: &mut Words, place: Place<L::Score>) -> Stepped {
+    let line = L::new(words, place.columns - 1);
     let Passed { at, found: score } = pass_one(&mut part(words), &line, place.at);
-    Place { at, ..place }.save(words, 1);
+    Place { at, ..place }.save::<L>(words, 1);
     match score {
-        Some(score) => found(words, place.columns, at, score, 1),
+        Some(score) => found::<L>(words, place.columns, at, score, 1),
         None => Stepped::Spent(1),
     }
 }
 
-/// Passes cells until one is final, none remains or the budget is spent.
+#[inline(always)]
+fn step_by<L: Scored>(words: &mut Words, budget: u32) -> Stepped {
+    let place = Place::read::<L>(words);
+    if budget == 1 && place.at.row + 1 < place.columns { walk_one::<L>(words, place) } else { walk_on::<L>(words, place, budget) }
+}
+
+/// Passes cells until one is final, none remains or the budget is spent, by the score that the session has.
 pub fn step(work: &mut [u32], budget: u32) -> Stepped {
-    let words = match judged(work) {
-        Ok(words) => words,
-        Err(answer) => return answer,
-    };
-    let place = Place::read(words);
-    if budget == 1 && place.at.row + 1 < place.columns { walk_one(words, place) } else { walk_on(words, place, budget) }
+    match judged(work) {
+        Err(answer) => answer,
+        Ok(words) if words[KIND] == 0 => step_by::<Line>(words, budget),
+        Ok(words) => step_by::<FractionLine>(words, budget),
+    }
 }

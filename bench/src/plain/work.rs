@@ -4,11 +4,12 @@ pub const WORK_WORDS: usize = 16_384;
 pub const MAX_HITS: usize = 2_048;
 
 pub const HITS: usize = 0;
+/// u and v, or f and g, by the kind of score: 0 for linear, 1 for Jaccard.
 pub const U: usize = 1;
 pub const V: usize = 2;
 pub const PASSED: usize = 3;
 pub const KIND: usize = 4;
-/// |p|, and the threshold with the bias.
+/// |p|, and the threshold's score word.
 pub const SIZE: usize = 5;
 pub const THRESHOLD: usize = 6;
 /// The columns left, the row and the m of the next cell, and the greatest score word of the rows before it.
@@ -31,7 +32,7 @@ pub const MAX_BLOCKS: usize = MAX_HITS / BLOCK_ROWS;
 pub const TOPS: usize = 10_240;
 pub const STARTS: usize = 10_272;
 
-/// Scores are kept with this bias, so that unsigned numbers are in their order.
+/// Linear scores are kept with this bias, so that unsigned numbers are in their order.
 pub const BIAS: u32 = 1 << 31;
 
 /// The words of a session.

@@ -3,11 +3,11 @@
 
 use bench::jobs::TEXT;
 use bench::plain::work::{BLOCK_ROWS, HIGHEST, INDEX, SHARED, WORK_WORDS};
-use bench::sessions::{self, HITS, PATTERN, Session, flat, flat_score, random_hits};
-use host::clusters::{ROWS, cluster};
+use bench::sessions::{self, ABOVE_RISING, HITS, PATTERN, Session, all_records, flat, flat_score, random_hits, rising};
+use host::clusters::{ROWS, cluster, jaccard_cluster};
 use host::random::Random;
 use host::reference::by_hits::finals_by_hits;
-use host::reference::score::{Task, linear};
+use host::reference::score::{Score, Scoring, Task, score_of};
 use host::reference::start::start_call;
 use host::reference::steps::{Answer, Rule, Step};
 use host::reference::work_words::WorkWords;
@@ -32,6 +32,14 @@ fn place(h: usize, q: usize) -> (usize, usize) {
     (columns, row)
 }
 
+/// The score of a word.
+fn score_of_word(scoring: Scoring, word: u32) -> Score {
+    match scoring {
+        Scoring::Linear { .. } => Score::Number(i64::from(word) - (1 << 31)),
+        Scoring::Jaccard { .. } => Score::Fraction { m: word / (1 << 21) + 1, divisor: (1 << 21) - 1 - word % (1 << 21) },
+    }
+}
+
 impl Ends {
     /// Takes note of a step that ended behind q cells. The words are of the cells before it, and go on to the first row of the block.
     fn note(&mut self, task: &Task, words: &mut WorkWords, h: usize, before: usize, q: usize) {
@@ -44,8 +52,8 @@ impl Ends {
         let end = columns.min((row / BLOCK_ROWS + 1) * BLOCK_ROWS);
         let len = words[INDEX + columns - 1] - words[INDEX + end - 1] + 1;
         // m of the first row with the length of the last
-        let bound = linear(task, words[SHARED] as usize, len as usize) + (1 << 31);
-        if bound < i64::from(words[HIGHEST]) { self.skipped += 1 } else { self.live += 1 }
+        let bound = score_of(task, words[SHARED] as usize, len as usize);
+        if bound.is_below(score_of_word(task.scoring, words[HIGHEST])) { self.skipped += 1 } else { self.live += 1 }
     }
 }
 
@@ -64,7 +72,7 @@ fn hold(random: &mut Random, case: &str, task: &Task, ends: &mut Ends) {
         let work = session.start(case, task, &before, h, &fresh);
         (session, work)
     };
-    let mut all = sessions().map(start);
+    let mut all: Vec<(Tested, Vec<u32>)> = sessions(task.scoring).into_iter().map(start).collect();
     loop {
         let (q, budget) = (rule.q, budget(random, h));
         let expected = rule.step(Step { budget, lent: WORK_WORDS });
@@ -81,24 +89,55 @@ fn hold(random: &mut Random, case: &str, task: &Task, ends: &mut Ends) {
     }
 }
 
+/// Holds so many clusters with each number of hits.
+fn hold_clusters(seeds: std::ops::Range<u64>, cluster: fn(&mut Random, usize) -> Task) -> Ends {
+    let mut ends = Ends::default();
+    for seed in seeds {
+        let mut random = Random::new(seed);
+        for h in ROWS {
+            let task = cluster(&mut random, h);
+            hold(&mut random, &format!("seed {seed}, {h} hits"), &task, &mut ends);
+        }
+    }
+    ends
+}
+
 #[test]
 fn clusters() {
     on_small_stack(|| {
-        let mut ends = Ends::default();
-        for seed in 20_000..20_040 {
-            let mut random = Random::new(seed);
-            for h in ROWS {
-                let task = cluster(&mut random, h);
-                hold(&mut random, &format!("seed {seed}, {h} hits"), &task, &mut ends);
-            }
-        }
+        let ends = hold_clusters(20_000..20_040, cluster);
         assert!(ends.skipped > 6_000 && ends.live > 20_000, "{ends:?}");
     });
 }
 
+#[test]
+fn clusters_under_jaccard() {
+    on_small_stack(|| {
+        let ends = hold_clusters(23_000..23_040, jaccard_cluster);
+        assert!(ends.skipped > 7_000 && ends.live > 30_000, "{ends:?}");
+    });
+}
+
 fn task(session: Session) -> Task {
-    let Session { text, pattern, u, v, threshold } = session;
-    Task { text, pattern, u, v, threshold }
+    let Session { text, pattern, scoring } = session;
+    Task { text, pattern, scoring }
+}
+
+/// Blocks that are looked at with none found, and cells of which each is a record.
+#[test]
+fn rising_and_falling_scores_under_jaccard() {
+    on_small_stack(|| {
+        let mut random = Random::new(24_000);
+        let mut ends = Ends::default();
+        for h in &ROWS[..6] {
+            for (f, g) in [ABOVE_RISING, (0, 1), (1, 1000), (1, 32), (1, 1)] {
+                let (rising, records) = (rising(*h).under_jaccard(f, g), all_records(*h).under_jaccard(f, g));
+                hold(&mut random, &format!("{h} rising hits, {f}/{g}"), &task(rising), &mut ends);
+                hold(&mut random, &format!("{h} hits, all records, {f}/{g}"), &task(records), &mut ends);
+            }
+        }
+        assert!(ends.skipped > 300 && ends.live > 1_200, "{ends:?}");
+    });
 }
 
 /// All cells found, and all blocks looked at with none found.
@@ -129,4 +168,33 @@ fn rows_of_the_table() {
         }
         assert!(ends.skipped > 1_000, "{ends:?}");
     });
+}
+
+#[test]
+fn rows_of_the_table_under_jaccard() {
+    on_small_stack(|| {
+        let mut random = Random::new(25_000);
+        let mut ends = Ends::default();
+        let clusters =
+            [(8, 90), (20, 90), (8, 98), (20, 98)].map(|(copies, kept)| sessions::cluster(copies, kept).under_jaccard(1, 3));
+        let repeats = random_hits(TEXT, PATTERN, HITS, 0);
+        let others = [repeats.under_jaccard(1, 1), repeats.under_jaccard(1, 3)];
+        for session in clusters.into_iter().chain(others) {
+            hold(&mut random, "a row", &task(session), &mut ends);
+        }
+        assert!(ends.skipped > 2_000, "{ends:?}");
+    });
+}
+
+/// No cell of the session that has nearly all blocks live reaches its threshold, and a step looks at nearly all cells.
+#[test]
+fn rising_scores_stay_below_the_threshold() {
+    let (f, g) = ABOVE_RISING;
+    for h in [HITS / 2, HITS] {
+        let task = task(rising(h).under_jaccard(f, g));
+        assert!(finals_by_hits(&task).is_empty());
+        // a whole block of 64 rows: m of the first with the length of the last
+        let live = |n: usize| !score_of(&task, n, (n - BLOCK_ROWS) * 32 + 1).is_below(task.scoring.threshold());
+        assert!((BLOCK_ROWS..=h).all(live), "blocks with up to {h} hits behind them");
+    }
 }

@@ -10,7 +10,7 @@ use bench::signatures::{Shared, Start, Step};
 use bench::steps::{AGREED, Layout};
 use host::calls::{self, Stepped};
 use host::reference::definition1::Mapping;
-use host::reference::score::Task;
+use host::reference::score::{Score, Scoring, Task};
 use host::reference::steps::Answer;
 
 /// A session's functions, what brings its words behind start into the layout of docs/WORK_WORDS.md, if they have all that it needs, and
@@ -23,22 +23,26 @@ pub struct Tested {
     pub layout: Layout,
 }
 
-pub fn sessions() -> [Tested; 4] {
+/// The sessions for this scoring: the fastest scores linearly.
+pub fn sessions(scoring: Scoring) -> Vec<Tested> {
     let same = |name, start: Start, step: Step| Tested { name, start, step, shared: Some(as_they_are), layout: Layout::Shared };
     let own = |name, start: Start, step: Step, shared| Tested { name, start, step, shared, layout: Layout::Own };
-    [
+    let mut all = vec![
         same("the same algorithm", start::start, step::step),
         own("the former one", former_start::start, former_step::step, None),
-        own("the fastest", fastest_start::start, fastest_step::step, Some(fastest_work::shared_after_start)),
         same("the proved one", ours::start, calls::step),
-    ]
+    ];
+    if let Scoring::Linear { .. } = scoring {
+        all.push(own("the fastest", fastest_start::start, fastest_step::step, Some(fastest_work::shared_after_start)));
+    }
+    all
 }
 
 impl Tested {
     /// Starts in words that held these, and asks for h and the words that the reference has.
     pub fn start(&self, case: &str, task: &Task, before: &[u32], h: usize, fresh: &[u32]) -> Vec<u32> {
         let mut work = before.to_vec();
-        let given = (self.start)(&task.text, &task.pattern, task.u, task.v, task.threshold, &mut work);
+        let given = (self.start)(&task.text, &task.pattern, task.scoring, &mut work);
         assert_eq!(given, h as i32, "{}, {case}", self.name);
         match self.shared {
             Some(shared) => self.hold_same(case, 0..WORK_WORDS, &shared(&work, before), fresh),
@@ -66,11 +70,12 @@ impl Tested {
 }
 
 pub fn as_reference(answer: Stepped) -> Answer {
+    let found = |a: u32, b: u32, score: Score, m: u32, cells: u32| {
+        Answer::Found(Mapping { a: a as usize, b: b as usize, score, m: m as usize }, cells as usize)
+    };
     match answer {
-        Stepped::Found { a, b, score, m, cells } => {
-            let mapping = Mapping { a: a as usize, b: b as usize, score: i64::from(score), m: m as usize };
-            Answer::Found(mapping, cells as usize)
-        }
+        Stepped::Found { a, b, score, m, cells } => found(a, b, Score::Number(i64::from(score)), m, cells),
+        Stepped::FoundJaccard { a, b, m, divisor, cells } => found(a, b, Score::Fraction { m, divisor }, m, cells),
         Stepped::Finished(cells) => Answer::Finished(cells as usize),
         Stepped::Spent(cells) => Answer::Spent(cells as usize),
         Stepped::Refused(number) => Answer::Refused(number),

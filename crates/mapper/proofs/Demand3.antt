@@ -173,7 +173,13 @@ module _ (task : Task) (before : List ℕ) (a : Accepts task before) where
   first-words : (q : ℕ) → FirstWords task q (sessionWords task before q)
   first-words q =
       let holds = words-hold task before q (limits .few-hits) (limits .many-words) in
-      record { word0 = holds .held .h-word; word1 = holds .held .u-word; word2 = holds .held .v-word; word3 = holds .passed-word }
+      record {
+        word0 = holds .held .h-word;
+        word1 = holds .held .first-word;
+        word2 = holds .held .second-word;
+        word3 = holds .passed-word;
+        word4 = holds .held .kind-word;
+      }
 
   pub demand3-codes : {states : List (List ℕ)} {steps : List Step} {heard : List Answer} → Ran (startWords task before) steps heard states
       → Demand3 task (startWords task before) steps heard states
@@ -223,7 +229,7 @@ module _ (settings : Settings) (text read : List ℕ) (lent : Lent) (n m s r : �
 
   start-task-is : startTask settings text read lent n m s r ≡ taskOf settings text read
   unfolding startTask taskOf
-  start-task-is = λ i. taskWith (struck-codes-are i) (pattern-codes-are i) (settings .u) (settings .v) (settings .threshold)
+  start-task-is = λ i. taskWith (struck-codes-are i) (pattern-codes-are i) (settings .scoring)
 
   accepts-task : Accepts (taskOf settings text read) (lent .work)
   unfolding taskOf

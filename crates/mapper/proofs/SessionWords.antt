@@ -16,8 +16,8 @@ use Rattle.mappings.specs.Score.{Task}
 use Rattle.mappings.specs.Cells.{hitCount}
 use Rattle.mappings.specs.HitCodes.{hitCodes}
 use Rattle.mappings.proofs.Range.{Limited}
-use Rattle.session_words.specs.FirstWords.{hitsAt, uAt, vAt, passedAt}
-use Rattle.session_words.specs.Layout.{kindAt, sizeAt, thresholdAt, columnsAt, rowAt, mAt, highestAt, backFrom, indexFrom, reachFrom, bestFrom}
+use Rattle.session_words.specs.FirstWords.{hitsAt, uAt, vAt, passedAt, kindAt}
+use Rattle.session_words.specs.Layout.{sizeAt, thresholdAt, columnsAt, rowAt, mAt, highestAt, backFrom, indexFrom, reachFrom, bestFrom}
 use Rattle.session_words.specs.Layout.{blockRows, blockCount, topsFrom, startsFrom, partLength}
 use Rattle.session_start.specs.Tables.{back}
 use Rattle.session_start.specs.WorkWords.{columnsLeft, nextRow, nextShared, highestAfter}
@@ -92,8 +92,8 @@ module _ (task : Task) (small : hitCount task ≤ hitLimit) (before : List ℕ) 
       part-tables = record {
         number = same-number indexFrom partLength work part part-fits (p .number) ∙ h .number;
         h-word = out hitsAt (inl (omega arith)) ∙ h .h-word;
-        u-word = out uAt (inl (omega arith)) ∙ h .u-word;
-        v-word = out vAt (inl (omega arith)) ∙ h .v-word;
+        first-word = out uAt (inl (omega arith)) ∙ h .first-word;
+        second-word = out vAt (inl (omega arith)) ∙ h .second-word;
         kind-word = out kindAt (inl (omega arith)) ∙ h .kind-word;
         size-word = out sizeAt (inl (omega arith)) ∙ h .size-word;
         threshold-word = out thresholdAt (inl (omega arith)) ∙ h .threshold-word;
@@ -178,8 +178,8 @@ module _ (task : Task) (small : hitCount task ≤ hitLimit) (before : List ℕ) 
       left-tables = record {
         number = same-number startsFrom startsLength work later starts-fit number-later ∙ h .number;
         h-word = outside hitsAt (inl (omega arith)) ∙ h .h-word;
-        u-word = outside uAt (inl (omega arith)) ∙ h .u-word;
-        v-word = outside vAt (inl (omega arith)) ∙ h .v-word;
+        first-word = outside uAt (inl (omega arith)) ∙ h .first-word;
+        second-word = outside vAt (inl (omega arith)) ∙ h .second-word;
         kind-word = outside kindAt (inl (omega arith)) ∙ h .kind-word;
         size-word = outside sizeAt (inl (omega arith)) ∙ h .size-word;
         threshold-word = outside thresholdAt (inl (omega arith)) ∙ h .threshold-word;
@@ -234,8 +234,8 @@ module _ (task : Task) (small : hitCount task ≤ hitLimit) (before : List ℕ) 
     saved-tables = record {
       number = length-set saved₉ highestAt (place .highest) ∙ number₉ ∙ held .number;
       h-word = saved-low 0 (inl (omega arith)) ∙ held .h-word;
-      u-word = saved-low 1 (inl (omega arith)) ∙ held .u-word;
-      v-word = saved-low 2 (inl (omega arith)) ∙ held .v-word;
+      first-word = saved-low 1 (inl (omega arith)) ∙ held .first-word;
+      second-word = saved-low 2 (inl (omega arith)) ∙ held .second-word;
       kind-word = saved-low 4 (inr (omega arith)) ∙ held .kind-word;
       size-word = saved-low 5 (inr (omega arith)) ∙ held .size-word;
       threshold-word = saved-low 6 (inr (omega arith)) ∙ held .threshold-word;

@@ -6,12 +6,12 @@ use mathlib.Core.Path.{_≡_, refl, sym, ap, _∙_, subst}
 use mathlib.Core.Logic.{_⊎_, inl, inr}
 use mathlib.Core.Bool.{Bool, true, false, cond}
 use mathlib.Core.List.{List, [], _∷_}
-use lib.Dec.{leb, ltb}
+use lib.Dec.{ltb}
 use lib.ListN.{length, getD}
 use borrow.Author.Tests.{lt-ltb, le-ltb, ltb-true}
-use Rattle.base.specs.Limits.{weightLimit, hitLimit, workWords}
+use Rattle.base.specs.Limits.{hitLimit, workWords}
 use Rattle.base.proofs.Lists.{clash, eq-or-ne}
-use Rattle.mappings.specs.Score.{Task}
+use Rattle.mappings.specs.Score.{Task, ThresholdFits}
 use Rattle.mappings.specs.Cells.{hitCount, cells, cellCount}
 use Rattle.mappings.specs.Rule.{Answer, reported, ruleAnswer}
 use Rattle.mappings.specs.Steps.{moreCells}
@@ -19,11 +19,9 @@ use Rattle.mappings.proofs.Cells.{cellAt, stands}
 use Rattle.mappings.proofs.HitCodes.{cell-shared}
 use Rattle.session_words.specs.FirstWords.{hitsAt, passedAt}
 use Rattle.session_words.specs.Layout.{columnsAt, rowAt, mAt, highestAt}
-use Rattle.session_records.proofs.Numbers.{number-order}
 use Rattle.session_records.proofs.Highest.{before-none}
-use Rattle.session_start.specs.Start.{badWeights}
-use Rattle.session_start.specs.WorkWords.{columnsLeft, nextRow, nextShared, bestAfter, highestAfter, sessionWords}
-use Rattle.session_start.proofs.WorkWords.{Holds, words-hold}
+use Rattle.session_start.specs.WorkWords.{columnsLeft, nextRow, nextShared, orderOf, bestAfter, highestAfter, sessionWords}
+use Rattle.session_start.proofs.WorkWords.{HoldsTables, Holds, task-order, words-hold}
 use Rattle.mapper.specs.declared.answer.Stepped.the-variants.{Spent, TooFewWords, BadWords}
 use Rattle.mapper.specs.Answers.{answerOf}
 use Rattle.mapper.specs.Step.{tooFewWords, badWords}
@@ -33,7 +31,7 @@ use Rattle.mapper.specs.Walking.{placeOf, termsIn, Walk, walkOn, oneWalk
 use Rattle.mapper.specs.Promise.{Accepts, StepPromise}
 use Rattle.mapper.proofs.Accepted.{Admitted, admitted}
 use Rattle.mapper.proofs.Places.{at-cell, at-end}
-use Rattle.mapper.proofs.Decided.{termsOf}
+use Rattle.mapper.proofs.Decided.{termsOf, scoring-read}
 use Rattle.mapper.proofs.WalkRule.{PlaceAt, Settled, Ruled, walk-rule, one-rule}
 use Rattle.mapper.proofs.Within.{Kept, kept-walk, kept-one}
 
@@ -88,7 +86,7 @@ placed task q l = go (eq-or-ne q (cellCount (hitCount task)))
         let at = at-end (hitCount task) in
         let c : columnsLeft (hitCount task) q ≡ 0 = ap (columnsLeft (hitCount task)) e ∙ at .columns-are in
         let r : nextRow (hitCount task) q ≡ 0 = ap (nextRow (hitCount task)) e ∙ at .row-is in
-        rw (c, r) (e, refl, refl, before-none leb number-order (least task) (bestAfter task q))
+        rw (c, r) (e, refl, refl, before-none (orderOf task) (task-order task) (least task) (bestAfter task q))
     go (inr n) =
         let cell = getD (cells (hitCount task)) q (cellAt 0 0) in
         let s = stands (hitCount task) q (cellAt 0 0) (omega arith) in
@@ -100,22 +98,27 @@ placed task q l = go (eq-or-ne q (cellCount (hitCount task)))
 -- a session's words are not bad
 good-session : (task : Task) (before : List ℕ) (q : ℕ) (work : List ℕ) → InSession task before q work → q ≤ cellCount (hitCount task)
     → badWords work ≡ false
-unfolding badWords badWeights
+unfolding badWords
 good-session task before q work s l =
     let b = s .held .held in
     let m = s .limits in
     rw (
       b .h-word,
-      b .u-word,
-      b .v-word,
+      b .first-word,
+      b .second-word,
+      b .kind-word,
       s .held .passed-word,
       le-ltb hitLimit (hitCount task) (m .few-hits),
-      le-ltb (task .u) 1 (m .lowest-u),
-      le-ltb weightLimit (task .u) (m .limited .small-u),
-      le-ltb (task .v) 1 (m .lowest-v),
-      le-ltb weightLimit (task .v) (m .limited .small-v),
+      m .good-scoring,
     )
     (le-ltb (cellCount (hitCount task)) q l)
+
+-- the terms of a session, read from its words
+terms-read : (task : Task) (before : List ℕ) (q : ℕ) (work : List ℕ) → HoldsTables task before q (columnsLeft (hitCount task) q) work
+    → ThresholdFits (task .scoring) → termsIn work ≡ termsOf task
+unfolding termsIn
+terms-read task before q work held fits =
+    rw (held .first-word, held .second-word, held .kind-word, held .size-word, held .threshold-word, scoring-read (task .scoring) fits)
 
 -- ---- the ways
 
@@ -168,7 +171,7 @@ module _ (work : List ℕ) (budget : ℕ) where
           → termsIn work ≡ termsOf task → getD work passedAt 0 ≡ q
           → Ruled task (s .limits .limited) (a .threshold-fits) (s .limits .few-hits) before (s .limits .many-words) q budget q budget walk)
           → StepPromise work budget (walk .answer) (walk .words)
-      unfolding tooFewWords termsIn
+      unfolding tooFewWords
       by-rule walk kept rule = record {
         few = λ e. clash e (le-ltb (length work) workWords l);
         bad = λ e f. clash f good;
@@ -189,7 +192,7 @@ module _ (work : List ℕ) (budget : ℕ) where
                 at = rw (columns, s .held .row-word, s .held .shared-word, s .held .highest-word) (placed task q k);
                 tables = rw columns held;
               })
-              (λ i. record { u = held .u-word i; v = held .v-word i; size = held .size-word i; threshold = held .threshold-word i })
+              (terms-read task before q work held (a .threshold-fits))
               (s .held .passed-word) in
               let answer : answerOf (walk .answer) ≡ ruleAnswer task q budget =
               r .answer-is ∙ ap (λ (n : ℕ). moreCells n (ruleAnswer task q budget)) none ∙ more-none (ruleAnswer task q budget) in

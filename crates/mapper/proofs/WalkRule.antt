@@ -6,14 +6,12 @@ use mathlib.Core.Path.{_≡_, refl, sym, ap, _∙_, subst}
 use mathlib.Core.Logic.{_⊎_, inl, inr}
 use mathlib.Core.Bool.{Bool, true, false}
 use mathlib.Core.List.{List}
-use lib.Dec.{leb, ltb}
+use lib.Dec.{ltb}
 use lib.ListN.{length, getD}
-use lib.Signed.{mag}
 use borrow.Author.Tests.{ne-eqb, ltb-true, ltb-false}
 use Rattle.base.specs.Limits.{hitLimit, workWords, wordLimit}
 use Rattle.base.proofs.Lists.{eq-or-ne}
-use Rattle.mappings.specs.Score.{Task, scoreOf, sharedOf}
-use Rattle.mappings.specs.Bias.{bias}
+use Rattle.mappings.specs.Score.{Task, ThresholdFits, scoreOf, sharedOf}
 use Rattle.mappings.specs.Cells.{hits, hitCount, cellCount, mappingOf, leftEnd, rightEnd}
 use Rattle.mappings.specs.FinalTest.{isFinalCell}
 use Rattle.mappings.specs.HitCodes.{hitCodes}
@@ -27,11 +25,10 @@ use Rattle.mappings.proofs.Rule.{rule-no-budget, rule-none-left, more-cells}
 use Rattle.session_words.specs.FirstWords.{passedAt}
 use Rattle.session_words.specs.Layout.{thresholdAt, indexFrom, startsFrom}
 use Rattle.session_records.specs.Records.{highestBefore}
-use Rattle.session_records.proofs.Numbers.{number-order}
 use Rattle.session_records.proofs.Highest.{before-none}
 use Rattle.session_start.specs.Tables.{startOf}
-use Rattle.session_start.specs.WorkWords.{bestAfter, columnsLeft, nextRow, nextShared, highestAfter, sessionWords}
-use Rattle.session_start.proofs.WorkWords.{HoldsTables, hold-words}
+use Rattle.session_start.specs.WorkWords.{orderOf, bestAfter, columnsLeft, nextRow, nextShared, highestAfter, sessionWords}
+use Rattle.session_start.proofs.WorkWords.{HoldsTables, task-order, hold-words}
 use Rattle.session_cells.specs.Passing.{Update}
 use Rattle.session_cells.specs.declared.cells.Passed.{Passed}
 use Rattle.session_rule.specs.Lines.{sessionLine, sharedAt}
@@ -58,7 +55,7 @@ abbrev pub PlaceAt : Task → ℕ → ℕ → ℕ → ℕ → ℕ → Type 0
 PlaceAt task q zero row m highest = (q ≡ cellCount (hitCount task)) × (row ≡ 0) × (m ≡ 0) × (highest ≡ least task)
 PlaceAt task q (suc j) row m highest =
     (j < hitCount task) × (row ≤ j) × (place (hitCount task) row j ≡ q) × (m ≡ sharedAt task row j)
-    × (highest ≡ highestBefore leb (least task) (bestAfter task q) row)
+    × (highest ≡ highestBefore (orderOf task) (least task) (bestAfter task q) row)
 
 -- a place by its record
 abbrev pub IsPlace : Task → ℕ → Place → Type 0
@@ -80,7 +77,7 @@ place-words task q zero row m highest (e, er, em, eh) =
       columns-are = sym (ap (columnsLeft (hitCount task)) e ∙ at .columns-are);
       row-is = er ∙ sym r;
       shared-is = em ∙ ap (λ (n : ℕ). nextShared task n (nextRow (hitCount task) q)) (sym (ap (columnsLeft (hitCount task)) e ∙ at .columns-are));
-      highest-is = eh ∙ rw r (sym (before-none leb number-order (least task) (bestAfter task q)));
+      highest-is = eh ∙ rw r (sym (before-none (orderOf task) (task-order task) (least task) (bestAfter task q)));
     }
 place-words task q (suc j) row m highest (l, a, e, em, eh) =
     let at = at-cell (hitCount task) row j a l in
@@ -124,7 +121,7 @@ passed-from : (q₀ budget left n rest q : ℕ) → rest ≡ left - n → n ≤ 
     → q₀ + (budget - rest) ≡ q + n
 passed-from q₀ budget left n rest q e a b f = omega arith
 
-module _ (task : Task) (limited : Limited task) (threshold-fits : mag (task .threshold) < bias) (small : hitCount task ≤ hitLimit) (before : List ℕ)
+module _ (task : Task) (limited : Limited task) (threshold-fits : ThresholdFits (task .scoring)) (small : hitCount task ≤ hitLimit) (before : List ℕ)
     (many : workWords ≤ length before) where
   -- the number of cells is far below 2^32
   few-cells : (q : ℕ) → q ≤ cellCount (hitCount task) → q < wordLimit
@@ -147,7 +144,7 @@ module _ (task : Task) (limited : Limited task) (threshold-fits : mag (task .thr
     zero-le,
     place-column (hitCount task) j l ∙ sym (place-row (hitCount task) (suc j) (suc j)) ∙ e,
     em,
-    eh ∙ sym (before-none leb number-order (least task) (bestAfter task q)),
+    eh ∙ sym (before-none (orderOf task) (task-order task) (least task) (bestAfter task q)),
   )
 
   -- a place, and the words with the tables of its columns
@@ -171,7 +168,7 @@ module _ (task : Task) (limited : Limited task) (threshold-fits : mag (task .thr
               omega arith,
               ap (λ (k : ℕ). place (hitCount task) k j) er ∙ e,
               known a .0 ∙ ap (λ (k : ℕ). sharedAt task k j) (sym er),
-              known a .1 ∙ ap (highestBefore leb (least task) (bestAfter task q)) (sym er),
+              known a .1 ∙ ap (highestBefore (orderOf task) (least task) (bestAfter task q)) (sym er),
             );
             tables = h;
           })
@@ -285,7 +282,7 @@ module _ (task : Task) (limited : Limited task) (threshold-fits : mag (task .thr
         let decides : decided (termsOf task) (getD words (indexFrom + p .row - 1) 0) (getD words (indexFrom + suc j - 1) 0) ((p .m + 1) % wordLimit) cells
         ≡ Found (getD (hits task) (row + k) 0) (getD (hits task) j 0) (scoreOf task (getD (hits task) (row + k) 0) (getD (hits task) j 0))
         (sharedAt task (row + k) j) cells =
-        rw (left-end, right-end, m-is) (final-decided task limited threshold-fits (row + k) j inside l final cells)
+        rw (left-end, right-end, m-is) (final-decided task limited (row + k) j inside l final cells)
         in
         let within : place (hitCount task) (row + k) j < cellCount (hitCount task) = place-within (hitCount task) (row + k) j inside l in
         let here : place (hitCount task) (row + k) j ≡ q + k = place-further (hitCount task) row k j q at in

@@ -11,7 +11,7 @@ use borrow.Author.Tests.{ne-eqb, lt-ltb, le-ltb, ltb-true, ltb-false}
 use lib.ListN.{length, getD, drop, set, length-drop}
 use lib.Seq.{getD-set-other, length-take-le}
 use Rattle.base.specs.Limits.{weightLimit, hitLimit, workWords, wordLimit}
-use Rattle.session_words.specs.FirstWords.{uAt, vAt, passedAt}
+use Rattle.session_words.specs.FirstWords.{uAt, vAt, passedAt, kindAt}
 use Rattle.session_words.specs.Layout.{thresholdAt, columnsAt, rowAt, mAt, highestAt, indexFrom, startsFrom, partLength}
 use Rattle.session_cells.specs.Passing.{passRows, columnPass, cellPass}
 use Rattle.session_cells.specs.declared.cells.Line.{Line}
@@ -22,12 +22,13 @@ use Rattle.mapper.specs.declared.update.Terms.{Terms}
 use Rattle.mapper.specs.declared.place.Place.{Place}
 use Rattle.mapper.specs.Walking.{placeOf, placeIn, saved, middle, leftWords, settledWords, settled, termsIn, lineOf, partOf, withPart}
 use Rattle.mapper.specs.Walking.{columnUpdate, cellUpdate, Walk, spentWalk, finishedWalk, foundWalk, walkOn, oneWalk}
+use Rattle.mapper.proofs.Deciding.{SmallRates, small-rates}
 
--- the terms read from words with small weights
+-- the terms read from words with small numbers
 pub small-terms : (work : List ℕ) (terms : Terms) → terms ≡ termsIn work → (getD work uAt 0 ≤ weightLimit) × (getD work vAt 0 ≤ weightLimit)
-    → (terms .u ≤ weightLimit) × (terms .v ≤ weightLimit)
+    → SmallRates (terms .scoring)
 unfolding termsIn
-small-terms work terms e small = rw e small
+small-terms work terms e small = rw e (small-rates (getD work kindAt 0) (getD work uAt 0) (getD work vAt 0) (getD work thresholdAt 0) small)
 
 -- ---- where a place settles
 

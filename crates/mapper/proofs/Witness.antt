@@ -1,5 +1,5 @@
--- Demand 3's hypotheses can be met: for document 01's own example sketch, both strikes and start accept, with buffers of four words and
--- 16,384 zeros, and every list of steps can be run on the session that start then leaves.
+-- Demand 3's hypotheses can be met, with either score: for document 01's own example sketch, both strikes and start accept, with buffers of
+-- four words and 16,384 zeros, and every list of steps can be run on the session that start then leaves.
 use Prim.Native.Nat.{ℕ, _≤_}
 use native.Mathlib.Omega.{arith}
 use mathlib.Core.Path.{_≡_, refl, ap, _∙_}
@@ -11,12 +11,15 @@ use lib.ListN.{length, take, drop, replicate, length-replicate}
 use borrow.Author.Tests.{ltb-true, ltb-false}
 use Rattle.base.specs.Replies.{accepted}
 use Rattle.base.specs.Limits.{workWords}
+use Rattle.mappings.specs.declared.Scoring.{Scoring}
+use Rattle.mappings.specs.declared.Scoring.the-variants.{Linear, Jaccard}
+use Rattle.mappings.specs.Score.{ThresholdFits}
 use Rattle.mappings.specs.Rule.{Answer, Step}
 use Rattle.strike.proofs.Compute.{strike-computes}
 use Rattle.mappings.proofs.Compute.{mappings-compute}
 use Rattle.requests.specs.declared.Settings.{Settings}
 use Rattle.requests.specs.Requests.{taskOf}
-use Rattle.session_start.specs.Start.{badWeights, startReply, startWords}
+use Rattle.session_start.specs.Start.{badWeights, badFraction, startReply, startWords}
 use Rattle.mapper.specs.declared.answer.Stepped.{Stepped}
 use Rattle.mapper.specs.declared.answer.Stepped.the-variants.{TooFewWords, BadWords}
 use Rattle.mapper.specs.Answers.{answerOf}
@@ -29,9 +32,16 @@ use Rattle.mapper.proofs.Demand3.{demand3}
 
 -- ---- sketch, both strikes and start accept
 
--- ACAG and ACG, k = w = 1, c = 100, u = v = 1, threshold 1
-abbrev pub asked : Settings
-asked = record { k = 1; w = 1; c = 100; u = 1; v = 1; threshold = pos 1 }
+-- u = v = 1 and threshold 1; and the threshold 1/1
+abbrev pub linear : Scoring
+linear = Linear 1 1 (pos 1)
+
+abbrev pub fraction : Scoring
+fraction = Jaccard 1 1
+
+-- ACAG and ACG, k = w = 1, c = 100
+abbrev pub asked : Scoring → Settings
+asked scoring = record { k = 1; w = 1; c = 100; scoring = scoring }
 
 abbrev pub text : List ℕ
 text = 65 ∷ 67 ∷ 65 ∷ 71 ∷ []
@@ -59,22 +69,35 @@ unfoldable calls-compute : Unit {0}
 unfolding textCodes textPositions readCodes readPositions struckCodes patternCodes startTask
 calls-compute = tt
 
--- start with the number of work words written out, so that no list of them is computed
-starts : startReply (startTask asked text read buffers 4 3 4 3) workWords ≡ accepted (4 ∷ [])
+-- start, with the number of work words written out, so that no list of them is computed
+abbrev Starts : Scoring → Type 0
+Starts scoring = startReply (startTask (asked scoring) text read buffers 4 3 4 3) workWords ≡ accepted (4 ∷ [])
+
+linear-starts : Starts linear
 unfolding strike-computes mappings-compute badWeights startReply calls-compute
-starts = refl
+linear-starts = refl
+
+fraction-starts : Starts fraction
+unfolding strike-computes mappings-compute badFraction startReply calls-compute
+fraction-starts = refl
 
 -- four entries of the text and three of the read, of which the strikes keep all, and four hits
-pub all-accept : AllAccept asked text read buffers 4 3 4 3 4
+accepts : (scoring : Scoring) → Starts scoring → ThresholdFits scoring → AllAccept (asked scoring) text read buffers 4 3 4 3 4
 unfolding strike-computes mappings-compute calls-compute
-all-accept = record {
+accepts scoring starts fits = record {
   sketch-text = refl;
   sketch-read = refl;
   strike-text = refl;
   strike-read = refl;
-  start = ap (startReply (startTask asked text read buffers 4 3 4 3)) (length-replicate {A = ℕ} workWords 0) ∙ starts;
-  threshold-fits = omega arith;
+  start = ap (startReply (startTask (asked scoring) text read buffers 4 3 4 3)) (length-replicate {A = ℕ} workWords 0) ∙ starts;
+  threshold-fits = fits;
 }
+
+pub all-accept : AllAccept (asked linear) text read buffers 4 3 4 3 4
+all-accept = accepts linear linear-starts (omega arith)
+
+pub all-accept-fraction : AllAccept (asked fraction) text read buffers 4 3 4 3 4
+all-accept-fraction = accepts fraction fraction-starts tt
 
 -- ---- steps can be run
 
@@ -99,12 +122,23 @@ runs work (step ∷ steps) =
     (answerOf (one .0) ∷ rest .0, (one .1 ++ drop (step .lent) work) ∷ rest .1, then (one .2) (rest .2))
 
 -- the words of the example's fresh session
-abbrev begun : List ℕ
-begun = startWords (startTask asked text read buffers 4 3 4 3) (buffers .work)
+abbrev begun : Scoring → List ℕ
+begun scoring = startWords (startTask (asked scoring) text read buffers 4 3 4 3) (buffers .work)
 
--- any list of steps has a run on the example's session, and demand 3 speaks of it
-pub demand3-met : (steps : List Step) → (heard : List Answer) × (states : List (List ℕ)) × Ran begun steps heard states
-    × Demand3 (taskOf asked text read) begun steps heard states
-demand3-met steps =
-    let run = runs begun steps in
-    (run .0, run .1, run .2, demand3 asked text read buffers 4 3 4 3 4 all-accept (run .2))
+-- a list of steps has a run on the example's session, and demand 3 speaks of it
+abbrev Met : Scoring → List Step → Type 0
+Met scoring steps =
+    (heard : List Answer) × (states : List (List ℕ)) × Ran (begun scoring) steps heard states
+    × Demand3 (taskOf (asked scoring) text read) (begun scoring) steps heard states
+
+met : (scoring : Scoring) → AllAccept (asked scoring) text read buffers 4 3 4 3 4 → (steps : List Step) → Met scoring steps
+met scoring all steps =
+    let run = runs (begun scoring) steps in
+    (run .0, run .1, run .2, demand3 (asked scoring) text read buffers 4 3 4 3 4 all (run .2))
+
+-- so has any, with either score
+pub demand3-met : (steps : List Step) → Met linear steps
+demand3-met = met linear all-accept
+
+pub demand3-met-fraction : (steps : List Step) → Met fraction steps
+demand3-met-fraction = met fraction all-accept-fraction

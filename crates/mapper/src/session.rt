@@ -3,12 +3,15 @@ use crate::answer::Stepped;
 use crate::place::Place;
 use crate::walk::walk;
 use crate::walk::walk_one;
+use base::DIVISOR_LIMIT;
 use base::HIT_LIMIT;
 use base::WEIGHT_LIMIT;
 use base::WORK_WORDS;
+use base::outside;
 use session_words::COLUMNS;
 use session_words::HIGHEST;
 use session_words::HITS;
+use session_words::KIND;
 use session_words::PASSED;
 use session_words::ROW;
 use session_words::SHARED;
@@ -21,10 +24,34 @@ ghost use mathlib.Core.Bool.{_&&_};
 ghost use lib.Dec.{eqb, ltb};
 ghost use lib.ListN.{length};
 ghost use Rattle.base.specs.Limits.{workWords, wordLimit};
-ghost use Rattle.mapper.specs.Step.{badWords};
+ghost use Rattle.session_start.specs.Start.{badWeights, badFraction};
+ghost use Rattle.mapper.specs.Step.{badScoring, badWords};
 ghost use Rattle.mapper.specs.Promise.{StepPromise};
 
-// Words 0 to 3 hold h over 2,048, u or v outside 1 to 1,000, or more cells passed than h(h + 1)/2.
+fn bad_weights(u: u32, v: u32) -> bool
+    ensures { λ r. ⌜ r ≡ badWeights u v ⌝ }
+{
+    outside(1, WEIGHT_LIMIT, u) || outside(1, WEIGHT_LIMIT, v)
+}
+
+fn bad_fraction(f: u32, g: u32) -> bool
+    ensures { λ r. ⌜ r ≡ badFraction f g ⌝ }
+{
+    outside(1, DIVISOR_LIMIT, g) || g < f
+}
+
+// A kind of score that is neither 0, linear, nor 1, Jaccard; or two numbers of it that start refuses.
+fn bad_scoring(kind: u32, first: u32, second: u32) -> bool
+    ensures { λ r. ⌜ r ≡ badScoring kind first second ⌝ }
+{
+    match kind {
+        0 => bad_weights(first, second),
+        1 => bad_fraction(first, second),
+        _ => true,
+    }
+}
+
+// Words 0 to 4 hold h over 2,048, a kind of score and two numbers of it that no start accepts, or more cells passed than h(h + 1)/2.
 fn bad_words(work: &[u32]) -> bool
     requires { ⌜ workWords ≤ length (now work) ⌝ }
     ensures { λ r. ⌜ r ≡ badWords (now (work .entry)) ⌝ }
@@ -33,18 +60,7 @@ fn bad_words(work: &[u32]) -> bool
     if HIT_LIMIT < h {
         return true;
     }
-    let u = work[U];
-    if u < 1 {
-        return true;
-    }
-    if WEIGHT_LIMIT < u {
-        return true;
-    }
-    let v = work[V];
-    if v < 1 {
-        return true;
-    }
-    if WEIGHT_LIMIT < v {
+    if bad_scoring(work[KIND], work[U], work[V]) {
         return true;
     }
     let cells = h * (h + 1) / 2;

@@ -3,13 +3,14 @@ use Prim.Native.Nat.{ℕ}
 use mathlib.Core.Path.{_≡_, refl}
 use mathlib.Core.List.{List, [], _∷_}
 use lib.IntN.{pos}
+use Rattle.mappings.specs.declared.Score.the-variants.{Number}
 use Rattle.mappings.specs.Cells.{Mapping}
 use Rattle.strands.specs.declared.Strand.{Strand}
 use Rattle.strands.specs.declared.Strand.the-variants.{Forward, Reverse}
 use Rattle.two_strands.specs.TwoStrands.{forwardFirst}
 
 abbrev at : ℕ → Mapping
-at i = record { a = i; b = i; score = pos 1; m = 1 }
+at i = record { a = i; b = i; score = Number (pos 1); m = 1 }
 
 -- two mappings of the read, the later one first, and one of its complement
 abbrev mappings : Strand → List Mapping

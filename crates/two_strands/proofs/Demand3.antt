@@ -18,7 +18,7 @@ use Rattle.requests.specs.Strands.{taskOn}
 use Rattle.mapper.proofs.Demand3.{demand3}
 use Rattle.two_strands.specs.TwoStrands.{StrandSession, RunsBoth, Demand3Both, Listed, forwardFirst, runList, ListsFinals}
 
--- for every accepted text and read, k, w, c, weights and threshold, and any two lists of steps, one for each strand's session
+-- for every accepted text and read, k, w, c and scoring, and any two lists of steps, one for each strand's session
 pub demand3-both : (settings : Settings) (text read : List ℕ) (sessions : Strand → StrandSession) → RunsBoth settings text read sessions
     → Demand3Both settings text read sessions
 demand3-both settings text read sessions runs strand =

@@ -11,9 +11,9 @@ use std::io::Write;
 use std::process::{Command, ExitCode, Stdio};
 use std::thread;
 
-const CALLS: [&str; 11] = [
-    "nothing", "reverse complement", "sketch", "count", "strike", "strike of the read", "save", "load", "start", "step",
-    "per mille",
+const CALLS: [&str; 13] = [
+    "nothing", "reverse complement", "sketch", "count", "strike", "strike of the read", "save", "load", "start",
+    "start, Jaccard", "step", "step, Jaccard", "per mille",
 ];
 
 /// In KiB: a page, the least stack that a thread is given, and the most that a call may need.
@@ -98,6 +98,16 @@ fn call(name: &str) -> Call {
         "start" => {
             let (text, pattern, mut work) = task();
             Box::new(move || exported::start(&text, &pattern, 1, 1, i32::MAX, &mut work, &mut number) == 2048 && number == 0)
+        }
+        "start, Jaccard" => {
+            let (text, pattern, mut work) = task();
+            Box::new(move || exported::start_jaccard(&text, &pattern, 1, 1, &mut work, &mut number) == 2048 && number == 0)
+        }
+        "step, Jaccard" => {
+            let (text, pattern, mut work) = task();
+            exported::start_jaccard(&text, &pattern, 1, 1, &mut work, &mut number);
+            let mut words = StepWords::default();
+            Box::new(move || exported::step(&mut work, u32::MAX, &mut words) == 1 && words.cells == 2_098_176)
         }
         "step" => {
             let (text, pattern, mut work) = task();

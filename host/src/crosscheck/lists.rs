@@ -1,8 +1,10 @@
 //! Tasks from letters to the list: sketch of text and read, strike of both, start and steps, beside all intervals of Definition 1.
 
+use std::ops::Range;
+
 use super::numbers::Least;
 use super::tally::{Met, Tally};
-use super::tasks::{hold_task, threshold, weights};
+use super::tasks::{Kind, hold_task, thresholded, weights};
 use crate::calls;
 use crate::cases::{cluster, letters};
 use crate::held::{Difference, Held, agree};
@@ -13,7 +15,9 @@ use crate::reference::sketch::{Entry, codes, positions, sketch_call};
 use crate::reference::strike::{strike_call, strike_read_call};
 
 const CASES: u64 = 25_000;
+const JACCARD_CASES: u64 = 12_000;
 const LEAST: Least = Least { lists: 19_900, medium: 8_500, mappings: 75_000 };
+const JACCARD_LEAST: Least = Least { lists: 9_000, medium: 3_900, mappings: 48_000 };
 
 /// The fewest and the most entries that a random text is to have, and the most of its read. Half of the texts are to have 9 to 24.
 const LENGTHS: [(usize, usize, usize); 4] = [(0, 8, 5), (9, 24, 8), (9, 24, 16), (25, 50, 20)];
@@ -121,25 +125,32 @@ pub fn proved_codes(made: &Made, met: &mut Met) -> Result<Option<Codes>, Differe
     Ok(Some((struck.0, rest.0, lost)))
 }
 
-fn hold(random: &mut Random, met: &mut Met, struck: &mut Struck) -> Result<(), Difference> {
+fn hold(random: &mut Random, kind: Kind, met: &mut Met, struck: &mut Struck) -> Result<(), Difference> {
     let made = made(random, letters_for);
     let Some((text, pattern, lost)) = proved_codes(&made, met)? else {
         return Ok(());
     };
     struck.some += usize::from(lost > 0 && !pattern.is_empty());
     struck.all += usize::from(lost > 0 && pattern.is_empty());
-    let (u, v) = made.weights;
-    let task = Task { text, pattern, u, v, threshold: 0 };
-    let task = Task { threshold: threshold(random, &task), ..task };
+    let task = Task { text, pattern, scoring: kind.scoring(made.weights) };
+    let task = Task { scoring: thresholded(random, &task), ..task };
     hold_task(random, &task, met)
 }
 
-pub fn random(tally: &mut Tally) {
+fn hold_all(tally: &mut Tally, seeds: Range<u64>, kind: Kind) -> Struck {
     let mut struck = Struck::default();
-    for seed in 0..CASES {
-        tally.compare(|| format!("seed {seed}"), |met| hold(&mut Random::new(seed), met, &mut struck));
+    for seed in seeds {
+        tally.compare(|| format!("seed {seed}"), |met| hold(&mut Random::new(seed), kind, met, &mut struck));
     }
+    struck
+}
+
+pub fn random(tally: &mut Tally) {
+    let struck = hold_all(tally, 0..CASES, Kind::Linear);
     tally.ask("tasks whose read lost some entries", struck.some, 2_000);
     tally.ask("tasks whose read lost all entries", struck.all, 2_700);
     tally.end_lists("lists from letters, by sketch, strike of text and read, start and step", &LEAST);
+    let struck = hold_all(tally, 500_000..500_000 + JACCARD_CASES, Kind::Jaccard);
+    tally.ask("tasks under Jaccard whose read lost some entries", struck.some, 950);
+    tally.end_lists("lists from letters under Jaccard, by sketch, strike of text and read, start and step", &JACCARD_LEAST);
 }

@@ -1,9 +1,9 @@
-//! Document 01's table of refusals, with the calls of document 02, and how often each number was met by which call.
+//! Document 01's table of refusals, with the calls and the numbers of document 02, and how often each number was met by which call.
 
 use std::collections::BTreeMap;
 
 /// Each number, and the calls that return it, by name.
-const TABLE: [(u32, &[&str]); 16] = [
+const TABLE: [(u32, &[&str]); 17] = [
     (1, &["count", "save", "sketch"]),
     (2, &["count", "save", "sketch"]),
     (3, &["count", "sketch"]),
@@ -11,15 +11,16 @@ const TABLE: [(u32, &[&str]); 16] = [
     (5, &["save", "strike", "strike of the read"]),
     (6, &["strike", "strike of the read"]),
     (7, &["start"]),
-    (8, &["start", "strike", "strike of the read"]),
-    (9, &["start"]),
-    (10, &["start", "step"]),
-    (11, &["start"]),
+    (8, &["start", "start, Jaccard", "strike", "strike of the read"]),
+    (9, &["start", "start, Jaccard"]),
+    (10, &["start", "start, Jaccard", "step"]),
+    (11, &["start", "start, Jaccard"]),
     (12, &["load"]),
     (13, &["load"]),
     (14, &["load"]),
     (15, &["step"]),
     (16, &["per mille"]),
+    (17, &["start, Jaccard"]),
 ];
 
 #[derive(Default)]

@@ -7,15 +7,19 @@ use crate::held::{Difference, agree};
 use crate::random::Random;
 use crate::reference::by_hits::finals_by_hits;
 use crate::reference::faster::finals;
-use crate::reference::score::Task;
+use crate::reference::score::{Scoring, Task};
 use crate::reference::start::{MAX_HITS, MAX_PATTERN};
 use crate::reference::strike::MAX_TEXT;
 
 /// Weights and thresholds: both ends of the 32 bits, and some between.
-const SETTINGS: [((u32, u32), i32); 5] =
-    [((1_000, 1_000), i32::MIN), ((1_000, 1_000), i32::MAX), ((1_000, 1), -30_000), ((1, 1_000), -4_100_000), ((1, 1), -4_000)];
+const SETTINGS: [(u32, u32, i32); 5] =
+    [(1_000, 1_000, i32::MIN), (1_000, 1_000, i32::MAX), (1_000, 1, -30_000), (1, 1_000, -4_100_000), (1, 1, -4_000)];
+
+/// Thresholds under Jaccard: both ends, the least above 0, and some between.
+const FRACTIONS: [(u32, u32); 5] = [(0, 1_000), (1, 1_000), (21, 1_000), (1, 4), (1_000, 1_000)];
 
 const LEAST: Least = Least { lists: 30, medium: 0, mappings: 4_287_000 };
+const JACCARD_LEAST: Least = Least { lists: 30, medium: 0, mappings: 59_000 };
 
 /// Where the hits of a text stand.
 #[derive(Clone, Copy, Debug)]
@@ -45,7 +49,7 @@ fn places(random: &mut Random, kind: Places) -> Vec<usize> {
 }
 
 /// A task with exactly 2,048 hits whose codes are so many; other entries have codes that the pattern lacks.
-fn task(random: &mut Random, kind: Places, codes: usize, (u, v): (u32, u32), threshold: i32) -> Task {
+fn task(random: &mut Random, kind: Places, codes: usize, scoring: Scoring) -> Task {
     let spread = |code: usize| (code as u32).wrapping_mul(2_654_435_761);
     let mut text: Vec<u32> = (0..MAX_TEXT).map(|_| spread(1_000_000 + random.below(50_000))).collect();
     for at in places(random, kind) {
@@ -62,7 +66,7 @@ fn task(random: &mut Random, kind: Places, codes: usize, (u, v): (u32, u32), thr
             })
         })
         .collect();
-    Task { text, pattern, u, v, threshold }
+    Task { text, pattern, scoring }
 }
 
 /// Asks that the form over hits lists what all intervals of a long text give.
@@ -72,12 +76,8 @@ fn hold_form(task: &Task) -> Result<(), Difference> {
     agree("the form over hits", finals_by_hits(task), finals)
 }
 
-pub fn limits(tally: &mut Tally) {
-    let mut random = Random::new(350_000);
-    let mut whole = task(&mut random, Places::Anywhere, 1_500, (1_000, 1), -3_000_000);
-    whole.text.truncate(16_384);
-    tally.compare(|| "all intervals of 16,384 entries".into(), |_| hold_form(&whole));
-    tally.end_part("the form of Definition 1 over hits beside all 134,225,920 intervals of 16,384 entries");
+/// Holds a session of each of these scorings, wherever its hits stand.
+fn sessions(tally: &mut Tally, random: &mut Random, scorings: [Scoring; 5]) {
     let kinds = [
         (Places::Anywhere, 1),
         (Places::Anywhere, 40),
@@ -87,11 +87,24 @@ pub fn limits(tally: &mut Tally) {
         (Places::Ends, 1_500),
     ];
     for (kind, codes) in kinds {
-        for (weights, threshold) in SETTINGS {
-            let task = task(&mut random, kind, codes, weights, threshold);
-            let case = || format!("{kind:?}, {codes} codes, weights {weights:?}, threshold {threshold}");
-            tally.compare(case, |met| hold_by_hits(&mut random, &task, MAX_HITS, met));
+        for scoring in scorings {
+            let task = task(random, kind, codes, scoring);
+            let case = || format!("{kind:?}, {codes} codes, {scoring:?}");
+            tally.compare(case, |met| hold_by_hits(random, &task, MAX_HITS, met));
         }
     }
+}
+
+pub fn limits(tally: &mut Tally) {
+    let mut random = Random::new(350_000);
+    for scoring in [Scoring::Linear { u: 1_000, v: 1, threshold: -3_000_000 }, Scoring::Jaccard { f: 1, g: 1_000 }] {
+        let mut whole = task(&mut random, Places::Anywhere, 1_500, scoring);
+        whole.text.truncate(16_384);
+        tally.compare(|| format!("all intervals of 16,384 entries, {scoring:?}"), |_| hold_form(&whole));
+    }
+    tally.end_part("the form of Definition 1 over hits beside all 134,225,920 intervals of 16,384 entries, both scores");
+    sessions(tally, &mut random, SETTINGS.map(|(u, v, threshold)| Scoring::Linear { u, v, threshold }));
     tally.end_lists("sessions: h 2,048, 65,535 and 4,096 entries, weights 1,000, thresholds at both ends of 32 bits", &LEAST);
+    sessions(tally, &mut random, FRACTIONS.map(|(f, g)| Scoring::Jaccard { f, g }));
+    tally.end_lists("sessions under Jaccard: h 2,048, 65,535 and 4,096 entries, thresholds from 0 to 1", &JACCARD_LEAST);
 }

@@ -1,6 +1,7 @@
-//! What start and step refuse, at the limits of weights, entries, words and hits; and words that no start made.
+//! What start and step refuse, at the limits of weights, fractions, entries, words and hits; and words that no start made.
 
 use super::tally::Tally;
+use super::tasks::start_name;
 use crate::exported::{self, StepWords};
 use crate::held::buffer::Buffer;
 use crate::held::session::start;
@@ -9,8 +10,8 @@ use crate::random::Random;
 use crate::reference::by_hits::finals_by_hits;
 use crate::reference::cells::{cell_count, hits};
 use crate::reference::refusal::refused;
-use crate::reference::score::Task;
-use crate::reference::start::WORK_WORDS;
+use crate::reference::score::{Scoring, Task};
+use crate::reference::start::{WORK_WORDS, refused_scoring};
 
 /// Holds start, and answers h where it is accepted.
 fn hold_start(random: &mut Random, task: &Task, lent: usize) -> Held<usize> {
@@ -18,41 +19,60 @@ fn hold_start(random: &mut Random, task: &Task, lent: usize) -> Held<usize> {
 }
 
 /// A text of this many entries, of which the last ones are hits of the pattern's one code.
-fn task(entries: usize, hits: usize, pattern: usize, u: u32, v: u32) -> Task {
+fn task(entries: usize, hits: usize, pattern: usize, scoring: Scoring) -> Task {
     let text = [vec![8; entries - hits], vec![9; hits]].concat();
-    Task { text, pattern: vec![9; pattern], u, v, threshold: 0 }
+    Task { text, pattern: vec![9; pattern], scoring }
 }
 
-fn starts(tally: &mut Tally, random: &mut Random) {
-    for u in [0, 1, 1_000, 1_001, u32::MAX] {
-        for v in [0, 1, 1_000, 1_001, u32::MAX] {
-            for entries in [0, 3, 65_535, 65_536] {
-                for pattern in [0, 1, 4_096, 4_097] {
-                    for lent in [0, 16_383, 16_384, 16_400] {
-                        let task = task(entries, entries.min(3), pattern, u, v);
-                        let case = || format!("u {u}, v {v}, {entries} and {pattern} entries, {lent} words");
-                        tally.call("start", case, hold_start(random, &task, lent));
-                    }
-                }
+/// A start that scores so, with entries and words at their limits.
+fn starts_with(tally: &mut Tally, random: &mut Random, scoring: Scoring) {
+    for entries in [0, 3, 65_535, 65_536] {
+        for pattern in [0, 1, 4_096, 4_097] {
+            for lent in [0, 16_383, 16_384, 16_400] {
+                let task = task(entries, entries.min(3), pattern, scoring);
+                let case = || format!("{scoring:?}, {entries} and {pattern} entries, {lent} words");
+                tally.call(start_name(scoring), case, hold_start(random, &task, lent));
             }
         }
     }
+}
+
+/// Starts that score so, with hits at their limit.
+fn starts_with_hits(tally: &mut Tally, random: &mut Random, scoring: Scoring) {
     for hits in [0, 1, 2_047, 2_048, 2_049, 4_097, 65_535] {
         for (entries, pattern) in [(hits, 1), (hits, 4_096), (65_535, 1), (65_535, 4_096)] {
-            let task = task(entries, hits, pattern, 1_000, 1_000);
-            tally.call(
-                "start",
-                || format!("{hits} hits, {entries} and {pattern} entries"),
-                hold_start(random, &task, WORK_WORDS),
-            );
+            let task = task(entries, hits, pattern, scoring);
+            let case = || format!("{scoring:?}, {hits} hits, {entries} and {pattern} entries");
+            tally.call(start_name(scoring), case, hold_start(random, &task, WORK_WORDS));
         }
     }
 }
 
+/// Numbers at the limits of weights and of fractions.
+const NUMBERS: [u32; 6] = [0, 1, 999, 1_000, 1_001, u32::MAX];
+
+fn starts(tally: &mut Tally, random: &mut Random) {
+    for u in NUMBERS {
+        for v in NUMBERS {
+            starts_with(tally, random, Scoring::Linear { u, v, threshold: 0 });
+        }
+    }
+    starts_with_hits(tally, random, Scoring::Linear { u: 1_000, v: 1_000, threshold: 0 });
+}
+
+fn jaccard_starts(tally: &mut Tally, random: &mut Random) {
+    for f in NUMBERS {
+        for g in NUMBERS {
+            starts_with(tally, random, Scoring::Jaccard { f, g });
+        }
+    }
+    starts_with_hits(tally, random, Scoring::Jaccard { f: 1, g: 1_000 });
+}
+
 /// Holds a step that is refused with this number: no word is changed.
-fn refused_step(random: &mut Random, first: [u32; 4], lent: usize, number: u32) -> Held<usize> {
+fn refused_step(random: &mut Random, first: [u32; 5], lent: usize, number: u32) -> Held<usize> {
     let mut work = Buffer::new(random, WORK_WORDS + 20);
-    work.lent()[..4].copy_from_slice(&first);
+    work.lent()[..5].copy_from_slice(&first);
     let before = work.lent().to_vec();
     let mut words = StepWords { a: 1, b: 2, score: -3, m: 4, cells: 5 };
     let given = exported::step(&mut work.lent()[..lent], random.one_of(&[0, 1, 9, u32::MAX]), &mut words);
@@ -64,17 +84,35 @@ fn refused_step(random: &mut Random, first: [u32; 4], lent: usize, number: u32) 
 fn steps(tally: &mut Tally, random: &mut Random) {
     let most = cell_count(2_048) as u32;
     let bad = [
-        [2_049, 1, 1, 0],
-        [u32::MAX, 1, 1, 0],
-        [5, 0, 1, 0],
-        [5, 1_001, 1, 0],
-        [5, 1, 0, 0],
-        [5, 1, 1_001, 0],
-        [5, u32::MAX, u32::MAX, 0],
-        [5, 1, 1, 16],
-        [0, 1, 1, 1],
-        [2_048, 1_000, 1_000, most + 1],
-        [2_048, 1_000, 1_000, u32::MAX],
+        [2_049, 1, 1, 0, 0],
+        [u32::MAX, 1, 1, 0, 0],
+        [5, 0, 1, 0, 0],
+        [5, 1_001, 1, 0, 0],
+        [5, 1, 0, 0, 0],
+        [5, 1, 1_001, 0, 0],
+        [5, u32::MAX, u32::MAX, 0, 0],
+        [5, 1, 1, 16, 0],
+        [0, 1, 1, 1, 0],
+        [2_048, 1_000, 1_000, most + 1, 0],
+        [2_048, 1_000, 1_000, u32::MAX, 0],
+        [2_049, 1, 1, 0, 1],
+        [5, 0, 0, 0, 1],
+        [5, 1, 0, 0, 1],
+        [5, 2, 1, 0, 1],
+        [5, 1_000, 999, 0, 1],
+        [5, 0, 1_001, 0, 1],
+        [5, 1_001, 1_001, 0, 1],
+        [5, u32::MAX, 1, 0, 1],
+        [5, u32::MAX, u32::MAX, 0, 1],
+        [5, 0, 1, 16, 1],
+        [0, 0, 1, 1, 1],
+        [2_048, 1_000, 1_000, most + 1, 1],
+        [5, 1, 1, 0, 2],
+        [0, 1, 1, 0, 2],
+        [5, 1, 1, 0, 3],
+        [5, 1, 1, 0, 1 << 16],
+        [5, 1, 1, 0, 1 << 31],
+        [5, 1, 1, 0, u32::MAX],
     ];
     for first in bad {
         for lent in [WORK_WORDS, WORK_WORDS + 20] {
@@ -83,6 +121,16 @@ fn steps(tally: &mut Tally, random: &mut Random) {
         for lent in [0, 1, 3, 4, WORK_WORDS - 1] {
             tally.call("step", || format!("{lent} words {first:?}"), refused_step(random, first, lent, 10));
         }
+    }
+}
+
+/// Any scoring that start accepts.
+fn accepted_scoring(random: &mut Random) -> Scoring {
+    let [one, other] = [1, 2].map(|_| random.between(1, 1_000) as u32);
+    match random.below(4) {
+        0 => Scoring::Jaccard { f: 0, g: other },
+        1 => Scoring::Jaccard { f: one.min(other), g: one.max(other) },
+        _ => Scoring::Linear { u: one, v: other, threshold: 0 },
     }
 }
 
@@ -95,12 +143,17 @@ fn unmade(random: &mut Random) -> Result<(), Difference> {
     }
     let h = random.below(2_049);
     let passed = random.below(cell_count(h) + 1);
-    let (u, v) = (random.between(1, 1_000), random.between(1, 1_000));
-    work.lent()[..4].copy_from_slice(&[h, u, v, passed].map(|number| number as u32));
+    let scoring = accepted_scoring(random);
+    agree("a scoring that is refused", refused_scoring(scoring), None)?;
+    let (first, second, kind, found) = match scoring {
+        Scoring::Linear { u, v, .. } => (u, v, 0, 0),
+        Scoring::Jaccard { f, g } => (f, g, 1, 3),
+    };
+    work.lent()[..5].copy_from_slice(&[h as u32, first, second, passed as u32, kind]);
     let mut words = StepWords::default();
     let budget = random.one_of(&[0, 1, 100, 100_000, u32::MAX]);
     let answer = exported::step(work.lent(), budget, &mut words);
-    agree("found, finished or spent", answer <= 2, true)?;
+    agree("found, finished or spent", [found, 1, 2].contains(&answer), true)?;
     let now = work.lent()[..WORK_WORDS].to_vec();
     work.holds("words beyond the first 16,384", &now)
 }
@@ -108,9 +161,13 @@ fn unmade(random: &mut Random) -> Result<(), Difference> {
 pub fn limits(tally: &mut Tally) {
     let mut random = Random::new(340_000);
     starts(tally, &mut random);
-    tally.end_part("start: u, v 0, 1, 1,000, 1,001; 65,535 and 65,536, 4,096 and 4,097 entries; 16,383 words; h 2,048 and 2,049");
+    tally.end_part(
+        "start: u, v 0, 1, 999, 1,000, 1,001; 65,535 and 65,536, 4,096 and 4,097 entries; 16,383 words; h 2,048 and 2,049",
+    );
+    jaccard_starts(tally, &mut random);
+    tally.end_part("start under Jaccard: f, g 0, 1, 999, 1,000, 1,001; entries, words and hits at the same limits");
     steps(tally, &mut random);
-    tally.end_part("step: 16,383 words, and words 0 to 3 at their limits");
+    tally.end_part("step: 16,383 words, and words 0 to 4 at their limits");
     for seed in 0..2_000 {
         tally.compare(|| format!("seed {seed}"), |_| unmade(&mut Random::new(341_000 + seed)));
     }

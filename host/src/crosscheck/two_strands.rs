@@ -1,10 +1,12 @@
 //! Two-strand runs from letters to both lists: the reverse complement of the read by its call, and then, for each strand, sketch of
 //! text and read, strike of both, start and steps, beside all intervals of Definition 1.
 
+use std::ops::Range;
+
 use super::lists::{Made, made, proved_codes};
 use super::numbers::Least;
 use super::tally::{Met, Tally};
-use super::tasks::{hold_task, threshold};
+use super::tasks::{Kind, hold_task, thresholded};
 use crate::calls;
 use crate::cases::{both_strands, palindrome};
 use crate::held::{Difference, agree};
@@ -15,7 +17,9 @@ use crate::reference::score::Task;
 use crate::reference::start::{WORK_WORDS, start_call};
 
 const CASES: u64 = 10_000;
+const JACCARD_CASES: u64 = 5_000;
 const LEAST: Least = Least { lists: 16_000, medium: 7_500, mappings: 37_000 };
+const JACCARD_LEAST: Least = Least { lists: 7_600, medium: 3_600, mappings: 21_500 };
 
 /// How many runs there were with mappings on both strands, on one alone, with equal lists of which each has a mapping, and of which one
 /// strand alone was refused.
@@ -26,6 +30,22 @@ struct Strands {
     reverse: usize,
     equal: usize,
     one_refused: usize,
+}
+
+impl Strands {
+    /// Asks that so many runs of each kind were met.
+    fn ask(&self, tally: &mut Tally, score: &str, least: Strands) {
+        let kinds = [
+            ("with mappings on both strands", self.both, least.both),
+            ("with mappings on the forward strand alone", self.forward, least.forward),
+            ("with mappings on the reverse strand alone", self.reverse, least.reverse),
+            ("with equal lists on both strands", self.equal, least.equal),
+            ("of which one strand alone is refused", self.one_refused, least.one_refused),
+        ];
+        for (kind, met, least) in kinds {
+            tally.ask(&format!("runs{score} {kind}"), met, least);
+        }
+    }
 }
 
 /// Copies of a gene on both strands and a read of one of them; in one case of eight a palindrome, as text and as read.
@@ -49,10 +69,9 @@ fn complemented(read: &[u8]) -> Result<Vec<u8>, Difference> {
 }
 
 /// The task of one strand's read, with a threshold that is chosen later. None where a call is refused before start.
-fn task(made: &Made, met: &mut Met) -> Result<Option<Task>, Difference> {
-    let (u, v) = made.weights;
+fn task(made: &Made, kind: Kind, met: &mut Met) -> Result<Option<Task>, Difference> {
     let codes = proved_codes(made, met)?;
-    Ok(codes.map(|(text, pattern, _)| Task { text, pattern, u, v, threshold: 0 }))
+    Ok(codes.map(|(text, pattern, _)| Task { text, pattern, scoring: kind.scoring(made.weights) }))
 }
 
 /// Takes note of what a run has on its strands.
@@ -74,15 +93,15 @@ fn meet(strands: &mut Strands, run: &[Task; 2]) {
     strands.equal += usize::from(forward == reverse && !forward.is_empty());
 }
 
-fn hold(random: &mut Random, met: &mut Met, strands: &mut Strands) -> Result<(), Difference> {
+fn hold(random: &mut Random, kind: Kind, met: &mut Met, strands: &mut Strands) -> Result<(), Difference> {
     let forward = made(random, letters_for);
     let reverse = Made { read: complemented(&forward.read)?, text: forward.text.clone(), ..forward };
-    let (Some(forward), Some(reverse)) = (task(&forward, met)?, task(&reverse, met)?) else {
+    let (Some(forward), Some(reverse)) = (task(&forward, kind, met)?, task(&reverse, kind, met)?) else {
         return Ok(());
     };
     let judged = if random.once_in(2) { &forward } else { &reverse };
-    let threshold = threshold(random, judged);
-    let run = [Task { threshold, ..forward }, Task { threshold, ..reverse }];
+    let scoring = thresholded(random, judged);
+    let run = [Task { scoring, ..forward }, Task { scoring, ..reverse }];
     for task in &run {
         hold_task(random, task, met)?;
     }
@@ -90,15 +109,24 @@ fn hold(random: &mut Random, met: &mut Met, strands: &mut Strands) -> Result<(),
     Ok(())
 }
 
-pub fn random(tally: &mut Tally) {
+fn hold_all(tally: &mut Tally, seeds: Range<u64>, kind: Kind) -> Strands {
     let mut strands = Strands::default();
-    for seed in 450_000..450_000 + CASES {
-        tally.compare(|| format!("seed {seed}"), |met| hold(&mut Random::new(seed), met, &mut strands));
+    for seed in seeds {
+        tally.compare(|| format!("seed {seed}"), |met| hold(&mut Random::new(seed), kind, met, &mut strands));
     }
-    tally.ask("runs with mappings on both strands", strands.both, 3_600);
-    tally.ask("runs with mappings on the forward strand alone", strands.forward, 800);
-    tally.ask("runs with mappings on the reverse strand alone", strands.reverse, 800);
-    tally.ask("runs with equal lists on both strands", strands.equal, 800);
-    tally.ask("runs of which one strand alone is refused", strands.one_refused, 400);
+    strands
+}
+
+pub fn random(tally: &mut Tally) {
+    let strands = hold_all(tally, 450_000..450_000 + CASES, Kind::Linear);
+    let least = Strands { both: 3_600, forward: 800, reverse: 800, equal: 800, one_refused: 400 };
+    strands.ask(tally, "", least);
     tally.end_lists("two-strand runs from letters, by reverse complement, sketch, strikes, start and step", &LEAST);
+    let strands = hold_all(tally, 520_000..520_000 + JACCARD_CASES, Kind::Jaccard);
+    let least = Strands { both: 2_300, forward: 500, reverse: 530, equal: 600, one_refused: 190 };
+    strands.ask(tally, " under Jaccard", least);
+    tally.end_lists(
+        "two-strand runs from letters under Jaccard, by reverse complement, sketch, strikes, start and step",
+        &JACCARD_LEAST,
+    );
 }

@@ -5,7 +5,7 @@ use super::{Difference, Held, UNWRITTEN, agree, agree_with};
 use crate::exported::{self, StepWords};
 use crate::random::Random;
 use crate::reference::definition1::Mapping;
-use crate::reference::score::Task;
+use crate::reference::score::{Score, Scoring, Task};
 use crate::reference::start::start_call;
 use crate::reference::steps::{Answer, Rule, Step};
 use crate::reference::work_words::WorkWords;
@@ -18,13 +18,21 @@ pub struct Session {
     words: WorkWords,
 }
 
+/// The proved start of the task's score.
+fn proved_start(task: &Task, work: &mut [u32], number: &mut u32) -> usize {
+    match task.scoring {
+        Scoring::Linear { u, v, threshold } => exported::start(&task.text, &task.pattern, u, v, threshold, work, number),
+        Scoring::Jaccard { f, g } => exported::start_jaccard(&task.text, &task.pattern, f, g, work, number),
+    }
+}
+
 /// Holds the call of start with this many work words, and gives the session where it is accepted. `finals` makes the task's final
 /// mappings, by whichever form of Definition 1 suits its size.
 pub fn start(random: &mut Random, task: &Task, lent: usize, finals: impl FnOnce(&Task) -> Vec<Mapping>) -> Held<Session> {
     let expected = start_call(task, lent);
     let mut work = Buffer::new(random, lent);
     let mut number = UNWRITTEN;
-    let value = exported::start(&task.text, &task.pattern, task.u, task.v, task.threshold, work.lent(), &mut number);
+    let value = proved_start(task, work.lent(), &mut number);
     agree_with(&expected, number, value)?;
     if let Err(refusal) = expected {
         work.holds("work words of a refused start", &[])?;
@@ -35,12 +43,17 @@ pub fn start(random: &mut Random, task: &Task, lent: usize, finals: impl FnOnce(
     Ok(Ok(Session { work, rule: Rule::new(task, &finals(task)), words }))
 }
 
-/// The number and the words that a step gives for this answer. Words that the answer does not have keep their content.
+/// The number and the words that a step gives for this answer: a score under Jaccard by its divisor. Words that the answer does not have
+/// keep their content.
 fn as_words(answer: &Answer, before: StepWords) -> (u32, StepWords) {
     match *answer {
         Answer::Found(Mapping { a, b, score, m }, cells) => {
+            let (kind, score) = match score {
+                Score::Number(number) => (0, number),
+                Score::Fraction { divisor, .. } => (3, i64::from(divisor)),
+            };
             let score = i32::try_from(score).expect("a score of 32 bits");
-            (0, StepWords { a: a as u32, b: b as u32, score, m: m as u32, cells: cells as u32 })
+            (kind, StepWords { a: a as u32, b: b as u32, score, m: m as u32, cells: cells as u32 })
         }
         Answer::Finished(cells) => (1, StepWords { cells: cells as u32, ..before }),
         Answer::Spent(cells) => (2, StepWords { cells: cells as u32, ..before }),

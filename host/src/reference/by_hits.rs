@@ -1,10 +1,10 @@
 //! Definition 1 over intervals that begin and end on hits only, for sessions at the limits: an entry that is no hit adds to len and
-//! to no m, so a wider interval loses nothing of its score when such an end is cut off.
+//! to no m, so that either score of a wider interval does not fall when such an end is cut off.
 //! The tests hold it to the definition over all intervals.
 
 use super::cells::hits;
 use super::definition1::Mapping;
-use super::score::{Task, linear};
+use super::score::{Task, score_of};
 use super::strike::occurrences;
 
 /// The session's hits as numbers: each one's index in t, the number of its code, and how often that code occurs in p.
@@ -41,15 +41,16 @@ pub fn row(hits: &Hits, i: usize) -> Vec<(usize, bool)> {
 pub fn finals_by_hits(task: &Task) -> Vec<Mapping> {
     let hits = named_hits(task);
     let h = hits.index.len();
-    let mut widest = vec![i64::MIN; h + 1];
+    let threshold = task.scoring.threshold();
+    let mut widest = vec![task.scoring.lowest(); h + 1];
     let mut found = Vec::new();
     for i in 0..h {
         let row = row(&hits, i);
         for j in (i..h).rev() {
             let ((m, reasonable), a, b) = (row[j - i], hits.index[i], hits.index[j]);
-            let score = linear(task, m, b - a + 1);
-            widest[j] = widest[j].max(widest[j + 1]).max(score);
-            if reasonable && score >= i64::from(task.threshold) && score == widest[j] {
+            let score = score_of(task, m, b - a + 1);
+            widest[j] = widest[j].or_greater(widest[j + 1]).or_greater(score);
+            if reasonable && !score.is_below(threshold) && !score.is_below(widest[j]) {
                 found.push(Mapping { a, b, score, m });
             }
         }

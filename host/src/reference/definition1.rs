@@ -1,21 +1,21 @@
 //! Definition 1 as document 01 has it, word for word: all intervals, each beside all intervals that contain it, and counts by
 //! counting. The faster forms are held to it.
 
-use super::score::{Task, linear, shared, times};
+use super::score::{Score, Task, score_of, shared, times};
 
 /// A final mapping, as it is handed out.
 #[derive(Clone, Copy, Debug, PartialEq, Eq)]
 pub struct Mapping {
     pub a: usize,
     pub b: usize,
-    pub score: i64,
+    pub score: Score,
     pub m: usize,
 }
 
 /// The mapping of [a, b], final or not: its m is counted from its own entries.
 pub fn mapping_of(task: &Task, a: usize, b: usize) -> Mapping {
     let m = shared(&task.pattern, &task.text[a..=b]);
-    Mapping { a, b, score: linear(task, m, b - a + 1), m }
+    Mapping { a, b, score: score_of(task, m, b - a + 1), m }
 }
 
 /// All intervals of a text, each with its mapping, so that an interval is counted once and not anew for each one that it contains.
@@ -46,12 +46,12 @@ impl Intervals<'_> {
     /// "no interval that contains [a, b] has a greater score"
     fn is_maximal(&self, a: usize, b: usize) -> bool {
         let score = self.at(a, b).score;
-        (0..=a).all(|c| (b..self.rows.len()).all(|d| self.at(c, d).score <= score))
+        (0..=a).all(|c| (b..self.rows.len()).all(|d| !score.is_below(self.at(c, d).score)))
     }
 
     /// Whether [a, b] is final, by each of the definition's conditions.
     pub fn is_final(&self, a: usize, b: usize) -> bool {
-        self.at(a, b).score >= i64::from(self.task.threshold)
+        !self.at(a, b).score.is_below(self.task.scoring.threshold())
             && self.is_reasonable(a, b, a)
             && self.is_reasonable(a, b, b)
             && self.is_maximal(a, b)

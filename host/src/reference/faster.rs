@@ -2,7 +2,7 @@
 //! the greatest score of the intervals that contain one is kept and not looked for. The tests hold it to the definition.
 
 use super::definition1::Mapping;
-use super::score::{Task, linear};
+use super::score::{Task, score_of};
 use super::strike::occurrences;
 
 /// Every final interval, in the order of the list. Intervals are visited start by start, and `widest[b]` is the greatest score of
@@ -14,14 +14,15 @@ pub fn finals(task: &Task) -> Vec<Mapping> {
     let in_pattern = occurrences(task.pattern.iter().copied());
     let allowed: Vec<usize> = names.iter().map(|code| in_pattern.get(code).copied().unwrap_or(0)).collect();
 
-    let mut widest = vec![i64::MIN; text.len() + 1];
+    let threshold = task.scoring.threshold();
+    let mut widest = vec![task.scoring.lowest(); text.len() + 1];
     let mut found = Vec::new();
     for a in 0..text.len() {
         let row = intervals_from(task, &text, &allowed, a);
         for b in (a..text.len()).rev() {
             let (mapping, reasonable) = row[b - a];
-            widest[b] = widest[b].max(widest[b + 1]).max(mapping.score);
-            if reasonable && mapping.score >= i64::from(task.threshold) && mapping.score == widest[b] {
+            widest[b] = widest[b].or_greater(widest[b + 1]).or_greater(mapping.score);
+            if reasonable && !mapping.score.is_below(threshold) && !mapping.score.is_below(widest[b]) {
                 found.push(mapping);
             }
         }
@@ -42,7 +43,7 @@ fn intervals_from(task: &Task, text: &[usize], allowed: &[usize], a: usize) -> V
             m += 1;
         }
         let reasonable = |end: usize| times[text[end]] <= allowed[text[end]];
-        let mapping = Mapping { a, b, score: linear(task, m, b - a + 1), m };
+        let mapping = Mapping { a, b, score: score_of(task, m, b - a + 1), m };
         row.push((mapping, reasonable(a) && reasonable(b)));
     }
     row

@@ -1,16 +1,16 @@
 //! The three lines that `maplist` reads.
 
+use super::score::Scoring;
+
 pub const MAX_LINE: usize = 4_096;
 
-/// The numbers of the first line.
+/// What the first line says.
 #[derive(Clone, Copy, Debug, PartialEq, Eq)]
 pub struct Settings {
     pub k: u32,
     pub w: u32,
     pub c: u32,
-    pub u: u32,
-    pub v: u32,
-    pub threshold: i32,
+    pub scoring: Scoring,
 }
 
 /// The settings, the text's letters and the read's letters.
@@ -46,20 +46,22 @@ fn signed(field: &[u8]) -> Option<i32> {
     i32::try_from(number).ok()
 }
 
+/// The last three fields: "`jaccard` for the threshold makes u and v f and g".
+fn scoring(u: &[u8], v: &[u8], threshold: &[u8]) -> Option<Scoring> {
+    let (u, v) = (magnitude(u)?, magnitude(v)?);
+    match threshold {
+        b"jaccard" => Some(Scoring::Jaccard { f: u, g: v }),
+        _ => Some(Scoring::Linear { u, v, threshold: signed(threshold)? }),
+    }
+}
+
 /// The first line: `k w c u v threshold`, "one space between".
 fn settings(line: &[u8]) -> Option<Settings> {
     let fields: Vec<&[u8]> = line.split(|&byte| byte == b' ').collect();
     let &[k, w, c, u, v, threshold] = fields.as_slice() else {
         return None;
     };
-    Some(Settings {
-        k: magnitude(k)?,
-        w: magnitude(w)?,
-        c: magnitude(c)?,
-        u: magnitude(u)?,
-        v: magnitude(v)?,
-        threshold: signed(threshold)?,
-    })
+    Some(Settings { k: magnitude(k)?, w: magnitude(w)?, c: magnitude(c)?, scoring: scoring(u, v, threshold)? })
 }
 
 /// The three lines, or none "On a missing line, a malformed first line or a longer text or read line".

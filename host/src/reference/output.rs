@@ -25,12 +25,12 @@ pub struct Prepared {
 /// What an input has mapped on one strand, by the calls in their order: sketch of the text, sketch of the read, strike, strike of the
 /// read by the text's codes before they are struck, start. Each buffer has a place for every letter.
 pub fn prepared(input: &Input, strand: Strand) -> Result<Prepared, Refusal> {
-    let Settings { k, w, c, u, v, threshold } = input.settings;
+    let Settings { k, w, c, scoring } = input.settings;
     let text: Vec<Entry> = sketch_call(&input.text, k, w, MAX_LINE, MAX_LINE)?;
     let read: Vec<Entry> = sketch_call(&strand.letters(&input.read), k, w, MAX_LINE, MAX_LINE)?;
     let struck = strike_call(&codes(&text), &positions(&text), c, MAX_LINE, MAX_LINE)?;
     let pattern = strike_read_call(&codes(&text), &codes(&read), &positions(&read), c, MAX_LINE, MAX_LINE)?;
-    let task = Task { text: codes(&struck), pattern: codes(&pattern), u, v, threshold };
+    let task = Task { text: codes(&struck), pattern: codes(&pattern), scoring };
     let h = start_call(&task, WORK_WORDS)?;
     Ok(Prepared { strand, task, positions: positions(&struck), h })
 }
@@ -48,9 +48,8 @@ fn line_of(of: &Prepared, k: u32, mapping: &Mapping) -> Vec<u8> {
     let len = (mapping.b - mapping.a + 1) as u32;
     let m = mapping.m as u32;
     let per_mille = per_mille(m, len, of.task.pattern.len() as u32);
-    let score = i32::try_from(mapping.score).expect("a score of 32 bits");
     let (first, last) = (of.positions[mapping.a], of.positions[mapping.b] + k - 1);
-    line(first, last, score, m, per_mille as u32, of.strand)
+    line(first, last, mapping.score, m, per_mille as u32, of.strand)
 }
 
 /// Header, a line for each mapping of either strand, and last the number of mappings and of all cells: "the last line sums both".

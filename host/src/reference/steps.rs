@@ -1,11 +1,11 @@
 //! The rule of a step, and of a list of steps from a fresh session.
 //! Assumes that start accepts the task.
 
-use super::cells::cells;
+use super::cells::{cell_count, cells};
 use super::definition1::Mapping;
 use super::list::list_of;
-use super::score::Task;
-use super::start::WORK_WORDS;
+use super::score::{Scoring, Task};
+use super::start::{MAX_HITS, WORK_WORDS, refused_scoring};
 
 /// A step of a list: its budget, and how many of the work words it is lent.
 #[derive(Clone, Copy, Debug)]
@@ -67,6 +67,17 @@ impl Rule {
             }
         }
     }
+}
+
+/// Whether words 0 to 4 are refused with 15: h over its limit, words 1 and 2 as start refuses them for the score that word 4 tells, more
+/// cells passed than there are, or another number in word 4.
+pub fn refused_words([h, first, second, passed, kind]: [u32; 5]) -> bool {
+    let scoring = match kind {
+        0 => Scoring::Linear { u: first, v: second, threshold: 0 },
+        1 => Scoring::Jaccard { f: first, g: second },
+        _ => return true,
+    };
+    h as usize > MAX_HITS || refused_scoring(scoring).is_some() || passed as usize > cell_count(h as usize)
 }
 
 /// The answers of a list of steps from a fresh session, and q after it.

@@ -3,7 +3,7 @@
 
 use super::by_hits::{Hits, named_hits, row};
 use super::cells::cell_count;
-use super::score::{Task, linear};
+use super::score::{Score, Scoring, Task, score};
 
 const BACK: usize = 2_048;
 const INDEX: usize = 4_096;
@@ -19,21 +19,38 @@ const BLOCK_ROWS: usize = 64;
 #[derive(Clone)]
 pub struct WorkWords {
     words: Vec<u32>,
-    threshold: u32,
-    h: usize,
+    scoring: Scoring,
+    /// the pattern's number of entries
+    size: usize,
+    /// each hit's index in the text
+    index: Vec<usize>,
     q: usize,
     /// the columns left, and the row of the next cell; both 0 where none is left
     columns: usize,
     row: usize,
-    /// the greatest of the threshold's word and of the records in the rows before the next cell's
-    highest: u32,
-    /// m and the score, plus 2^31, of each cell in the order of passing
-    cells: Vec<(u32, u32)>,
+    /// the last record of each row
+    records: Vec<Option<Score>>,
+    /// the greatest of the threshold and of the records in the rows before the next cell's, the first of equal ones
+    highest: Score,
+    /// m of each cell in the order of passing
+    cells: Vec<u32>,
 }
 
-/// A signed number plus 2^31.
-fn biased(number: i64) -> u32 {
-    u32::try_from(number + (1 << 31)).expect("a number of 32 bits")
+/// The word of a score: a number plus 2^31; of a fraction (m − 1)·2^21 + (2^21 − 1 − divisor), and 0 of one that is 0.
+fn word(score: Score) -> u32 {
+    match score {
+        Score::Number(number) => u32::try_from(number + (1 << 31)).expect("a number of 32 bits"),
+        Score::Fraction { m: 0, .. } => 0,
+        Score::Fraction { m, divisor } => (m - 1) * (1 << 21) + ((1 << 21) - 1 - divisor),
+    }
+}
+
+/// Words 1, 2 and 4: the two numbers that start was given, and the kind of score.
+fn first_words(scoring: Scoring) -> [u32; 3] {
+    match scoring {
+        Scoring::Linear { u, v, .. } => [u, v, 0],
+        Scoring::Jaccard { f, g } => [f, g, 1],
+    }
 }
 
 /// The smallest row from which hit j is reasonable as a right end: its code stands at most as often as in p from there to j.
@@ -50,18 +67,11 @@ fn reach(hits: &Hits, i: usize) -> usize {
     same.nth(hits.allowed[code]).unwrap_or(h)
 }
 
-/// m and the score of each cell, by falling j, and for one j by rising i.
-fn passed_cells(task: &Task, hits: &Hits) -> Vec<(u32, u32)> {
+/// m of each cell, by falling j, and for one j by rising i.
+fn passed_cells(hits: &Hits) -> Vec<u32> {
     let h = hits.index.len();
     let rows: Vec<Vec<(usize, bool)>> = (0..h).map(|i| row(hits, i)).collect();
-    let mut cells = Vec::with_capacity(cell_count(h));
-    for j in (0..h).rev() {
-        for i in 0..=j {
-            let m = rows[i][j - i].0;
-            cells.push((m as u32, biased(linear(task, m, hits.index[j] - hits.index[i] + 1))));
-        }
-    }
-    cells
+    (0..h).rev().flat_map(|j| (0..=j).map(move |i| (i, j))).map(|(i, j)| rows[i][j - i].0 as u32).collect()
 }
 
 impl WorkWords {
@@ -69,66 +79,80 @@ impl WorkWords {
     pub fn new(task: &Task, before: &[u32]) -> WorkWords {
         let hits = named_hits(task);
         let h = hits.index.len();
-        let threshold = biased(i64::from(task.threshold));
+        let (size, threshold, [first, second, kind]) = (task.pattern.len(), task.scoring.threshold(), first_words(task.scoring));
         let mut words = before.to_vec();
-        words[..7].copy_from_slice(&[h as u32, task.u, task.v, 0, 0, task.pattern.len() as u32, threshold]);
+        words[..7].copy_from_slice(&[h as u32, first, second, 0, kind, size as u32, word(threshold)]);
         for j in 0..h {
             words[BACK + j] = back(&hits, j) as u32;
             words[INDEX + j] = hits.index[j] as u32;
             words[REACH + j] = reach(&hits, j) as u32;
             words[BEST + j] = 0;
         }
-        let cells = passed_cells(task, &hits);
-        let mut made = WorkWords { words, threshold, h, q: 0, columns: h, row: 0, highest: threshold, cells };
+        let (cells, index, records) = (passed_cells(&hits), hits.index, vec![None; h]);
+        let scoring = task.scoring;
+        let mut made = WorkWords { words, scoring, size, index, q: 0, columns: h, row: 0, records, highest: threshold, cells };
         made.write_place();
-        made.write_blocks();
+        made.write_starts();
+        (0..h.div_ceil(BLOCK_ROWS)).for_each(|block| made.write_top(block));
         made
     }
 
     /// m of the cell of this row in the column in hand, 0 where that column has none. The columns after it have the cells before it.
     fn shared(&self, row: usize) -> u32 {
-        if row < self.columns { self.cells[cell_count(self.h) - cell_count(self.columns) + row].0 } else { 0 }
+        if row < self.columns { self.cells[cell_count(self.index.len()) - cell_count(self.columns) + row] } else { 0 }
     }
 
     fn write_place(&mut self) {
         self.words[3] = self.q as u32;
         let (columns, row, m) = (self.columns as u32, self.row as u32, self.shared(self.row));
-        self.words[7..11].copy_from_slice(&[columns, row, m, self.highest]);
+        self.words[7..11].copy_from_slice(&[columns, row, m, word(self.highest)]);
     }
 
-    /// The greatest record of each block, and m at its first row; one row more has such an m.
-    fn write_blocks(&mut self) {
-        let blocks = self.h.div_ceil(BLOCK_ROWS);
-        for block in 0..blocks {
-            let rows = block * BLOCK_ROWS..self.h.min((block + 1) * BLOCK_ROWS);
-            self.words[TOPS + block] = rows.fold(0, |top, row| top.max(self.words[BEST + row]));
-        }
-        for block in 0..=blocks {
+    /// The greatest record of a block, the first of equal ones, or 0 where it has none.
+    fn write_top(&mut self, block: usize) {
+        let rows = block * BLOCK_ROWS..self.index.len().min((block + 1) * BLOCK_ROWS);
+        let top = self.records[rows].iter().flatten().copied().reduce(Score::or_greater);
+        self.words[TOPS + block] = top.map_or(0, word);
+    }
+
+    /// m at the first row of each block; one row more has such an m.
+    fn write_starts(&mut self) {
+        for block in 0..=self.index.len().div_ceil(BLOCK_ROWS) {
             self.words[STARTS + block] = self.shared(block * BLOCK_ROWS);
         }
     }
 
+    /// The score of the next cell.
+    fn score(&self) -> Score {
+        let len = self.index[self.columns - 1] - self.index[self.row] + 1;
+        score(self.scoring, self.size, self.shared(self.row) as usize, len)
+    }
+
     /// Passes one cell. Its score enters its row as a record where no row up to there has seen one as great, and the threshold is lower.
-    fn pass(&mut self, score: u32) {
-        let best = &mut self.words[BEST + self.row];
-        self.highest = self.highest.max(*best);
-        if score > self.highest {
-            (*best, self.highest) = (score, score);
+    fn pass(&mut self) {
+        let (row, score) = (self.row, self.score());
+        if let Some(record) = self.records[row] {
+            self.highest = self.highest.or_greater(record);
+        }
+        if self.highest.is_below(score) {
+            (self.records[row], self.highest) = (Some(score), score);
+            self.words[BEST + row] = word(score);
+            self.write_top(row / BLOCK_ROWS);
         }
         self.row += 1;
         if self.row == self.columns {
-            (self.columns, self.row, self.highest) = (self.columns - 1, 0, self.threshold);
+            (self.columns, self.row, self.highest) = (self.columns - 1, 0, self.scoring.threshold());
+            self.write_starts();
         }
     }
 
     /// The words after q cells. q does not fall from call to call.
     pub fn after(&mut self, q: usize) -> &[u32] {
-        for number in self.q..q {
-            self.pass(self.cells[number].1);
+        for _ in self.q..q {
+            self.pass();
         }
         self.q = q;
         self.write_place();
-        self.write_blocks();
         &self.words
     }
 }

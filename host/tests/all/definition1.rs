@@ -5,12 +5,28 @@ use host::reference::by_hits::finals_by_hits;
 use host::reference::cells::{cell_count, cells, hits};
 use host::reference::definition1::{Intervals, Mapping, finals_by_definition};
 use host::reference::faster::finals;
-use host::reference::score::{Task, times};
+use host::reference::score::{Scoring, Task, times};
 use host::reference::start::WORK_WORDS;
 use host::reference::steps::{Answer, Step, answers};
 
+/// A linear score.
+fn linear(random: &mut Random) -> Scoring {
+    let (u, v) = random.one_of(&[(1, 1), (1, 1), (2, 1), (1, 2), (3, 4), (4, 1), (1000, 999)]);
+    let threshold = random.between(0, 40) as i32 - 30;
+    Scoring::Linear { u, v, threshold: if random.once_in(4) { i32::MIN } else { threshold } }
+}
+
+/// The weighted Jaccard.
+fn jaccard(random: &mut Random) -> Scoring {
+    let (f, g) = random.one_of(&[(0, 1), (0, 1), (1, 1000), (1, 20), (1, 5), (1, 4), (2, 8), (1, 3), (1, 2), (3, 4), (1, 1)]);
+    Scoring::Jaccard { f, g }
+}
+
+/// Scores so.
+type MakeScoring = fn(&mut Random) -> Scoring;
+
 /// A text of at most so many entries whose pieces are repeated within it, and a pattern that has only the lower half of the codes.
-fn task(random: &mut Random, longest: usize) -> Task {
+fn task(random: &mut Random, longest: usize, scoring: MakeScoring) -> Task {
     let codes = random.between(2, 12);
     let entries = random.below(longest + 1);
     let mut text = Vec::new();
@@ -20,9 +36,7 @@ fn task(random: &mut Random, longest: usize) -> Task {
     }
     text.truncate(entries);
     let pattern = (0..random.between(1, 12)).map(|_| random.below(codes.div_ceil(2)) as u32).collect();
-    let (u, v) = random.one_of(&[(1, 1), (1, 1), (2, 1), (1, 2), (3, 4), (4, 1), (1000, 999)]);
-    let threshold = random.between(0, 40) as i32 - 30;
-    Task { text, pattern, u, v, threshold: if random.once_in(4) { i32::MIN } else { threshold } }
+    Task { text, pattern, scoring: scoring(random) }
 }
 
 /// What a sweep of tasks meets, so that it can't pass on tasks without mappings.
@@ -36,10 +50,10 @@ struct Met {
 }
 
 /// Holds both faster forms to the definition on tasks with texts of at most so many entries, and asks that enough was met.
-fn sweep(seeds: std::ops::Range<u64>, longest: usize, least: Met) {
+fn sweep(seeds: std::ops::Range<u64>, longest: usize, scoring: MakeScoring, least: Met) {
     let mut met = Met::default();
     for seed in seeds {
-        let task = task(&mut Random::new(seed), longest);
+        let task = task(&mut Random::new(seed), longest, scoring);
         let expected = finals_by_definition(&task);
         assert_eq!(finals(&task), expected, "all intervals, seed {seed}: {task:?}");
         assert_eq!(finals_by_hits(&task), expected, "over hits, seed {seed}: {task:?}");
@@ -54,18 +68,29 @@ fn sweep(seeds: std::ops::Range<u64>, longest: usize, least: Met) {
 
 #[test]
 fn faster_forms_agree_up_to_24_entries() {
-    sweep(0..6000, 24, Met { mappings: 12_000, foreign: 5_000, repeats: 3_000 });
+    sweep(0..6000, 24, linear, Met { mappings: 12_000, foreign: 5_000, repeats: 3_000 });
 }
 
 #[test]
 fn faster_forms_agree_up_to_40_entries() {
-    sweep(10_000..10_800, 40, Met { mappings: 3_000, foreign: 700, repeats: 500 });
+    sweep(10_000..10_800, 40, linear, Met { mappings: 3_000, foreign: 700, repeats: 500 });
+}
+
+#[test]
+fn faster_forms_agree_under_jaccard() {
+    sweep(40_000..44_000, 24, jaccard, Met { mappings: 7_000, foreign: 3_500, repeats: 2_000 });
+    sweep(45_000..45_600, 40, jaccard, Met { mappings: 2_000, foreign: 550, repeats: 400 });
+}
+
+/// A linear score or the weighted Jaccard.
+fn either(random: &mut Random) -> Scoring {
+    if random.once_in(2) { linear(random) } else { jaccard(random) }
 }
 
 #[test]
 fn final_intervals_are_cells_in_order() {
     for seed in 20_000..21_500 {
-        let task = task(&mut Random::new(seed), 14);
+        let task = task(&mut Random::new(seed), 14, either);
         let (intervals, cells) = (Intervals::new(&task), cells(&task));
         assert_eq!(cells.len(), cell_count(hits(&task).len()));
         let among = cells.iter().filter(|&&(a, b)| intervals.is_final(a, b)).map(|&(a, b)| intervals.at(a, b));
@@ -77,7 +102,7 @@ fn final_intervals_are_cells_in_order() {
 fn steps_hand_out_the_list() {
     for seed in 30_000..31_500 {
         let mut random = Random::new(seed);
-        let task = task(&mut random, 14);
+        let task = task(&mut random, 14, either);
         let last = cell_count(hits(&task).len());
         let step = |random: &mut Random| Step {
             budget: random.below(9) as u32,

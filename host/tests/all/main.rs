@@ -8,6 +8,7 @@ mod count;
 mod definition1;
 mod frames;
 mod maplist_inputs;
+mod maplist_jaccard;
 mod maplist_large;
 mod maplist_random;
 mod maplist_repeats;

@@ -22,17 +22,17 @@ const LINES: &[u8] = b"\nACAGTTACAGACG\nACAGACG\n";
 
 #[test]
 fn fields_of_the_first_line() {
-    let good = ["2", "3", "100", "1", "1", "1"];
-    let fields: [&[u8]; 44] = [
+    let goods = [["2", "3", "100", "1", "1", "1"], ["2", "3", "100", "1", "5", "jaccard"]];
+    let fields: [&[u8]; 46] = [
         b"", b"-", b"+", b"+1", b"01", b"00", b"-0", b"-00", b"-01", b"-1", b"--1", b"-+1", b"1-", b"1.", b"1.0", b"0x1", b"1e1",
         b"1,", b"a", b"1a", b"A", b"\t1", b"1\t", b"1\r", b"\x001", b"1\0", b"\0", b"\xb2", b"\xff", b"/", b":", b"1_000", b"0",
         b"1", b"2147483647", b"2147483648", b"-2147483647", b"-2147483648", b"-2147483649", b"4294967295", b"4294967296",
-        b"4294967297", b"-4294967295", b"-4294967297",
+        b"4294967297", b"-4294967295", b"-4294967297", b"jaccard", b"linear",
     ];
     let longer =
         [10_000_000_000, 42_949_672_970, 99_999_999_999, (1 << 64) + 1, (1 << 63) + 1, 10u128.pow(38)].map(|n| n.to_string());
     let long = [vec![b'1'; 70], vec![b'0'; 300], vec![b'9'; 5000], vec![b'1'; 20_000]];
-    for at in 0..good.len() {
+    for (good, at) in goods.iter().flat_map(|good| (0..good.len()).map(move |at| (good, at))) {
         let longer = longer.iter().map(String::as_bytes).chain(long.iter().map(Vec::as_slice));
         for field in fields.iter().copied().chain(longer) {
             let mut line: Vec<&[u8]> = good.iter().map(|field| field.as_bytes()).collect();
@@ -91,13 +91,15 @@ fn what_follows_the_third_line_is_ignored() {
 }
 
 /// The longest first line that is well formed, one that is accepted too, and some others.
-const FIRST_LINES: [&[u8]; 6] = [
+const FIRST_LINES: [&[u8]; 8] = [
     b"4294967295 4294967295 4294967295 4294967295 4294967295 -2147483648",
     b"15 64 65535 1000 1000 -2147483648",
     b"15 64 100 1 1 1",
     b"7 20 3 2 1 -40",
     b"0 64 100 1 1 1",
     b"15 64 100 1 1 1x",
+    b"15 64 65535 1000 1000 jaccard",
+    b"4294967295 4294967295 4294967295 4294967295 4294967295 jaccard",
 ];
 
 #[test]

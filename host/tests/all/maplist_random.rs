@@ -1,12 +1,13 @@
 //! The program on thousands of made-up clusters of near copies, beside the reference.
 //! Assumes that the program has been built.
 
-use host::cases::{cluster, settings, three_lines};
+use host::cases::{cluster, settings, three_lines, threshold_near};
 use host::program::sweep;
 use host::random::Random;
 use host::reference::faster::finals;
 use host::reference::input::{Settings, input};
 use host::reference::output::{Prepared, prepared_run};
+use host::reference::score::Score;
 
 /// What a sweep of random cases met, so that it can't pass on empty lists alone.
 #[derive(Default)]
@@ -22,22 +23,22 @@ struct Met {
 
 /// The scores of both lists.
 fn scores(run: &[Prepared; 2]) -> [Vec<i64>; 2] {
-    run.each_ref().map(|of| finals(&of.task).iter().map(|mapping| mapping.score).collect())
+    run.each_ref().map(|of| finals(&of.task).iter().map(|mapping| mapping.score.number()).collect())
 }
 
 /// A case whose threshold is, mostly, at a score that some interval has, or one beside it.
 fn case(random: &mut Random, longest: usize) -> Vec<u8> {
     let (text, read) = cluster(random, longest);
     let mut settings = settings(random, longest);
-    let open = Settings { threshold: i32::MIN, ..settings };
+    let open = Settings { scoring: settings.scoring.open(), ..settings };
     let all = input(&three_lines(&open, &text, &read)).expect("three lines");
     if let Ok(run) = prepared_run(&all)
         && random.below(4) > 0
         && let found @ [_, ..] = scores(&run).concat().as_slice()
     {
         let lowest = *found.iter().min().expect("a score");
-        let score = if random.once_in(3) { lowest } else { found[random.below(found.len())] } as i32;
-        settings.threshold = score + random.below(3) as i32 - 1;
+        let score = Score::Number(if random.once_in(3) { lowest } else { found[random.below(found.len())] });
+        settings.scoring = threshold_near(settings.scoring, score, random.below(3) as i32 - 1);
     }
     three_lines(&settings, &text, &read)
 }

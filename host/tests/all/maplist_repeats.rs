@@ -2,14 +2,14 @@
 //! written out here.
 //! Assumes that the program has been built.
 
-use host::cases::{settings, three_lines, through_a_repeat};
+use host::cases::{settings, three_lines, threshold_near, through_a_repeat};
 use host::program::{expect, hold, listed, run_on, sweep};
 use host::random::Random;
 use host::reference::definition1::Mapping;
 use host::reference::faster::finals;
 use host::reference::input::{Input, Settings, input};
 use host::reference::output::{Prepared, output, prepared, prepared_run};
-use host::reference::score::Task;
+use host::reference::score::{Score, Scoring, Task};
 use host::reference::sketch::{codes, sketch};
 use host::reference::strand::Strand;
 
@@ -107,12 +107,13 @@ fn whole_read(input: &Input, strand: Strand) -> Vec<u32> {
 fn case(random: &mut Random, longest: usize) -> Vec<u8> {
     let (text, read) = through_a_repeat(random, longest);
     let mut settings = Settings { c: random.between(1, 6) as u32, ..settings(random, longest) };
-    let open = three_lines(&Settings { threshold: i32::MIN, ..settings }, &text, &read);
+    let open = three_lines(&Settings { scoring: settings.scoring.open(), ..settings }, &text, &read);
     if let Ok(run) = prepared_run(&input(&open).expect("three lines"))
         && let found @ [_, ..] = run.map(|of| finals(&of.task)).concat().as_slice()
         && random.below(4) > 0
     {
-        settings.threshold = found[random.below(found.len())].score as i32 - random.below(3) as i32;
+        let score = found[random.below(found.len())].score;
+        settings.scoring = threshold_near(settings.scoring, score, -(random.below(3) as i32));
     }
     three_lines(&settings, &text, &read)
 }
@@ -124,12 +125,14 @@ fn meet_list(met: &mut Met, of: &Prepared, whole: Vec<u32>, bytes: &[u8]) {
     if lost == 0 {
         return;
     }
-    let raised = i64::from(of.task.v) * lost as i64;
-    let raise = |mapping: &Mapping| Mapping { score: mapping.score + raised, ..*mapping };
+    let Scoring::Linear { u, v, threshold } = of.task.scoring else { panic!("a linear score") };
+    let raised = i64::from(v) * lost as i64;
+    let raise = |mapping: &Mapping| Mapping { score: Score::Number(mapping.score.number() + raised), ..*mapping };
     let (list, whole) = (finals(&of.task), Task { pattern: whole, ..of.task.clone() });
-    let lower = i64::from(of.task.threshold) - raised;
+    let lower = i64::from(threshold) - raised;
     if let Ok(threshold) = i32::try_from(lower) {
-        let all: Vec<Mapping> = finals(&Task { threshold, ..whole.clone() }).iter().map(raise).collect();
+        let all: Vec<Mapping> =
+            finals(&Task { scoring: Scoring::Linear { u, v, threshold }, ..whole.clone() }).iter().map(raise).collect();
         assert_eq!(list, all, "{:?}, {}", of.strand, bytes.escape_ascii());
     }
     met.shortened += 1;

@@ -2,7 +2,7 @@
 //! read.
 //! Assumes that the program has been built.
 
-use host::cases::{both_strands, palindrome, settings, three_lines};
+use host::cases::{both_strands, palindrome, settings, three_lines, threshold_near};
 use host::program::{expect, hold, listed, run_on, sweep};
 use host::random::Random;
 use host::reference::complement::reverse_complement;
@@ -144,12 +144,13 @@ fn printed(input: &[u8]) -> Option<([Vec<String>; 2], usize)> {
 /// A case of text and read whose threshold is, mostly, at a score that some interval has on either strand, or one beside it.
 fn case(random: &mut Random, longest: usize, text: &[u8], read: &[u8]) -> Vec<u8> {
     let mut settings = settings(random, longest);
-    let open = three_lines(&Settings { threshold: i32::MIN, ..settings }, text, read);
+    let open = three_lines(&Settings { scoring: settings.scoring.open(), ..settings }, text, read);
     if let Ok(run) = prepared_run(&input(&open).expect("three lines"))
         && random.below(5) > 0
         && let found @ [_, ..] = run.map(|of| finals(&of.task)).concat().as_slice()
     {
-        settings.threshold = found[random.below(found.len())].score as i32 - random.below(3) as i32;
+        let score = found[random.below(found.len())].score;
+        settings.scoring = threshold_near(settings.scoring, score, -(random.below(3) as i32));
     }
     three_lines(&settings, text, read)
 }

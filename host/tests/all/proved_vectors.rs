@@ -7,12 +7,15 @@ use host::held::{self, Difference};
 use host::random::Random;
 use host::reference::list::list_of;
 use host::reference::refusal::{Refusal, refused_with};
+use host::reference::score::{Scoring, Task};
 use host::reference::sketch::Entry;
+use host::reference::start::WORK_WORDS;
 use host::reference::steps::Step;
 
 use crate::on_small_stack;
 use crate::vector_files::{
-    Vector, complemented, complements, entries, lines, session, sketch_of, store, strikes, struck, written,
+    Vector, complemented, complements, entries, judged_words, lines, sessions, sketch_of, started, store, strikes, struck,
+    written,
 };
 
 /// The first n entries of two buffers.
@@ -117,25 +120,66 @@ fn stores() {
 fn answered(work: &mut [u32], step: Step) -> String {
     match calls::step(&mut work[..step.lent], step.budget) {
         Stepped::Found { a, b, score, m, cells } => format!("found,{a},{b},{score},{m},{cells}"),
+        Stepped::FoundJaccard { a, b, m, divisor, cells } => format!("found,{a},{b},{m},{divisor},{cells}"),
         Stepped::Finished(cells) => format!("finished,{cells}"),
         Stepped::Spent(cells) => format!("spent,{cells}"),
         Stepped::Refused(number) => format!("refused,{number}"),
     }
 }
 
+/// The start of the task's score.
+fn start(task: &Task, work: &mut [u32]) -> Result<usize, Refusal> {
+    match task.scoring {
+        Scoring::Linear { u, v, threshold } => calls::start(&task.text, &task.pattern, u, v, threshold, work),
+        Scoring::Jaccard { f, g } => calls::start_jaccard(&task.text, &task.pattern, f, g, work),
+    }
+}
+
+/// Holds a session to the reference, as many words being lent as can be where start is accepted.
+fn hold_session(random: &mut Random, at: usize, Vector { task, lent, steps, expected, .. }: &Vector) {
+    let held = |lent: usize, random: &mut Random| {
+        let held = held::session::start(random, task, lent, list_of);
+        held.unwrap_or_else(|wrong| panic!("{wrong}: session {at}"))
+    };
+    if held(*lent, random).is_ok() {
+        let mut session = held(20_000, random).expect("an accepted start");
+        for (&step, expected) in steps.iter().zip(expected) {
+            let answer = session.step(step).unwrap_or_else(|wrong| panic!("{wrong}: session {at}"));
+            assert_eq!(&written(&answer), expected, "session {at}");
+        }
+    }
+}
+
 #[test]
-fn sessions() {
+fn sessions_of_both_scores() {
     on_small_stack(|| {
         let mut random = Random::new(3200);
-        for line in lines("sessions.tsv", 200) {
-            let Vector { task, h, steps, expected } = session(&line);
+        for (at, vector) in sessions().into_iter().enumerate() {
             let mut work = vec![3; 20_000];
-            assert_eq!(calls::start(&task.text, &task.pattern, task.u, task.v, task.threshold, &mut work), Ok(h), "{line:?}");
-            let answers: Vec<String> = steps.iter().map(|&step| answered(&mut work, step)).collect();
-            assert_eq!(answers, expected, "{line:?}");
-            let mut session = same(held::session::start(&mut random, &task, 20_000, list_of), &line).expect("an accepted start");
-            for (&step, expected) in steps.iter().zip(&expected) {
-                assert_eq!(&written(&same(session.step(step), &line)), expected, "{line:?}");
+            let answer = start(&vector.task, &mut work[..vector.lent]);
+            assert_eq!(started(&answer), vector.started, "session {at}");
+            if answer.is_ok() {
+                let answers: Vec<String> = vector.steps.iter().map(|&step| answered(&mut work, step)).collect();
+                assert_eq!(answers, vector.expected, "session {at}");
+            }
+            hold_session(&mut random, at, &vector);
+        }
+    });
+}
+
+/// The words behind the first five are zeros.
+#[test]
+fn words_that_step_refuses() {
+    on_small_stack(|| {
+        for (words, refused) in judged_words() {
+            for budget in [0, 1, 1_000] {
+                let mut work = vec![0; WORK_WORDS];
+                work[..5].copy_from_slice(&words);
+                let before = work.clone();
+                let answer = calls::step(&mut work, budget);
+                assert_eq!(answer == Stepped::Refused(15), refused, "{words:?}: {answer:?}");
+                assert!(refused || !matches!(answer, Stepped::Refused(_)), "{words:?}: {answer:?}");
+                assert!(!refused || work == before, "{words:?}");
             }
         }
     });

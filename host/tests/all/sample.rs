@@ -11,7 +11,7 @@ use host::reference::definition1::{Mapping, mapping_of};
 use host::reference::faster::finals;
 use host::reference::input::{Input, input};
 use host::reference::output::{Prepared, output, prepared};
-use host::reference::score::{Task, times};
+use host::reference::score::{Scoring, Task, times};
 use host::reference::sketch::{codes, sketch};
 use host::reference::strand::Strand;
 
@@ -41,8 +41,14 @@ fn on(strand: Strand, input: &Input) -> Prepared {
 
 /// The first letter, the last letter and the score of each mapping of a task, by the definition's faster form.
 fn mapped(task: &Task, positions: &[u32], k: u32) -> Vec<(u32, u32, i64)> {
-    let letters = |mapping: &Mapping| (positions[mapping.a], positions[mapping.b] + k - 1, mapping.score);
+    let letters = |mapping: &Mapping| (positions[mapping.a], positions[mapping.b] + k - 1, mapping.score.number());
     finals(task).iter().map(letters).collect()
+}
+
+/// The same task with this threshold and weights 1, which the samples have.
+fn with_threshold(task: Task, threshold: i32) -> Task {
+    assert!(matches!(task.scoring, Scoring::Linear { u: 1, v: 1, .. }));
+    Task { scoring: Scoring::Linear { u: 1, v: 1, threshold }, ..task }
 }
 
 /// How many letters of two sequences of one length differ.
@@ -81,8 +87,8 @@ fn each_copy_once() {
     let Prepared { task, positions, h, .. } = on(Strand::Forward, &input);
     assert_eq!(mapped(&task, &positions, 7), [(186, 261, 22), (43, 118, 22)]);
     assert_eq!(h * (h + 1) / 2, 4278);
-    assert_eq!(cells(&task).iter().filter(|&&(a, b)| mapping_of(&task, a, b).score >= 10).count(), 58);
-    assert_eq!(mapped(&Task { threshold: 1, ..task }, &positions, 7)[0], (329, 399, 1));
+    assert_eq!(cells(&task).iter().filter(|&&(a, b)| mapping_of(&task, a, b).score.number() >= 10).count(), 58);
+    assert_eq!(mapped(&with_threshold(task, 1), &positions, 7)[0], (329, 399, 1));
     let reverse = on(Strand::Reverse, &input);
     assert_eq!((reverse.h, finals(&reverse.task).len()), (2, 0));
 }
@@ -113,7 +119,7 @@ fn copy_that_is_listed_since_the_read_is_struck() {
     assert!(lost.map(|&code| times(code, &text)).eq([6; 10]), "each of the ten entries lost stands in the repeat");
     assert_eq!(mapped(&task, &positions, 9), [(324, 431, 14), (79, 186, 26)]);
     assert_eq!(mapped(&whole, &positions, 9), [(79, 186, 16)]);
-    assert_eq!(mapped(&Task { threshold: 4, ..whole }, &positions, 9), [(324, 431, 4), (79, 186, 16)]);
+    assert_eq!(mapped(&with_threshold(whole, 4), &positions, 9), [(324, 431, 4), (79, 186, 16)]);
 }
 
 #[test]

@@ -5,9 +5,11 @@ use std::fs;
 use std::iter::repeat_n;
 use std::path::{Path, PathBuf};
 
+use host::reference::definition1::Mapping;
 use host::reference::refusal::Refusal;
-use host::reference::score::Task;
+use host::reference::score::{Score, Scoring, Task};
 use host::reference::sketch::Entry;
+use host::reference::start::WORK_WORDS;
 use host::reference::steps::{Answer, Step};
 use host::reference::strand::Strand;
 
@@ -99,7 +101,7 @@ pub fn complemented(answer: &Result<Vec<u8>, Refusal>) -> String {
 pub struct Written {
     pub first: u32,
     pub last: u32,
-    pub score: i32,
+    pub score: Score,
     pub m: u32,
     pub per_mille: u32,
     pub strand: Strand,
@@ -107,31 +109,36 @@ pub struct Written {
     pub expected: Vec<u8>,
 }
 
-/// A line of lines.tsv with a linear score; those with a slash in the score's place hold from 4/13 on.
-fn linear_line(line: &[String]) -> Option<Written> {
-    let [first, last, score, m, per_mille, strand, room, expected] = line else { panic!("eight columns: {line:?}") };
-    if score.contains('/') {
-        return None;
+/// A score, from a number or from m, a slash and the divisor.
+fn score(text: &str) -> Score {
+    match text.split_once('/') {
+        None => Score::Number(text.parse().expect("a score")),
+        Some((m, divisor)) => Score::Fraction { m: m.parse().expect("m"), divisor: divisor.parse().expect("a divisor") },
     }
+}
+
+/// A line of lines.tsv.
+fn written_line(line: &[String]) -> Written {
+    let [first, last, score_text, m, per_mille, strand, room, expected] = line else { panic!("eight columns: {line:?}") };
     let number = |text: &String| text.parse().expect("a number");
     let strand = Strand::BOTH.into_iter().find(|known| strand.as_bytes() == [known.sign()]).expect("a strand");
-    Some(Written {
+    Written {
         first: number(first),
         last: number(last),
-        score: score.parse().expect("a score"),
+        score: score(score_text),
         m: number(m),
         per_mille: number(per_mille),
         strand,
         room: room.parse().expect("room"),
         expected: bytes(expected),
-    })
+    }
 }
 
-/// The lines of lines.tsv with a linear score.
-pub fn linear_lines() -> Vec<Written> {
-    let linear: Vec<Written> = lines("lines.tsv", 150).iter().filter_map(|line| linear_line(line)).collect();
-    assert_eq!(linear.len(), 83, "lines of lines.tsv with a linear score");
-    linear
+/// The lines of lines.tsv, of which 83 have a linear score.
+pub fn written_lines() -> Vec<Written> {
+    let all: Vec<Written> = lines("lines.tsv", 150).iter().map(|line| written_line(line)).collect();
+    assert_eq!(all.iter().filter(|line| matches!(line.score, Score::Number(_))).count(), 83, "lines with a linear score");
+    all
 }
 
 /// A call of a strike: of a read where there is a text, and else of a text.
@@ -205,10 +212,11 @@ pub fn store(line: &[String]) -> (Vec<u32>, usize, String) {
     (words, room.parse().expect("room"), expected.trim_end_matches(" -").to_string())
 }
 
-/// A line of sessions.tsv.
+/// A session of the vectors: how many words start is lent, what it answers, and the steps with their answers.
 pub struct Vector {
     pub task: Task,
-    pub h: usize,
+    pub lent: usize,
+    pub started: String,
     pub steps: Vec<Step>,
     pub expected: Vec<String>,
 }
@@ -220,19 +228,67 @@ fn step(text: &str) -> (Step, String) {
     (Step { budget: budget.parse().expect("a budget"), lent: lent.parse().expect("words") }, answer.to_string())
 }
 
-pub fn session(line: &[String]) -> Vector {
+/// A line of sessions.tsv, whose starts are lent enough words and are all accepted.
+fn linear_session(line: &[String]) -> Vector {
     let [t, p, u, v, threshold, h, steps] = line else { panic!("seven columns: {line:?}") };
     let number = |text: &String| text.parse().expect("a number");
-    let threshold = threshold.parse().expect("a threshold");
-    let task = Task { text: numbers(t), pattern: numbers(p), u: number(u), v: number(v), threshold };
+    let scoring = Scoring::Linear { u: number(u), v: number(v), threshold: threshold.parse().expect("a threshold") };
     let (steps, expected) = items(steps, ' ').map(step).unzip();
-    Vector { task, h: h.parse().expect("h"), steps, expected }
+    let task = Task { text: numbers(t), pattern: numbers(p), scoring };
+    Vector { task, lent: WORK_WORDS, started: format!("h {h}"), steps, expected }
+}
+
+/// A line of sessions4.tsv: "kind is 0 for linear (x, y are u, v), 1 for Jaccard (x, y are f, g; the threshold is not used)".
+fn session_of_both(line: &[String]) -> Vector {
+    let [t, p, kind, x, y, threshold, lent, started, steps] = line else { panic!("nine columns: {line:?}") };
+    let [x, y] = [x, y].map(|text| text.parse().expect("a number"));
+    let scoring = match kind.as_str() {
+        "0" => Scoring::Linear { u: x, v: y, threshold: threshold.parse().expect("a threshold") },
+        "1" => Scoring::Jaccard { f: x, g: y },
+        _ => panic!("a kind: {kind}"),
+    };
+    let (steps, expected) = items(steps, ' ').map(step).unzip();
+    let task = Task { text: numbers(t), pattern: numbers(p), scoring };
+    Vector { task, lent: lent.parse().expect("words"), started: started.clone(), steps, expected }
+}
+
+/// The sessions of sessions.tsv and of sessions4.tsv.
+pub fn sessions() -> Vec<Vector> {
+    let both: Vec<Vector> = lines("sessions4.tsv", 150).iter().map(|line| session_of_both(line)).collect();
+    let is_jaccard = |vector: &&Vector| matches!(vector.task.scoring, Scoring::Jaccard { .. });
+    assert_eq!(both.iter().filter(is_jaccard).count(), 71, "sessions under Jaccard");
+    lines("sessions.tsv", 200).iter().map(|line| linear_session(line)).chain(both).collect()
+}
+
+/// What start answered, as the vectors write it.
+pub fn started(answer: &Result<usize, Refusal>) -> String {
+    match answer {
+        Ok(h) => format!("h {h}"),
+        Err(refusal) => refused(refusal),
+    }
+}
+
+/// The lines of judge15.tsv: work words 0 to 4, and whether step refuses them with 15.
+pub fn judged_words() -> Vec<([u32; 5], bool)> {
+    let vector = |line: Vec<String>| {
+        let [words, answer] = line.as_slice() else { panic!("two columns: {line:?}") };
+        let words = numbers(words).try_into().expect("five words");
+        match answer.as_str() {
+            "refused 15" => (words, true),
+            "not 15" => (words, false),
+            _ => panic!("an answer: {line:?}"),
+        }
+    };
+    lines("judge15.tsv", 150).into_iter().map(vector).collect()
 }
 
 /// An answer as the vectors write it.
 pub fn written(answer: &Answer) -> String {
     match answer {
-        Answer::Found(f, cells) => format!("found,{},{},{},{},{cells}", f.a, f.b, f.score, f.m),
+        Answer::Found(Mapping { a, b, score: Score::Number(score), m }, cells) => format!("found,{a},{b},{score},{m},{cells}"),
+        Answer::Found(Mapping { a, b, score: Score::Fraction { m, divisor }, .. }, cells) => {
+            format!("found,{a},{b},{m},{divisor},{cells}")
+        }
         Answer::Finished(cells) => format!("finished,{cells}"),
         Answer::Spent(cells) => format!("spent,{cells}"),
         Answer::Refused(number) => format!("refused,{number}"),

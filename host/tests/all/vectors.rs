@@ -6,13 +6,14 @@ use host::reference::line::{line, written_part};
 use host::reference::output::output;
 use host::reference::refusal::Refusal;
 use host::reference::sketch::sketch;
-use host::reference::start::{WORK_WORDS, start_call};
-use host::reference::steps::answers;
+use host::reference::start::start_call;
+use host::reference::steps::{answers, refused_words};
 use host::reference::store::load;
 use host::reference::strike::{strike_call, strike_read_call};
 
 use crate::vector_files::{
-    Vector, complemented, complements, entries, linear_lines, lines, lists, session, sketch_of, store, strikes, struck, written,
+    complemented, complements, entries, judged_words, lines, lists, sessions, sketch_of, started, store, strikes, struck,
+    written, written_lines,
 };
 
 #[test]
@@ -24,7 +25,7 @@ fn reverse_complements() {
 
 #[test]
 fn lines_with_a_strand() {
-    for vector in linear_lines() {
+    for vector in written_lines() {
         let line = line(vector.first, vector.last, vector.score, vector.m, vector.per_mille, vector.strand);
         assert_eq!(written_part(line, vector.room), vector.expected, "{vector:?}");
     }
@@ -51,12 +52,21 @@ fn strikes_of_text_and_read() {
 }
 
 #[test]
-fn sessions() {
-    for line in lines("sessions.tsv", 200) {
-        let Vector { task, h, steps, expected } = session(&line);
-        assert_eq!(start_call(&task, WORK_WORDS), Ok(h), "{line:?}");
-        let given: Vec<String> = answers(&task, &steps).0.iter().map(written).collect();
-        assert_eq!(given, expected, "{line:?}");
+fn sessions_of_both_scores() {
+    for (at, vector) in sessions().into_iter().enumerate() {
+        let answer = start_call(&vector.task, vector.lent);
+        assert_eq!(started(&answer), vector.started, "session {at}");
+        if answer.is_ok() {
+            let given: Vec<String> = answers(&vector.task, &vector.steps).0.iter().map(written).collect();
+            assert_eq!(given, vector.expected, "session {at}");
+        }
+    }
+}
+
+#[test]
+fn words_that_step_refuses() {
+    for (words, refused) in judged_words() {
+        assert_eq!(refused_words(words), refused, "{words:?}");
     }
 }
 

@@ -7,8 +7,7 @@ use mathlib.Core.Logic.{inl, inr}
 use mathlib.Core.List.{List}
 use lib.ListN.{getD}
 use borrow.Author.Needs.{needs}
-use Rattle.base.specs.Limits.{weightLimit, hitLimit}
-use Rattle.session_words.specs.FirstWords.{uAt, vAt}
+use Rattle.base.specs.Limits.{hitLimit}
 use Rattle.session_words.specs.Layout.{columnsAt, rowAt, mAt, highestAt}
 use Rattle.mapper.specs.declared.answer.Stepped.{Stepped}
 use Rattle.mapper.specs.Step.{badWords}
@@ -70,7 +69,7 @@ wide-requires-2 c κs = search needs
 same-length-2 : tie.Need-same-length-2
 same-length-2 c = search needs
 
--- words 0 to 3 are a session's
+-- words 0 to 4 are a session's
 not-bad : (e : tie.Else2) → badWords (entry (e .before) .args .work .now) ≡ false
 not-bad e = sym (e .before .bad-words .ensures) ∙ e .if2 .left
 
@@ -112,9 +111,6 @@ module _ (d : tie.After-one-inside) where
   within : GoodWords work
   within = good-words work (not-bad (good hits))
 
-  small-weights : (getD work uAt 0 ≤ weightLimit) × (getD work vAt 0 ≤ weightLimit)
-  small-weights = (within .small-u, within .small-v)
-
   -- the place lies in a column
   columns-within : columns hits .wide .result ≤ hitLimit
   columns-within = omega (arith, place d .if3 .left, hits .wide2 .ensures .0, within .few-hits)
@@ -140,7 +136,7 @@ inside e =
 walk-one-requires : tie.Need-walk-one-requires
 walk-one-requires c κs =
     let d = c .before .before in
-    ((enough (good (hits d) .before) .if1 .left, columns-within d, inside (c .before) .1), small-weights d)
+    ((enough (good (hits d) .before) .if1 .left, columns-within d, inside (c .before) .1), within d .small)
 
 same-length-3 : tie.Need-same-length-3
 same-length-3 c = search needs
@@ -173,7 +169,7 @@ walk-requires : tie.Need-walk-requires
 walk-requires c κs =
     let e = c .before .before in
     let d = e .before .before in
-    ((enough (good (hits d) .before) .if1 .left, c .wide4 .ensures .1, columns-within d, e .if5 .left), small-weights d)
+    ((enough (good (hits d) .before) .if1 .left, c .wide4 .ensures .1, columns-within d, e .if5 .left), within d .small)
 
 same-length-5 : tie.Need-same-length-5
 same-length-5 c = search needs

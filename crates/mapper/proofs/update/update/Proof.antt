@@ -1,5 +1,4 @@
 -- `update::update` meets its contract: what `pass` has passed in the part is the column's update.
-use Prim.Native.Nat.{_-_}
 use mathlib.Core.Path.{ap, _∙_}
 use borrow.Author.Needs.{needs}
 use Rattle.session_cells.specs.Passing.{Update}

@@ -1,5 +1,4 @@
 -- `update::update_one` meets its contract: what `pass_one` has passed in the part is the update of one cell.
-use Prim.Native.Nat.{_-_}
 use mathlib.Core.Path.{ap, _∙_}
 use borrow.Author.Needs.{needs}
 use Rattle.session_cells.specs.Passing.{Update}

@@ -6,10 +6,11 @@ use mathlib.Core.Path.{_≡_, sym, ap, _∙_, subst}
 use mathlib.Core.List.{List}
 use borrow.Author.Needs.{needs}
 use lib.ListN.{length}
-use Rattle.base.specs.Limits.{weightLimit, hitLimit, workWords}
+use Rattle.base.specs.Limits.{hitLimit, workWords}
 use Rattle.mapper.specs.declared.place.Place.{Place}
 use Rattle.mapper.specs.declared.update.Terms.{Terms}
 use Rattle.mapper.specs.Walking.{settledWords, settled, Walk, termsIn, foundWalk, walkOn}
+use Rattle.mapper.proofs.Deciding.{SmallRates}
 use Rattle.mapper.proofs.Walking.{small-terms, settled-within, Stops, update-stops, spent-rest, less-left}
 use Rattle.mapper.proofs.Walking.{walk-finished, walk-spent, walk-found, walk-on}
 use Rattle.mapper.proofs.walk.walk.Statement.{statement}
@@ -43,7 +44,7 @@ module _ (t : tie.At-loop Inv-loop μ-loop) where
   abbrev terms : Terms
   terms = read .terms-of .result
 
-  small : (terms .u ≤ weightLimit) × (terms .v ≤ weightLimit)
+  small : SmallRates (terms .scoring)
   small = small-terms (entry .args .work .now) terms (read .terms-of .ensures) (entry .pre .1)
 
   -- what is left of the walk comes to the whole of it
