@@ -17,9 +17,11 @@ use Rattle.store.specs.Save.{stored, storable, saveReply}
 use Rattle.store.specs.Words.{isHeader, headerK}
 use Rattle.store.specs.Load.{Judged, good, bad, withEntry, judgeFrom, judge, storeK, storeW, loadRoom, judgedReply, loadReply}
 use Rattle.store.proofs.Judging.{Way, run-out, last, more, miscount, first, half, second, entry, way}
+use Rattle.mappings.specs.declared.Scoring.{Scoring}
+use Rattle.mappings.specs.declared.Scoring.the-variants.{Linear, Jaccard}
 use Rattle.mappings.specs.Score.{Task}
 use Rattle.mappings.specs.Cells.{hitCount}
-use Rattle.session_start.specs.Start.{badWeights, startReply}
+use Rattle.session_start.specs.Start.{badWeights, badFraction, judged, startReply}
 use Rattle.answers.specs.Numbers.{numberOf, valueOf}
 
 pub record Tells (r : Reply) : Type 0 where
@@ -70,10 +72,14 @@ save-tells k w cs ps room =
     (past (ltb room (length (stored k w (entries cs ps)))) 3 (length (stored k w (entries cs ps)) ∷ [])
     (value-tells (length (stored k w (entries cs ps)))))))
 
+judged-tells : (scoring : Scoring) {next : Reply} → Tells next → Tells (judged scoring next)
+judged-tells (Linear u v threshold) t = past (badWeights u v) 6 [] t
+judged-tells (Jaccard f g) t = past (badFraction f g) 16 [] t
+
 pub start-tells : (task : Task) (lent : ℕ) → Tells (startReply task lent)
 unfolding startReply
 start-tells task lent =
-    past (badWeights (task .u) (task .v)) 6 []
+    judged-tells (task .scoring)
     (past (ltb textLimit (length (task .text))) 7 []
     (past (eqb (length (task .pattern)) 0 || ltb patternLimit (length (task .pattern))) 8 []
     (past (ltb lent workWords) 9 []

@@ -106,6 +106,7 @@ pub fn of_start(answer: Started) -> Numbers
     match answer {
         Started::Hits(h) => Numbers(0, h),
         Started::BadWeights => Numbers(7, 0),
+        Started::BadFraction => Numbers(17, 0),
         Started::TooManyEntries => Numbers(8, 0),
         Started::BadPattern => Numbers(9, 0),
         Started::TooFewWords => Numbers(10, 0),

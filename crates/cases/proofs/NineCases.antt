@@ -10,6 +10,8 @@ use Rattle.minimizers.specs.Sketch.{sketch}
 use Rattle.store.specs.Save.{stored}
 use Rattle.store.proofs.Compute.{store-computes}
 use Rattle.strike.proofs.Compute.{strike-computes}
+use Rattle.mappings.specs.declared.Scoring.the-variants.{Linear}
+use Rattle.mappings.specs.declared.Score.the-variants.{Number}
 use Rattle.mappings.specs.Score.{Task}
 use Rattle.mappings.specs.Rule.{found, finished, spent}
 use Rattle.mappings.specs.Steps.{answers}
@@ -19,7 +21,7 @@ use Rattle.requests.specs.Requests.{textOf, patternOf, taskOf}
 
 -- the task of text and read letters with k 1, w 1 and u = v = 1, both struck with c
 abbrev struckTask : ℕ → List ℕ → List ℕ → ℤ → Task
-struckTask c text read threshold = taskOf (record { k = 1; w = 1; c = c; u = 1; v = 1; threshold = threshold }) text read
+struckTask c text read threshold = taskOf (record { k = 1; w = 1; c = c; scoring = Linear 1 1 threshold }) text read
 
 -- with c 100
 abbrev task : List ℕ → List ℕ → ℤ → Task
@@ -37,16 +39,18 @@ pub record NineCases : Type 0 where
       ≡ 0x00000041 ∷ 0x40000000 ∷ 0x80000001 ∷ 0x40000000 ∷ 0x80000002 ∷ 0xC0000002 ∷ []
   -- text ATTC, read AC, threshold 0: [0, 3], [3, 3], [0, 0], each score 0. Here and in 6 and 8 one step more than there are mappings
   pub case5 : answers (task (asBytes "ATTC") (asBytes "AC") (pos 0)) 0 (step 9 ∷ step 9 ∷ step 9 ∷ step 9 ∷ [])
-      ≡ found (mapping 0 3 (pos 0) 2) 1 ∷ found (mapping 3 3 (pos 0) 1) 1 ∷ found (mapping 0 0 (pos 0) 1) 1 ∷ finished 0 ∷ []
+      ≡ found (mapping 0 3 (Number (pos 0)) 2) 1
+      ∷ found (mapping 3 3 (Number (pos 0)) 1) 1 ∷ found (mapping 0 0 (Number (pos 0)) 1) 1 ∷ finished 0 ∷ []
   -- ACAG, ACG, threshold 1: only [1, 3]
   pub case6 : answers (task (asBytes "ACAG") (asBytes "ACG") (pos 1)) 0 (step 99 ∷ step 99 ∷ [])
-      ≡ found (mapping 1 3 (pos 3) 3) 2 ∷ finished 8 ∷ []
+      ≡ found (mapping 1 3 (Number (pos 3)) 3) 2 ∷ finished 8 ∷ []
   -- the same, budgets 0, 1, 5, 8: spent 0; spent 1; found with 1; finished with 8
   pub case7 : answers (task (asBytes "ACAG") (asBytes "ACG") (pos 1)) 0 (step 0 ∷ step 1 ∷ step 5 ∷ step 8 ∷ [])
-      ≡ spent 0 ∷ spent 1 ∷ found (mapping 1 3 (pos 3) 3) 1 ∷ finished 8 ∷ []
+      ≡ spent 0 ∷ spent 1 ∷ found (mapping 1 3 (Number (pos 3)) 3) 1 ∷ finished 8 ∷ []
   -- 003's Figure 1, threshold 1: [1, 7], [5, 7], [0, 6], scores 1, 2, 1
   pub case8 : answers figure1 0 (step 99 ∷ step 99 ∷ step 99 ∷ step 99 ∷ [])
-      ≡ found (mapping 1 7 (pos 1) 4) 2 ∷ found (mapping 5 7 (pos 2) 3) 1 ∷ found (mapping 0 6 (pos 1) 4) 3 ∷ finished 9 ∷ []
+      ≡ found (mapping 1 7 (Number (pos 1)) 4) 2
+      ∷ found (mapping 5 7 (Number (pos 2)) 3) 1 ∷ found (mapping 0 6 (Number (pos 1)) 4) 3 ∷ finished 9 ∷ []
   -- empty text, read A, budget 0: finished with 0
   pub case9 : answers (task [] (asBytes "A") (pos 0)) 0 (step 0 ∷ []) ≡ finished 0 ∷ []
 
@@ -67,6 +71,6 @@ nine-cases =
 
 -- with c 1, A leaves ACAG and ACG: both are CG then, and the list is another than in case 6. Were the read not struck, its score would be 1
 pub struck-both : answers (struckTask 1 (asBytes "ACAG") (asBytes "ACG") (pos 1)) 0 (step 9 ∷ step 9 ∷ [])
-    ≡ found (mapping 0 1 (pos 2) 2) 1 ∷ finished 2 ∷ []
+    ≡ found (mapping 0 1 (Number (pos 2)) 2) 1 ∷ finished 2 ∷ []
 unfolding strike-computes mappings-compute textOf patternOf taskOf
 struck-both = refl

@@ -1,3 +1,4 @@
 -- What the numbers of the exported calls tell.
 pub mod Telling
 pub mod Stepping
+pub mod Fractions

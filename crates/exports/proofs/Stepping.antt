@@ -4,26 +4,26 @@ use mathlib.Core.Bool.{true, false}
 use mathlib.Core.Path.{_≡_, ap, _∙_}
 use mathlib.Core.List.{List}
 use Rattle.mappings.specs.Score.{Task}
-use Rattle.mappings.specs.Cells.{Mapping, hitCount, cellCount}
+use Rattle.mappings.specs.Cells.{hitCount, cellCount}
 use Rattle.mappings.specs.Rule.{Answer, refused, reported, ruleAnswer}
 use Rattle.session_start.specs.WorkWords.{sessionWords}
 use Rattle.mapper.specs.Step.{tooFewWords, badWords}
 use Rattle.mapper.specs.Answers.{answerOf}
 use Rattle.mapper.specs.Promise.{Accepts}
-use Rattle.exports.specs.Steps.{kindOf, mappingAfter, Steps}
+use Rattle.exports.specs.Steps.{Lent, kindOf, lentAfter, Steps}
 
 -- the numbers are those of this answer, and the work words these
-pub record Told (answer : Answer) (before : Mapping) (words : List ℕ) (kind : ℕ) (work′ : List ℕ) (after : Mapping) (cells : ℕ) : Type 0 where
+pub record Told (answer : Answer) (before : Lent) (words : List ℕ) (kind : ℕ) (work′ : List ℕ) (after : Lent) (cells : ℕ) : Type 0 where
   pub kind-told : kind ≡ kindOf answer
-  pub mapping-told : after ≡ mappingAfter answer before
+  pub lent-told : after ≡ lentAfter answer before
   pub cells-told : cells ≡ reported answer
   pub words-told : work′ ≡ words
 
-module _ {work work′ : List ℕ} {budget kind cells : ℕ} {before after : Mapping} (s : Steps work budget before kind work′ after cells) where
+module _ {work work′ : List ℕ} {budget kind cells : ℕ} {before after : Lent} (s : Steps work budget before kind work′ after cells) where
   told : {answer : Answer} {words : List ℕ} → (answerOf (s .answer) ≡ answer) × (work′ ≡ words) → Told answer before words kind work′ after cells
   told e = record {
     kind-told = s .kind-is ∙ ap kindOf (e .0);
-    mapping-told = s .mapping-is ∙ ap (λ (answer : Answer). mappingAfter answer before) (e .0);
+    lent-told = s .lent-is ∙ ap (λ (answer : Answer). lentAfter answer before) (e .0);
     cells-told = s .cells-is ∙ ap reported (e .0);
     words-told = e .1;
   }

@@ -10,14 +10,20 @@ use answers::of_sketch;
 use answers::of_start;
 use answers::of_strike;
 use answers::w_after;
+use base::WORD_LIMIT;
 use mapper::answer::Stepped;
 use mapper::session::step;
+use mappings::Score;
+use mappings::Scoring;
 ghost use mathlib.Core.Path.{_≡_};
 ghost use Rattle.mappings.specs.Score.{taskWith};
 ghost use Rattle.sketch.specs.Replies.{hostNumber, countReply};
 ghost use Rattle.per_mille.specs.PerMille.{perMilleNumber};
 ghost use Rattle.exports.specs.Calls.{SketchCall, ComplementCall, StrikeCall, SaveCall, LoadCall, StartCall};
-ghost use Rattle.exports.specs.Steps.{lentMapping, Steps};
+ghost use Rattle.exports.specs.Steps.{shown, foundKind, lent, Steps};
+
+// No signed number of 32 bits is as high.
+const SIGNED_LIMIT: u32 = (WORD_LIMIT / 2) as u32;
 
 // The count of entries that a sketch would have, or the refusal number negated.
 #[no_mangle]
@@ -156,7 +162,7 @@ pub extern "C" fn huddlewool_start(
     work: &mut [u32],
     number: &mut u32,
 ) -> usize
-    ensures { λ r. ⌜ StartCall (taskWith (now (text .entry)) (now (pattern .entry)) u v threshold) (now (work .entry))
+    ensures { λ r. ⌜ StartCall (taskWith (now (text .entry)) (now (pattern .entry)) (Scoring.Linear u v threshold)) (now (work .entry))
         r (now (number .exit)) (now (work .exit)) ⌝ }
 {
     let answer = of_start(session_start::start(text, pattern, u, v, threshold, work));
@@ -164,8 +170,51 @@ pub extern "C" fn huddlewool_start(
     answer.1
 }
 
-// Found is 0 with a, b, score, m and the cells; finished is 1 and spent 2 with the cells; refused is 01's number, with no cells.
-// a, b, score and m keep their content where nothing is found.
+// start with the weighted Jaccard, and the threshold f/g.
+#[no_mangle]
+pub extern "C" fn huddlewool_start_jaccard(
+    text: &[u32],
+    pattern: &[u32],
+    f: u32,
+    g: u32,
+    work: &mut [u32],
+    number: &mut u32,
+) -> usize
+    ensures { λ r. ⌜ StartCall (taskWith (now (text .entry)) (now (pattern .entry)) (Scoring.Jaccard f g)) (now (work .entry))
+        r (now (number .exit)) (now (work .exit)) ⌝ }
+{
+    let answer = of_start(session_start::start_jaccard(text, pattern, f, g, work));
+    *number = answer.0;
+    answer.1
+}
+
+// The one signed number of a score: itself, or its divisor.
+fn shown(score: Score) -> i32
+    ensures { λ r. ⌜ r ≡ shown score ⌝ }
+{
+    match score {
+        Score::Number(z) => z,
+        Score::Fraction { m: _, divisor } => {
+            if SIGNED_LIMIT <= divisor {
+                return 0;
+            }
+            divisor as i32
+        }
+    }
+}
+
+// The number of an answer that hands out such a score.
+fn found_kind(score: Score) -> u32
+    ensures { λ r. ⌜ r ≡ foundKind score ⌝ }
+{
+    match score {
+        Score::Number(_) => 0,
+        Score::Fraction { m: _, divisor: _ } => 3,
+    }
+}
+
+// Found under the linear score is 0, with a, b, score, m and the cells; found under the weighted Jaccard is 3, with the divisor in the score's
+// place; finished is 1 and spent 2, with the cells; refused is 01's number, with no cells. a, b, score and m keep their content where nothing is found.
 #[no_mangle]
 pub extern "C" fn huddlewool_step(
     work: &mut [u32],
@@ -177,9 +226,9 @@ pub extern "C" fn huddlewool_step(
     cells_out: &mut u32,
 ) -> u32
     ensures { λ r. ⌜ Steps (now (work .entry)) budget
-        (lentMapping (now («a_out» .entry)) (now («b_out» .entry)) (now («score_out» .entry)) (now («m_out» .entry)))
+        (lent (now («a_out» .entry)) (now («b_out» .entry)) (now («score_out» .entry)) (now («m_out» .entry)))
         r (now (work .exit))
-        (lentMapping (now («a_out» .exit)) (now («b_out» .exit)) (now («score_out» .exit)) (now («m_out» .exit)))
+        (lent (now («a_out» .exit)) (now («b_out» .exit)) (now («score_out» .exit)) (now («m_out» .exit)))
         (now («cells_out» .exit)) ⌝ }
 {
     match step(work, budget) {
@@ -192,10 +241,10 @@ pub extern "C" fn huddlewool_step(
         } => {
             *a_out = a;
             *b_out = b;
-            *score_out = score;
+            *score_out = shown(score);
             *m_out = m;
             *cells_out = cells;
-            0
+            found_kind(score)
         }
         Stepped::Finished(cells) => {
             *cells_out = cells;

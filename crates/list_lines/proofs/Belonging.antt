@@ -13,7 +13,7 @@ use Rattle.mapper.specs.Promise.{Accepts}
 use Rattle.mapper.proofs.Accepted.{Admitted, admitted}
 use Rattle.strands.specs.declared.Strand.{Strand}
 use Rattle.list_lines.specs.Lines.{mappingLines}
-use Rattle.list_lines.specs.Pieces.{Belongs, cellLimit, finalsAfter, linesAfter, isHeld, Done, Full, Stuck, Piece}
+use Rattle.list_lines.specs.Pieces.{lineRoom, Belongs, cellLimit, finalsAfter, linesAfter, isHeld, Done, Full, Stuck, Piece}
 use Rattle.list_lines.specs.declared.filling.Filled.{Filled}
 use Rattle.list_lines.proofs.Numbers.{held-true}
 use Rattle.list_lines.proofs.Going.{printed}
@@ -58,7 +58,7 @@ module _ (task : Task) (before places : List ℕ) (k size : ℕ) (strand : Stran
       pub tally : r .found + length (finalsAfter task q′) ≡ found + length (finalsAfter task q)
       pub bytes : take (r .written) out′ ++ linesAfter task places k size strand q′ ≡ linesAfter task places k size strand q
 
-    pub went : 64 ≤ length out → q < total task → Went
+    pub went : lineRoom ≤ length out → q < total task → Went
     went long some = go belonging
       where
         go : Done task places k size strand q found out r out′ q′ ⊎ Full task places k size strand q found out r out′ q′ → Went

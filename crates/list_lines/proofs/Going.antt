@@ -6,10 +6,10 @@ use mathlib.Core.Path.{_≡_, refl, sym, ap, _∙_}
 use mathlib.Core.Logic.{inl, inr}
 use mathlib.Core.Bool.{Bool, true, false}
 use mathlib.Core.List.{List, [], _∷_, _++_, append-assoc, append-nil}
-use lib.IntN.{ℤ}
 use lib.ListN.{length, take, drop, length-append}
 use borrow.Author.Tests.{le-ltb, lt-ltb, le-leb, lt-leb}
 use Rattle.base.specs.Limits.{workWords, hitLimit}
+use Rattle.mappings.specs.declared.Score.{Score}
 use Rattle.mappings.specs.Score.{Task}
 use Rattle.mappings.specs.Cells.{Mapping, hitCount}
 use Rattle.mappings.specs.Rule.{Answer, found, finished, refused, reported, ruleAnswer}
@@ -29,7 +29,7 @@ use Rattle.list_line.proofs.Decimal.{length-line}
 use Rattle.list_lines.specs.Lines.{mappingLine, mappingLines}
 use Rattle.strands.specs.declared.Strand.{Strand}
 use Rattle.list_lines.specs.Pieces.{MappingWritten, finalsAfter, linesAfter, cellsLeft, isHeld, isPrinted, linesIn, cellLimit, foundLimit}
-use Rattle.list_lines.specs.Pieces.{stepBudget, passedFor, Piece, refusedWords, Unmoved, Fills}
+use Rattle.list_lines.specs.Pieces.{lineRoom, stepBudget, passedFor, Piece, refusedWords, Unmoved, Fills}
 use Rattle.list_lines.specs.declared.filling.Filled.{Filled}
 use Rattle.list_line.proofs.Writers.{take-written, drop-later}
 use Rattle.list_lines.proofs.Rest.{found-next, found-within, finished-next, never-spent, never-refused}
@@ -109,24 +109,24 @@ refused-step {work} {B} {answer} {work′} promise e = go (tooFewWords work) ref
     go false t = let f = promise .bad t (rw t at e) in ((15, f .0), f .1)
 
 length-mapping : (places : List ℕ) (k size : ℕ) (strand : Strand) (mapping : Mapping)
-    → (0 < length (mappingLine places k size strand mapping)) × (length (mappingLine places k size strand mapping) ≤ 58)
+    → (0 < length (mappingLine places k size strand mapping)) × (length (mappingLine places k size strand mapping) ≤ lineRoom)
 unfolding mappingLine line
 length-mapping places k size strand mapping = (simp length-append (omega arith), length-line _ _ (mapping .score) (mapping .m) _ strand)
 
 -- how many lines are written: without room for one, with a first that is not written, and with one that is
 module _ (places : List ℕ) (k size : ℕ) (strand : Strand) (room count : ℕ) where
-  lines-none : (finals : List Mapping) → room < 64 → linesIn places k size strand room count finals ≡ 0
+  lines-none : (finals : List Mapping) → room < lineRoom → linesIn places k size strand room count finals ≡ 0
   lines-none [] h = refl
-  lines-none (mapping ∷ finals) h = rw (lt-leb 64 room h)
+  lines-none (mapping ∷ finals) h = rw (lt-leb lineRoom room h)
 
-  module _ (mapping : Mapping) (finals : List Mapping) (h : 64 ≤ room) where
+  module _ (mapping : Mapping) (finals : List Mapping) (h : lineRoom ≤ room) where
     lines-stuck : isPrinted places k size count mapping ≡ false → linesIn places k size strand room count (mapping ∷ finals) ≡ 0
-    lines-stuck e = rw (le-leb 64 room h, e)
+    lines-stuck e = rw (le-leb lineRoom room h, e)
 
     lines-some : isPrinted places k size count mapping ≡ true
         → linesIn places k size strand room count (mapping ∷ finals)
         ≡ suc (linesIn places k size strand (room - length (mappingLine places k size strand mapping)) (count + 1) finals)
-    lines-some e = rw (le-leb 64 room h, e)
+    lines-some e = rw (le-leb lineRoom room h, e)
 
 -- a line is not written for the count, or for its numbers
 pub too-many : (places : List ℕ) (k size count : ℕ) (mapping : Mapping) → foundLimit ≤ count → isPrinted places k size count mapping ≡ false
@@ -173,13 +173,13 @@ fills work₀ places k size strand found₀ out₀ out work at count going same-
 module _ (work₀ places : List ℕ) (k size : ℕ) (strand : Strand) (found₀ : ℕ) (out₀ out work : List ℕ) (at count : ℕ)
     (inside : at ≤ length out)
     (same : length out ≡ length out₀)
-    (room : 64 ≤ length out - at) (going : Going work₀ places k size strand found₀ out₀ out work at count) where
+    (room : lineRoom ≤ length out - at) (going : Going work₀ places k size strand found₀ out₀ out work at count) where
   refused-now : (answer : Stepped) (work′ : List ℕ) → StepPromise work stepBudget answer work′ → refusedWords work₀ ≡ true
       → ((n : ℕ) × (answerOf answer ≡ refused n)) × (work′ ≡ work)
   refused-now answer work′ promise e = refused-step promise (ap refusedWords (going .unmoved e .2) ∙ e)
 
   -- a mapping's line is written, and moves the index, exactly where its numbers hold it
-  module _ (a b : ℕ) (score : ℤ) (m next : ℕ) (out′ : List ℕ) (put : MappingWritten places k size strand a b score m at out out′ next) where
+  module _ (a b : ℕ) (score : Score) (m next : ℕ) (out′ : List ℕ) (put : MappingWritten places k size strand a b score m at out out′ next) where
     abbrev putting : Mapping
     putting = record { a = a; b = b; score = score; m = m }
 
@@ -224,7 +224,7 @@ module _ (work₀ places : List ℕ) (k size : ℕ) (strand : Strand) (found₀ 
 
     -- ---- found
 
-    module _ (a b : ℕ) (score : ℤ) (m cells : ℕ) (work′ : List ℕ) (promise : StepPromise work stepBudget (Found a b score m cells) work′) where
+    module _ (a b : ℕ) (score : Score) (m cells : ℕ) (work′ : List ℕ) (promise : StepPromise work stepBudget (Found a b score m cells) work′) where
       abbrev mapping : Mapping
       mapping = record { a = a; b = b; score = score; m = m }
 
@@ -364,7 +364,7 @@ module _ (work₀ places : List ℕ) (k size : ℕ) (strand : Strand) (found₀ 
     not-other TooFewWords o work′ promise = never-refused task q stepBudget (on .among) 10 (ruled TooFewWords work′ promise .0)
     not-other BadWords o work′ promise = never-refused task q stepBudget (on .among) 15 (ruled BadWords work′ promise .0)
 
-  not-found : (a b : ℕ) (score : ℤ) (m cells : ℕ) (work′ : List ℕ) → StepPromise work stepBudget (Found a b score m cells) work′
+  not-found : (a b : ℕ) (score : Score) (m cells : ℕ) (work′ : List ℕ) → StepPromise work stepBudget (Found a b score m cells) work′
       → refusedWords work₀ ≡ true → ⊥
   not-found a b score m cells work′ promise e =
       let r = refused-now (Found a b score m cells) work′ promise e in
@@ -379,7 +379,8 @@ module _ (work₀ places : List ℕ) (k size : ℕ) (strand : Strand) (found₀ 
       let z : _≡_ {A = ℕ} 0 1 = cc in
       omega arith
 
-  pub going-found : (a b : ℕ) (score : ℤ) (m cells next : ℕ) (out′ work′ : List ℕ) → StepPromise work stepBudget (Found a b score m cells) work′
+  pub going-found : (a b : ℕ) (score : Score) (m cells next : ℕ) (out′ work′ : List ℕ)
+      → StepPromise work stepBudget (Found a b score m cells) work′
       → MappingWritten places k size strand a b score m at out out′ next → count < foundLimit → at < next
       → Going work₀ places k size strand found₀ out₀ out′ work′ next (count + 1)
   going-found a b score m cells next out′ work′ promise put few further = record {
@@ -393,7 +394,7 @@ module _ (work₀ places : List ℕ) (k size : ℕ) (strand : Strand) (found₀ 
 
   module _ (number : length work ≡ length work₀) (r : Filled) where
     -- a mapping whose line is not written
-    pub fills-stopped : (a b : ℕ) (score : ℤ) (m cells : ℕ) (work′ : List ℕ) → StepPromise work stepBudget (Found a b score m cells) work′
+    pub fills-stopped : (a b : ℕ) (score : Score) (m cells : ℕ) (work′ : List ℕ) → StepPromise work stepBudget (Found a b score m cells) work′
         → isPrinted places k size count (record { a = a; b = b; score = score; m = m }) ≡ false → (out′ : List ℕ) → out′ ≡ out
         → r .written ≡ at → r .found ≡ count → r .left ≡ 0 → Fills work₀ places k size strand found₀ out₀ r work′ out′
     fills-stopped a b score m cells work′ promise unprinted out′ eo ew ef el =
@@ -424,7 +425,7 @@ module _ (work₀ places : List ℕ) (k size : ℕ) (strand : Strand) (found₀ 
             record {
               none-written = ew ∙ u .0;
               same-found = ef ∙ u .1;
-              left-is = rw (le-ltb (length out₀) 64 (omega arith)) el;
+              left-is = rw (le-ltb (length out₀) lineRoom (omega arith)) el;
               same-work = refused-now answer work′ promise e .1 ∙ u .2;
               same-out = u .3;
             }
@@ -446,7 +447,7 @@ session-left task before q work a l e =
     )
 
 module _ (work₀ places : List ℕ) (k size : ℕ) (strand : Strand) (found₀ : ℕ) (out₀ out work : List ℕ) (at count : ℕ)
-    (going : Going work₀ places k size strand found₀ out₀ out work at count) (none : length out - at < 64)
+    (going : Going work₀ places k size strand found₀ out₀ out work at count) (none : length out - at < lineRoom)
     (same : length out ≡ length out₀) (r : Filled)
     (ew : r .written ≡ at) (ef : r .found ≡ count) (el : r .left ≡ cellsLeft work) where
   full-piece : (task : Task) (before : List ℕ) (q₀ : ℕ) → InPiece task before work₀ q₀
@@ -481,11 +482,11 @@ module _ (work₀ places : List ℕ) (k size : ℕ) (strand : Strand) (found₀ 
   full-unmoved : refusedWords work₀ ≡ true → Unmoved work₀ found₀ out₀ r work out
   full-unmoved e =
       let u = going .unmoved e in
-      let short : length out₀ < 64 = omega (arith, u .0) in
+      let short : length out₀ < lineRoom = omega (arith, u .0) in
       record {
         none-written = ew ∙ u .0;
         same-found = ef ∙ u .1;
-        left-is = rw (lt-ltb (length out₀) 64 short) (el ∙ ap cellsLeft (u .2));
+        left-is = rw (lt-ltb (length out₀) lineRoom short) (el ∙ ap cellsLeft (u .2));
         same-work = u .2;
         same-out = u .3;
       }

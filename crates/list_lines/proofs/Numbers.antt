@@ -13,6 +13,7 @@ use lib.ListN.{length, getD}
 use mathlib.Core.List.{List}
 use borrow.Author.Tests.{le-ltb, lt-ltb, le-leb, ltb-true, ltb-false, leb-true, ne-eqb}
 use Rattle.base.proofs.Lists.{and-left, and-right}
+use Rattle.mappings.specs.declared.Score.{Score}
 use Rattle.mappings.specs.Score.{lengthOf}
 use Rattle.base.specs.Limits.{textLimit, patternLimit, wordLimit}
 use Rattle.per_mille.specs.PerMille.{perMille, isRefused, perMilleNumber}
@@ -129,9 +130,9 @@ module _ (z : ℤ) (fits : SFits w32 z) where
   abs-is n e = ap natAbs (toZ-ofZ fits ∙ e)
 
 -- the line by the numbers that the code has
-pub line-is : (places : List ℕ) (k size : ℕ) (strand : Strand) (a b : ℕ) (score score′ : ℤ) (m first last per : ℕ) → first ≡ getD places a 0
+pub line-is : (places : List ℕ) (k size : ℕ) (strand : Strand) (a b : ℕ) (score : Score) (m first last per : ℕ) → first ≡ getD places a 0
     → last ≡ getD places b 0 + k - 1
-    → score′ ≡ score → per ≡ perMille m (lengthOf a b) size
-    → line first last score′ m per strand ≡ mappingLine places k size strand (record { a = a; b = b; score = score; m = m })
+    → per ≡ perMille m (lengthOf a b) size
+    → line first last score m per strand ≡ mappingLine places k size strand (record { a = a; b = b; score = score; m = m })
 unfolding mappingLine
-line-is places k size strand a b score score′ m first last per ef el es ep = λ i. line (ef i) (el i) (es i) m (ep i) strand
+line-is places k size strand a b score m first last per ef el ep = λ i. line (ef i) (el i) score m (ep i) strand

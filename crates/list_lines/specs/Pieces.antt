@@ -5,10 +5,10 @@ use mathlib.Core.Logic.{_⊎_}
 use mathlib.Core.Bool.{Bool, true, false, cond, _&&_, _||_}
 use mathlib.Core.List.{List, [], _∷_, _++_, map}
 use lib.Dec.{leb, ltb}
-use lib.IntN.{ℤ}
 use lib.ListN.{length, getD, take, drop}
 use Rattle.base.specs.Lists.{keep}
 use Rattle.base.specs.Limits.{hitLimit, workWords, textLimit, patternLimit, wordLimit}
+use Rattle.mappings.specs.declared.Score.{Score}
 use Rattle.mappings.specs.Score.{Task, lengthOf}
 use Rattle.mappings.specs.Cells.{Mapping, cellsOf, hitCount, cellCount, mappingOf}
 use Rattle.mappings.specs.FinalTest.{isFinalCell}
@@ -52,7 +52,7 @@ pub record EndOf (places : List ℕ) (k size a b end : ℕ) : Type 0 where
   pub held : Holds places k size a b → end ≡ getD places b 0 + k
 
 -- what `put_mapping` leaves: the mapping's line where its numbers hold it, else nothing
-pub record MappingWritten (places : List ℕ) (k size : ℕ) (strand : Strand) (a b : ℕ) (score : ℤ) (m at : ℕ) (before after : List ℕ)
+pub record MappingWritten (places : List ℕ) (k size : ℕ) (strand : Strand) (a b : ℕ) (score : Score) (m at : ℕ) (before after : List ℕ)
     (next : ℕ) : Type 0 where
   pub inside : at ≤ length before → next ≤ length before
   pub onward : at ≤ next
@@ -88,7 +88,7 @@ pub record Belongs (task : Task) (places : List ℕ) (k size : ℕ) : Type 0 whe
 
 -- no line is longer: one more is begun only where so many bytes are free
 abbrev pub lineRoom : ℕ
-lineRoom = 64
+lineRoom = 68
 
 -- no session has more cells, and so mappings: the cells of so many hits as a session may have
 abbrev pub cellLimit : ℕ

@@ -4,6 +4,7 @@ use base::TEXT_LIMIT;
 use base::WORD_LIMIT;
 use list_line::writing::line;
 use list_line::writing::put_bytes;
+use mappings::Score;
 use per_mille::per_mille;
 use session_words::wide;
 use session_words::wider;
@@ -11,7 +12,7 @@ use strands::Strand;
 ghost use Rattle.list_lines.specs.Pieces.{EndOf, MappingWritten};
 
 // No line is longer.
-pub const LINE_ROOM: usize = 64;
+pub const LINE_ROOM: usize = 68;
 
 // The position of entry `to` and k; or 0 where the line's numbers would not hold what [from, to] asks, which no session hands out.
 fn end_of(positions: &[u32], k: u32, size: usize, from: usize, to: usize) -> u64
@@ -38,7 +39,7 @@ fn end_of(positions: &[u32], k: u32, size: usize, from: usize, to: usize) -> u64
 
 // A mapping as a step hands it out.
 pub struct Mapping {
-    pub score: i32,
+    pub score: Score,
     pub a: u32,
     pub b: u32,
     pub m: u32,
@@ -60,6 +61,7 @@ pub fn put_mapping(
 {
     let from = wide(mapping.a);
     let to = wide(mapping.b);
+    let score = mapping.score;
     let m = mapping.m;
     let end = end_of(positions, k, size, from, to);
     if end < 1 {
@@ -75,7 +77,7 @@ pub fn put_mapping(
         &mut text,
         first,
         (end - 1) as u32,
-        mapping.score,
+        score,
         m,
         thousandths as u32,
         strand,

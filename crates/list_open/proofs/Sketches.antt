@@ -95,14 +95,14 @@ module _ (cs text rcs rps : List ℕ) (s : Settings) (work : List ℕ) where
       }
 
   module _ (m : ℕ) (accepts : read-reply ≡ accepted (m ∷ [])) (pattern : List ℕ) (front : pattern ≡ codes (strike cs (s .c) (entries rcs rps)))
-      (r : Started) (work′ : List ℕ) (started : startedReply r ≡ startReply (taskWith text pattern (s .u) (s .v) (s .threshold)) (length work))
-      (words : work′ ≡ startWords (taskWith text pattern (s .u) (s .v) (s .threshold)) work) (n : ℕ) (number : n ≡ numberOf (startedReply r)) where
+      (r : Started) (work′ : List ℕ) (started : startedReply r ≡ startReply (taskWith text pattern (s .scoring)) (length work))
+      (words : work′ ≡ startWords (taskWith text pattern (s .scoring)) work) (n : ℕ) (number : n ≡ numberOf (startedReply r)) where
     starts : startedReply r ≡ startReply task (length work)
-    starts = started ∙ ap (λ (l : List ℕ). startReply (taskWith text l (s .u) (s .v) (s .threshold)) (length work)) front
+    starts = started ∙ ap (λ (l : List ℕ). startReply (taskWith text l (s .scoring)) (length work)) front
 
     work-is : work′ ≡ whereAccepted read-reply (startWords task work) work
     work-is =
-        words ∙ ap (λ (l : List ℕ). startWords (taskWith text l (s .u) (s .v) (s .threshold)) work) front
+        words ∙ ap (λ (l : List ℕ). startWords (taskWith text l (s .scoring)) work) front
         ∙ sym (ap (λ (a : Reply). whereAccepted a (startWords task work) work) accepts)
 
     opened : openedBy (startReply task (length work)) size ≡ openedBy (andThen read-reply (startReply task (length work))) size

@@ -22,7 +22,7 @@ openedBy (refused number values) size = Refused number
 
 -- the task of a struck text's codes and of a read's sketch, given the codes that decide
 abbrev pub patternTask : List ℕ → List ℕ → List ℕ → List ℕ → Settings → Task
-patternTask cs text rcs rps s = taskWith text (codes (strike cs (s .c) (entries rcs rps))) (s .u) (s .v) (s .threshold)
+patternTask cs text rcs rps s = taskWith text (codes (strike cs (s .c) (entries rcs rps))) (s .scoring)
 
 -- the task of two sketches, both struck
 abbrev pub struckTask : List ℕ → List ℕ → List ℕ → List ℕ → Settings → Task

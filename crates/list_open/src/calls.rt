@@ -48,14 +48,8 @@ fn open_pattern(
     if struck.0 != 0 {
         return Opened::Refused(struck.0);
     }
-    let started = of_start(session_start::start(
-        text,
-        &pattern[..struck.1],
-        settings.u,
-        settings.v,
-        settings.threshold,
-        work,
-    ));
+    let scoring = settings.scoring;
+    let started = of_start(session_start::start_scored(text, &pattern[..struck.1], scoring, work));
     if started.0 != 0 {
         return Opened::Refused(started.0);
     }

@@ -21,7 +21,7 @@ use Rattle.list_line.proofs.Buffers.{written-index}
 use Rattle.list_line.proofs.Decimal.{length-decimal}
 use Rattle.list_line.proofs.Writers.{take-written}
 use Rattle.list_lines.specs.Lines.{mappingLines}
-use Rattle.list_lines.specs.Pieces.{cellsLeft, cellLimit, finalsAfter, linesAfter}
+use Rattle.list_lines.specs.Pieces.{lineRoom, cellsLeft, cellLimit, finalsAfter, linesAfter}
 use Rattle.list_lines.specs.declared.filling.Filled.{Filled}
 use Rattle.list_lines.proofs.Left.{few-cells}
 use Rattle.list_lines.proofs.Rest.{all-passed}
@@ -73,7 +73,7 @@ record Moved (task : Task) (places : List ℕ) (k size : ℕ) (strand : Strand) 
   printed : take (r .written) out′ ++ linesAfter task places k size strand q₁ ≡ linesAfter task places k size strand q
 
 moved : {task : Task} {work places : List ℕ} {k size : ℕ} {strand : Strand} {q found : ℕ} {out : List ℕ} {other : ℕ}
-    {r : Filled} {work′ out′ : List ℕ} → InHand task places k size work q → found ≤ cellLimit + q → 64 ≤ length out → q < total task
+    {r : Filled} {work′ out′ : List ℕ} → InHand task places k size work q → found ≤ cellLimit + q → lineRoom ≤ length out → q < total task
     → Part work places k size strand found out other r work′ out′ → Moved task places k size strand q found other r work′ out′
 moved {task} {places = places} {k} {size} {strand} {q} {found} {other = other} {r} {out′ = out′} h counted long some made =
     let step = made .fills .session task (h .before) q (h .accepts) (h .among) (h .words) in
@@ -109,7 +109,7 @@ some-last found cells =
 
 module _ {bytes places forward reverse : List ℕ} {k size size′ found left : ℕ} {done : List ℕ}
     (p : Printing bytes places forward reverse k size size′ found left done) (out : List ℕ) (r : Filled) (forward′ reverse′ out′ : List ℕ)
-    (long : 64 ≤ length out) (f : FillsRun forward reverse places k size size′ found out r forward′ reverse′ out′) where
+    (long : lineRoom ≤ length out) (f : FillsRun forward reverse places k size size′ found out r forward′ reverse′ out′) where
   abbrev task : Task
   task = p .task
 
@@ -238,7 +238,7 @@ module _ {bytes places forward reverse : List ℕ} {k size size′ found left : 
 -- each further piece, with room for any line: it goes on where the one before ended, and less is left
 pub next-prints : (bytes places forward reverse : List ℕ) (k size size′ found left : ℕ) (done : List ℕ)
     → After bytes places forward reverse k size size′ found left done → 0 < left
-    → (out : List ℕ) (r : Filled) (forward′ reverse′ out′ : List ℕ) → 64 ≤ length out
+    → (out : List ℕ) (r : Filled) (forward′ reverse′ out′ : List ℕ) → lineRoom ≤ length out
     → FillsRun forward reverse places k size size′ found out r forward′ reverse′ out′
     → (r .left < left) × After bytes places forward′ reverse′ k size size′ (r .found) (r .left) (done ++ take (r .written) out′)
 next-prints bytes places forward reverse k size size′ found left done (inl e) some out r forward′ reverse′ out′ long f = absurd (omega (arith, e .0))

@@ -1,4 +1,4 @@
--- The threshold of an input that is not malformed is a signed number of 32 bits.
+-- A linear threshold of an input that is not malformed is a signed number of 32 bits.
 use Prim.Native.Nat.{ℕ, zero, suc, _≤_, _<_}
 use native.Mathlib.Omega.{arith}
 use mathlib.Core.Path.{_≡_, refl, subst}
@@ -13,8 +13,10 @@ use Rattle.base.proofs.Lists.{and-left, and-right}
 use Rattle.requests.specs.declared.Settings.{Settings}
 use Rattle.base.specs.Limits.{lineLimit, signedLimit}
 use Rattle.base.specs.Bytes.{minus}
-use Rattle.list_input.specs.Input.{isDecimal, decimalValue, isUnsigned, isSigned, signedValue, fields, lines, isFirstLine, isWellFormed, settingsOf}
-use Rattle.list_input.specs.Input.{malformed, given, inputOf}
+use Rattle.mappings.specs.declared.Scoring.the-variants.{Linear, Jaccard}
+use Rattle.mappings.specs.Score.{ThresholdFits}
+use Rattle.list_input.specs.Input.{isDecimal, decimalValue, isUnsigned, isSigned, signedValue, isJaccard, isLastField, scoringOf, fields, lines}
+use Rattle.list_input.specs.Input.{isFirstLine, isWellFormed, settingsOf, malformed, given, inputOf}
 
 negative-fits : (n : ℕ) → 0 < n → n ≤ signedLimit → mag (negℤ (pos n)) < signedLimit
 negative-fits zero h l = absurd (omega arith)
@@ -37,13 +39,22 @@ signed-fits (b ∷ bs) e = go (eqb b minus) refl
         let below : (isDecimal (b ∷ bs) && ltb (decimalValue 0 (b ∷ bs)) signedLimit) ≡ true = rw t at e in
         rw t (ltb-true (decimalValue 0 (b ∷ bs)) signedLimit (and-right (isDecimal (b ∷ bs)) (ltb (decimalValue 0 (b ∷ bs)) signedLimit) below))
 
-last-signed : (fs : List (List ℕ)) → isFirstLine fs ≡ true → isSigned (getD fs 5 []) ≡ true
+-- the word `jaccard` asks for no threshold of this kind
+scoring-fits : (fourth fifth : ℕ) (bytes : List ℕ) → isLastField bytes ≡ true → ThresholdFits (scoringOf fourth fifth bytes)
+unfolding scoringOf
+scoring-fits fourth fifth bytes e = go (isJaccard bytes) refl
+  where
+    go : (t : Bool) → isJaccard bytes ≡ t → ThresholdFits (cond (isJaccard bytes) (Jaccard fourth fifth) (Linear fourth fifth (signedValue bytes)))
+    go true t = rw t tt
+    go false t = rw t (signed-fits bytes (rw t at e))
+
+last-field : (fs : List (List ℕ)) → isFirstLine fs ≡ true → isLastField (getD fs 5 []) ≡ true
 unfolding isFirstLine
-last-signed fs e =
+last-field fs e =
     and-right
     (eqb (length fs) 6 && isUnsigned (getD fs 0 []) && isUnsigned (getD fs 1 []) && isUnsigned (getD fs 2 []) && isUnsigned (getD fs 3 []) && isUnsigned
     (getD fs 4 []))
-    (isSigned (getD fs 5 []))
+    (isLastField (getD fs 5 []))
     e
 
 first-line : (ls : List (List ℕ)) → isWellFormed ls ≡ true → isFirstLine (fields (getD ls 0 [])) ≡ true
@@ -55,15 +66,16 @@ first-line ls e =
     let read : Bool = leb (length (getD ls 2 [])) lineLimit in
     and-right enough first (and-left (enough && first) text (and-left (enough && first && text) read e))
 
-pub threshold-fits : (bytes : List ℕ) (s : Settings) (text read : List ℕ) → inputOf bytes ≡ given s text read → mag (s .threshold) < signedLimit
+pub threshold-fits : (bytes : List ℕ) (s : Settings) (text read : List ℕ) → inputOf bytes ≡ given s text read → ThresholdFits (s .scoring)
 unfolding inputOf settingsOf
 threshold-fits bytes s text read e = go (isWellFormed (lines bytes)) refl
   where
-    go : (t : Bool) → isWellFormed (lines bytes) ≡ t → mag (s .threshold) < signedLimit
+    go : (t : Bool) → isWellFormed (lines bytes) ≡ t → ThresholdFits (s .scoring)
     go true t =
         let same : given (settingsOf (fields (getD (lines bytes) 0 []))) (getD (lines bytes) 1 []) (getD (lines bytes) 2 []) ≡ given s text read =
         rw t at e in
-        let settings : settingsOf (fields (getD (lines bytes) 0 [])) ≡ s = cc in
-        subst (λ (a : Settings). mag (a .threshold) < signedLimit) settings
-        (signed-fits (getD (fields (getD (lines bytes) 0 [])) 5 []) (last-signed (fields (getD (lines bytes) 0 [])) (first-line (lines bytes) t)))
+        let fs : List (List ℕ) = fields (getD (lines bytes) 0 []) in
+        let settings : settingsOf fs ≡ s = cc in
+        subst (λ (a : Settings). ThresholdFits (a .scoring)) settings
+        (scoring-fits (decimalValue 0 (getD fs 3 [])) (decimalValue 0 (getD fs 4 [])) (getD fs 5 []) (last-field fs (first-line (lines bytes) t)))
     go false t = let same : malformed ≡ given s text read = rw t at e in absurd (let z : _≡_ {A = ℕ} 0 1 = cc in omega arith)

@@ -26,7 +26,7 @@ use Rattle.list_input.proofs.Enough.{enough-bytes}
 use Rattle.list_line.specs.Line.{decimal}
 use Rattle.list_line.proofs.Decimal.{length-decimal}
 use Rattle.list_line.proofs.Writers.{take-written}
-use Rattle.list_lines.specs.Pieces.{finalsAfter, linesAfter, Belongs}
+use Rattle.list_lines.specs.Pieces.{lineRoom, finalsAfter, linesAfter, Belongs}
 use Rattle.list_open.specs.Calls.{callsReply}
 use Rattle.list_open.specs.Opening.{workAfter, whereAccepted}
 use Rattle.list_open.proofs.Accepted.{and-accepted}
@@ -93,7 +93,7 @@ module _ (s : Settings) (text read places forward reverse values values′ : Lis
 -- ---- the first piece
 
 module _ (bytes places forward reverse out : List ℕ) (room : length places ≡ lineLimit) (lent : length forward ≡ workWords)
-    (lent′ : length reverse ≡ workWords) (long : 64 ≤ length out) where
+    (lent′ : length reverse ≡ workWords) (long : lineRoom ≤ length out) where
   module _ (r : Begun) (out′ : List ℕ) where
     first-printed : (o : Sessions) (forward′ reverse′ : List ℕ) → BeginsWith o forward′ reverse′ out r out′
         → take (r .written) out′ ≡ firstLine o

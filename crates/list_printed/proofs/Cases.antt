@@ -4,6 +4,7 @@ use mathlib.Core.List.{[], _∷_}
 use lib.IntN.{pos}
 use Rattle.base.specs.Bytes.{asBytes}
 use Rattle.base.specs.Replies.{refused}
+use Rattle.mappings.specs.declared.Scoring.the-variants.{Linear}
 use Rattle.requests.specs.declared.Settings.{Settings}
 use Rattle.list_sessions.specs.Calls.{strandsReply}
 use Rattle.list_printed.specs.Output.{unlessRefused, outputOf}
@@ -41,6 +42,19 @@ pub halves : Halves
 unfolding list-printed-computes
 halves = record { one-of-16 = refl; three-of-16 = refl }
 
+-- the weighted Jaccard: in the score's place stand m and the divisor, which is the per mille's
+pub record Fractions : Type 0 where
+  -- 2/4 is not reduced, and meets the threshold 1/2
+  pub half : outputOf (asBytes "1 1 100 1 2 jaccard\nACAG\nACG\n")
+      ≡ asBytes "first last score shared permille strand\n1 3 3/3 3 1000 +\n1 3 2/4 2 500 -\nfound 2 cells 13\n"
+  -- and does not meet 2/3
+  pub two-thirds : outputOf (asBytes "1 1 100 2 3 jaccard\nACAG\nACG\n")
+      ≡ asBytes "first last score shared permille strand\n1 3 3/3 3 1000 +\nfound 1 cells 13\n"
+
+pub fractions : Fractions
+unfolding list-printed-computes
+fractions = record { half = refl; two-thirds = refl }
+
 -- the other strand
 pub record Strands : Type 0 where
   -- ACC as it is, and then its complement, GGT; the last line has the cells of both
@@ -62,7 +76,7 @@ strands = record { both = refl; reversed = refl; palindrome = refl; other-letter
 
 -- k 1, w 1, c 1, u 1, v 1, threshold 1
 abbrev asked : Settings
-asked = record { k = 1; w = 1; c = 1; u = 1; v = 1; threshold = pos 1 }
+asked = record { k = 1; w = 1; c = 1; scoring = Linear 1 1 (pos 1) }
 
 -- where both strands are refused with different numbers, it is the forward read's: 10 where a session has no work words, 9 where a read is emptied
 pub record BothRefused : Type 0 where
@@ -87,6 +101,10 @@ pub record Refusals : Type 0 where
   pub w-bad : outputOf (asBytes "1 0 0 0 1 1\nA\n\n") ≡ asBytes "refused 2\n"
   pub c-bad : outputOf (asBytes "1 1 0 0 1 1\nA\n\n") ≡ asBytes "refused 6\n"
   pub u-bad : outputOf (asBytes "1 1 1 0 1 1\nA\n\n") ≡ asBytes "refused 7\n"
+  -- in this place f over g, and g 0; with f 0 and g 1 the empty pattern is refused
+  pub f-over-g : outputOf (asBytes "1 1 1 2 1 jaccard\nA\n\n") ≡ asBytes "refused 17\n"
+  pub g-zero : outputOf (asBytes "1 1 1 0 0 jaccard\nA\n\n") ≡ asBytes "refused 17\n"
+  pub f-zero : outputOf (asBytes "1 1 1 0 1 jaccard\nA\n\n") ≡ asBytes "refused 9\n"
   pub read-empty : outputOf (asBytes "1 1 1 1 1 1\nA\n\n") ≡ asBytes "refused 9\n"
   -- a read of which nothing remains: A occurs more often in the text than c allows
   pub read-emptied : outputOf (asBytes "1 1 1 1 1 1\nAA\nA\n") ≡ asBytes "refused 9\n"
@@ -104,6 +122,9 @@ refusals =
       w-bad = refl;
       c-bad = refl;
       u-bad = refl;
+      f-over-g = refl;
+      g-zero = refl;
+      f-zero = refl;
       read-empty = refl;
       read-emptied = refl;
       complement-emptied = refl;

@@ -2,7 +2,7 @@
 use Prim.Native.Nat.{ℕ}
 use mathlib.Core.Path.{_≡_, refl, sym, ap, _∙_, subst}
 use mathlib.Core.List.{List}
-use lib.IntN.{ℤ}
+use Rattle.mappings.specs.declared.Scoring.{Scoring}
 use Rattle.list_input.specs.Input.{Input, malformed, given, inputOf}
 use Rattle.list_input.specs.Answers.{part, requestInput, requestOf, LinesInside, Inside}
 use Rattle.list_input.specs.declared.Request.{Request}
@@ -24,19 +24,16 @@ module _ (bytes : List ℕ) (answer : Request) (read : answer ≡ requestOf byte
       subst (λ (i : Input). OpensBoth i places forward reverse Malformed places forward reverse) input
       (record { answer = refl; positions-after = refl; forward-after = refl; reverse-after = refl })
 
-  module _ (k w c u v : ℕ) (threshold : ℤ) (text text-end line line-end : ℕ) (e : answer ≡ request k w c u v threshold text text-end line line-end)
+  module _ (k w c : ℕ) (scoring : Scoring) (text text-end line line-end : ℕ) (e : answer ≡ request k w c scoring text text-end line line-end)
     where
       pub lines-inside : LinesInside text text-end line line-end bytes
       lines-inside = subst (λ (a : Request). Inside a bytes) e (subst (λ (a : Request). Inside a bytes) (sym read) (request-inside bytes))
 
-      pub opens-given : (z : ℤ) → z ≡ threshold → (places forward reverse : List ℕ) (r : Sessions) (places′ forward′ reverse′ : List ℕ)
-          → OpensBoth (given (record { k = k; w = w; c = c; u = u; v = v; threshold = z }) (part text text-end bytes) (part line line-end bytes)) places
-          forward reverse r places′ forward′ reverse′
+      pub opens-given : (places forward reverse : List ℕ) (r : Sessions) (places′ forward′ reverse′ : List ℕ)
+          → OpensBoth (given (record { k = k; w = w; c = c; scoring = scoring }) (part text text-end bytes) (part line line-end bytes)) places forward
+          reverse r places′ forward′ reverse′
           → OpensBoth (inputOf bytes) places forward reverse r places′ forward′ reverse′
-      opens-given z same places forward reverse r places′ forward′ reverse′ o =
-          let input : given (record { k = k; w = w; c = c; u = u; v = v; threshold = threshold }) (part text text-end bytes) (part line line-end bytes)
-          ≡ inputOf bytes =
+      opens-given places forward reverse r places′ forward′ reverse′ o =
+          let input : given (record { k = k; w = w; c = c; scoring = scoring }) (part text text-end bytes) (part line line-end bytes) ≡ inputOf bytes =
           subst (λ (a : Request). requestInput a bytes ≡ inputOf bytes) e stands-for in
-          subst (λ (i : Input). OpensBoth i places forward reverse r places′ forward′ reverse′)
-          (ap (λ (t : ℤ). given (record { k = k; w = w; c = c; u = u; v = v; threshold = t }) (part text text-end bytes) (part line line-end bytes)) same
-          ∙ input) o
+          subst (λ (i : Input). OpensBoth i places forward reverse r places′ forward′ reverse′) input o

@@ -4,6 +4,7 @@ use lib.IntN.{ℤ}
 use lib.ListN.{length}
 use mir.Syntax.{w32}
 use mir.ValLaws.{toZ-ofZ}
+use Rattle.mappings.specs.declared.Scoring.the-variants.{Linear}
 use Rattle.mappings.specs.Score.{Task, taskWith}
 use Rattle.session_start.specs.Start.{startReply, startWords}
 use borrow.Author.Needs.{needs}
@@ -37,7 +38,7 @@ returns : tie.Need-returns
 returns c =
     let args = entry c .args in
     let s = at-start c .start .ensures in
-    let task : ℤ → Task = λ z. taskWith (args .text .now) (args .pattern .now) (args .u) (args .v) z in
+    let task : ℤ → Task = λ z. taskWith (args .text .now) (args .pattern .now) (Linear (args .u) (args .v) z) in
     let same = toZ-ofZ w32 (args .threshold) (entry c .fits .threshold) in
     record {
       tells = tells-of (s .0 ∙ ap (λ (z : ℤ). startReply (task z) (length (args .work .now))) same) (c .of-start .ensures);

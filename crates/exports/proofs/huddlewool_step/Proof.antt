@@ -5,11 +5,10 @@ use lib.IntN.{ℤ}
 use mir.Syntax.{w32}
 use mir.Facts.{toZ-ofZ}
 use borrow.Author.Needs.{needs, sfits-of}
-use Rattle.mappings.specs.Cells.{Mapping}
 use Rattle.mappings.specs.Rule.{reported}
 use Rattle.mapper.specs.declared.answer.Stepped.{Stepped}
 use Rattle.mapper.specs.Answers.{answerOf}
-use Rattle.exports.specs.Steps.{kindOf, lentMapping, mappingAfter, Steps}
+use Rattle.exports.specs.Steps.{Lent, kindOf, lent, lentAfter, Steps}
 use Rattle.exports.proofs.huddlewool_step.Statement.{statement}
 use Rattle.exports.proofs.huddlewool_step.Tie as tie
 
@@ -21,18 +20,18 @@ module _ (d : tie.After-slice-known2) where
   abbrev entry : tie.Start
   entry = stepped .before .before .before
 
-  abbrev before : Mapping
-  before = let args = entry .args in lentMapping (args .a-out .now) (args .b-out .now) (args .score-out .now) (args .m-out .now)
+  abbrev before : Lent
+  before = let args = entry .args in lent (args .a-out .now) (args .b-out .now) (args .score-out .now) (args .m-out .now)
 
   -- the numbers of the answer that step has given
   told : (answer : Stepped) → stepped .step .result ≡ answer → (kind : ℕ) → kind ≡ kindOf (answerOf answer)
-      → (after : Mapping) → after ≡ mappingAfter (answerOf answer) before → (cells : ℕ) → cells ≡ reported (answerOf answer)
+      → (after : Lent) → after ≡ lentAfter (answerOf answer) before → (cells : ℕ) → cells ≡ reported (answerOf answer)
       → Steps (entry .args .work .now) (entry .args .budget) before kind (stepped .step .last .0) after cells
   told answer e kind k after m cells n = record {
     answer = stepped .step .result;
     promise = stepped .step .ensures;
     kind-is = k ∙ ap (λ (s : Stepped). kindOf (answerOf s)) (sym e);
-    mapping-is = m ∙ ap (λ (s : Stepped). mappingAfter (answerOf s) before) (sym e);
+    lent-is = m ∙ ap (λ (s : Stepped). lentAfter (answerOf s) before) (sym e);
     cells-is = n ∙ ap (λ (s : Stepped). reported (answerOf s)) (sym e);
   }
 
@@ -41,6 +40,12 @@ step-requires c κs = search needs
 
 enum-known-a : tie.Need-enum-known-a
 enum-known-a c = search needs
+
+shown-requires : tie.Need-shown-requires
+shown-requires c κs = search needs
+
+found-kind-requires : tie.Need-found-kind-requires
+found-kind-requires c κs = search needs
 
 enum-known-cells : tie.Need-enum-known-cells
 enum-known-cells c = search needs
@@ -59,10 +64,11 @@ same-length c = search needs
 
 returns : tie.Need-returns
 returns c =
-    let found = c .before in
+    let found = c .before .before .before in
     let at = found .a .given .0 in
-    let z = toZ-ofZ {w = w32} {z = at .1 .1 .0} (sfits-of (c .known-told .given .1 .1 .0 .1)) in
-    told (found .before .before) _ (found .a .given .1) _ refl _ (ap (λ (y : ℤ). lentMapping (at .0) (at .1 .0) y (at .1 .1 .1 .0)) z) _ refl
+    let z = toZ-ofZ {w = w32} {z = c .before .shown .result} (sfits-of (c .before .shown .ok)) ∙ c .before .shown .ensures in
+    told (found .before .before) _ (found .a .given .1) _ (c .found-kind .ensures) _
+    (ap (λ (y : ℤ). lent (at .0) (at .1 .0) y (at .1 .1 .1 .0)) z) _ refl
 
 same-length-2 : tie.Need-same-length-2
 same-length-2 c = search needs
@@ -94,6 +100,8 @@ huddlewool-step-spec =
     (tie.spec
     step-requires
     enum-known-a
+    shown-requires
+    found-kind-requires
     enum-known-cells
     enum-known-cells-2
     enum-told

@@ -4,9 +4,8 @@ use native.Mathlib.Omega.{arith}
 use mathlib.Core.List.{List}
 use lib.ListN.{length, take, drop, length-take}
 use Rattle.list_input.specs.Answers.{LinesInside}
-use mir.Facts.{toZ-ofZ}
 use Rattle.list_sessions.proofs.Requests.{opens-malformed, lines-inside, opens-given}
-use borrow.Author.Needs.{needs, sfits-of}
+use borrow.Author.Needs.{needs}
 use Rattle.list_sessions.proofs.open_sessions.Statement.{statement}
 use Rattle.list_sessions.proofs.open_sessions.Tie as tie
 
@@ -34,9 +33,9 @@ at-both c = lent c .before .before .before
 
 -- where the two lines lie
 lines-lie : (c : tie.After-known-told)
-    → let behind = c .before .k .given .0 .1 .1 .1 .1 .1 .1 in LinesInside (behind .0) (behind .1 .0) (behind .1 .1 .0) (behind .1 .1 .1 .0)
+    → let behind = c .before .k .given .0 .1 .1 .1 .1 in LinesInside (behind .0) (behind .1 .0) (behind .1 .1 .0) (behind .1 .1 .1 .0)
     (entry (at-read c) .args .bytes .now)
-lines-lie c = lines-inside _ _ (at-read c .read-input .ensures) _ _ _ _ _ _ _ _ _ _ (c .before .k .given .1)
+lines-lie c = lines-inside _ _ (at-read c .read-input .ensures) _ _ _ _ _ _ _ _ (c .before .k .given .1)
 
 part-short : (bytes : List ℕ) (from end limit : ℕ) → end - from ≤ limit → length (take (end - from) (drop from bytes)) ≤ limit
 part-short bytes from end limit h = simp length-take (omega arith)
@@ -93,9 +92,8 @@ returns-2 c =
     let known = told (at-lines (both .before)) in
     let read = at-read known in
     let args = entry read .args in
-    opens-given (args .bytes .now) (read .read-input .result) (read .read-input .ensures) _ _ _ _ _ _ _ _ _ _ (known .before .k .given .1) _
-    (toZ-ofZ (sfits-of (known .known-told .given .1 .1 .1 .1 .1 .0 .1))) (args .positions .now) (args .forward .now) (args .reverse .now)
-    (both .open-both .result) _ _ _ (both .open-both .ensures)
+    opens-given (args .bytes .now) (read .read-input .result) (read .read-input .ensures) _ _ _ _ _ _ _ _ (known .before .k .given .1)
+    (args .positions .now) (args .forward .now) (args .reverse .now) (both .open-both .result) _ _ _ (both .open-both .ensures)
 
 pub open-sessions-spec : {M : Type 1} → statement M
 open-sessions-spec =

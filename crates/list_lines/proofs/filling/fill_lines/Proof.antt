@@ -14,9 +14,8 @@ use Rattle.list_lines.proofs.Going.{fills-full}
 use Rattle.mapper.specs.declared.answer.Stepped.{Stepped}
 use Rattle.mapper.specs.declared.answer.Stepped.the-variants.{Found, Finished, Spent, TooFewWords, BadWords}
 use Rattle.mapper.specs.Promise.{StepPromise}
-use Rattle.list_lines.specs.Pieces.{stepBudget}
-use mir.Facts.{toZ-ofZ}
-use borrow.Author.Needs.{needs, sfits-of}
+use Rattle.list_lines.specs.Pieces.{lineRoom, stepBudget}
+use borrow.Author.Needs.{needs}
 use Rattle.list_lines.proofs.filling.fill_lines.Statement.{statement}
 use Rattle.list_lines.proofs.filling.fill_lines.Tie as tie
 
@@ -61,7 +60,7 @@ module _ (c : tie.After-slice-known3 Inv-loop μ-loop) where
   promise : {answer : Stepped} → at-step .step .result ≡ answer → StepPromise (at-loop .loop .work) stepBudget answer (at-step .step .last .0)
   promise e = subst (λ (a : Stepped). StepPromise (at-loop .loop .work) stepBudget a (at-step .step .last .0)) e (at-step .step .ensures)
 
-  roomy : 64 ≤ length (at-loop .loop .out) - at-loop .loop .at
+  roomy : lineRoom ≤ length (at-loop .loop .out) - at-loop .loop .at
   roomy = omega (arith, at-step .before .before .loop-test .taken)
 
 -- a mapping is found
@@ -143,7 +142,7 @@ loop-again c =
       omega (arith, at .before .before .put-mapping .kept .0, at-turn .loop .inv .2),
       going-found _ _ _ _ _ _ _ _ _ _ _ (at-turn .loop .inv .0) (at-turn .loop .inv .2) (roomy (stepped at)) (at-turn .loop .inv .3) _ _ _ _ _ _ _ _
           (promise (stepped at) (known at .a .given .1))
-          (rw (toZ-ofZ (sfits-of (told at .known-told .given .1 .1 .0 .1))) at (at .before .before .put-mapping .ensures))
+          (at .before .before .put-mapping .ensures)
           (else1 at .if1 .left) (c .if2 .left),
     )
 

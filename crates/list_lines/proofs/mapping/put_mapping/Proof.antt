@@ -8,7 +8,6 @@ use mathlib.Core.Bool.{false, false≢true}
 use lib.IntN.{pos}
 use lib.ListN.{length, getD}
 use denote.Ref.{now}
-use mir.Facts.{toZ-ofZ}
 use borrow.Author.Needs.{needs, sfits-of}
 use Rattle.mappings.specs.Score.{lengthOf}
 use Rattle.base.specs.Limits.{textLimit, patternLimit, wordLimit}
@@ -167,7 +166,7 @@ same-length c = search needs
 -- the part that `line` returned holds the mapping's line
 module _ (c : tie.After-line) where
   abbrev read : tie.After-shared-slice-known2
-  read = c .before .before .before
+  read = c .before .before
 
   abbrev per : tie.After-per-mille
   per = counted read
@@ -184,10 +183,9 @@ module _ (c : tie.After-line) where
       c .line .ensures
       ∙ line-fits _ _ _ _ _ _
       ∙ line-is (asked .args .positions .now) (asked .args .k) (asked .args .size) (asked .args .strand) (asked .args .mapping .a)
-      (asked .args .mapping .b) (asked .args .mapping .score) _ (asked .args .mapping .m) _ _ _
+      (asked .args .mapping .b) (asked .args .mapping .score) (asked .args .mapping .m) _ _ _
       (ap (λ (j : ℕ). getD (asked .args .positions .now) j 0) (ends (ended per) .wide .ensures .0))
       (last-letter (ended per) h)
-      (toZ-ofZ (sfits-of (c .before .struct-told .given .0 .1)))
       (abs-is (per .per-mille .result) (sfits-of (per .per-mille .ok)) _ (per-mille-known per h l s))
 
   -- where the line is written, its numbers hold the mapping

@@ -1,28 +1,21 @@
 -- `calls::open_pattern` meets its contract: the strike of the read and start, one after the other.
 use Prim.Native.Nat.{ℕ, _≤_}
 use native.Mathlib.Omega.{arith}
-use mathlib.Core.Path.{_≡_, sym, subst}
+use mathlib.Core.Path.{_≡_, sym}
 use mathlib.Core.Logic.{_≢_}
 use mathlib.Core.List.{List, [], _∷_}
-use lib.IntN.{ℤ}
 use lib.ListN.{length, take}
 use lib.Seq.{length-take-le}
-use mir.Syntax.{w32}
-use mir.Val.{toZ, ofZ}
-use mir.Facts.{toZ-ofZ}
 use Rattle.base.specs.Limits.{lineLimit}
 use Rattle.base.specs.Replies.{accepted}
 use Rattle.strike.specs.Strike.{strikeReply}
-use Rattle.mappings.specs.Score.{Task, taskWith}
-use Rattle.session_start.specs.Start.{startReply, startWords}
-use Rattle.session_start.specs.Answers.{startedReply}
 use Rattle.answers.specs.Numbers.{numberOf}
 use Rattle.list_open.specs.Opening.{OpensPattern}
 use Rattle.list_open.specs.declared.calls.Opened.{Opened}
 use Rattle.list_open.specs.declared.calls.Opened.the-variants.{Refused, Session}
 use Rattle.list_open.proofs.Sketches.{StrikeMade, strike-number, strike-accepts, strike-counts, strike-inside, strike-front}
 use Rattle.list_open.proofs.Sketches.{pattern-refused, start-refused, start-accepted}
-use borrow.Author.Needs.{needs, sfits-of}
+use borrow.Author.Needs.{needs}
 use Rattle.list_open.proofs.calls.open_pattern.Statement.{statement}
 use Rattle.list_open.proofs.calls.open_pattern.Tie as tie
 
@@ -93,21 +86,18 @@ module _ (c : tie.After-of-strike) where
 
 -- start's answer as numbers, and what it says
 module _ (c : tie.After-of-start) where
-  abbrev at-start : tie.After-start
+  abbrev at-start : tie.After-start-scored
   at-start = c .before .before .before
-
-  abbrev pattern-shared : tie.After-pattern3
-  pattern-shared = at-start .before .before .before
 
   -- the strike has accepted
   abbrev struck : tie.Else1
-  struck = pattern-shared .before
+  struck = at-start .before .before .before
 
   abbrev call : tie.After-of-strike
   call = struck .before .before
 
   abbrev work′ : List ℕ
-  work′ = at-start .start .last .1 .1 .1 .1 .1 .0
+  work′ = at-start .start-scored .last .1 .1 .1 .0
 
   abbrev ended : Opened → Type 0
   ended r =
@@ -119,19 +109,13 @@ module _ (c : tie.After-of-start) where
   start-ends =
       let args = entry call .args in
       let zero : n call ≡ 0 = struck .if1 .left in
-      let same : toZ w32 (ofZ w32 (args .settings .threshold)) ≡ args .settings .threshold =
-      toZ-ofZ (sfits-of (at-start .before .struct-told .given .1 .1 .1 .1 .1 .0 .1)) in
-      let task : ℤ → Task = λ z. taskWith (args .text .now) (take (m call) (written call)) (args .settings .u) (args .settings .v) z in
-      let reply : startedReply (at-start .start .result) ≡ startReply (task (args .settings .threshold)) (length (args .work .now)) =
-      subst (λ (z : ℤ). startedReply (at-start .start .result) ≡ startReply (task z) (length (args .work .now))) same (at-start .start .ensures .0) in
-      let words : work′ ≡ startWords (task (args .settings .threshold)) (args .work .now) =
-      subst (λ (z : ℤ). work′ ≡ startWords (task z) (args .work .now)) same (at-start .start .ensures .1) in
+      let starts = at-start .start-scored in
       let front = strike-front _ _ _ _ _ _ _ _ _ _ _ (made call) (long call) zero in (
         start-refused (args .deciding .now) (args .text .now) (args .codes .now) (args .places .now) (args .settings) (args .work .now) (m call)
-            (accepts call zero) (take (m call) (written call)) front (at-start .start .result) work′ reply words (c .of-start .result .0)
+            (accepts call zero) (take (m call) (written call)) front (starts .result) work′ (starts .ensures .0) (starts .ensures .1) (c .of-start .result .0)
             (c .of-start .ensures .0),
         λ z. start-accepted (args .deciding .now) (args .text .now) (args .codes .now) (args .places .now) (args .settings) (args .work .now) (m call)
-            (accepts call zero) (take (m call) (written call)) front (at-start .start .result) work′ reply words (c .of-start .result .0)
+            (accepts call zero) (take (m call) (written call)) front (starts .result) work′ (starts .ensures .0) (starts .ensures .1) (c .of-start .result .0)
             (c .of-start .ensures .0) z (m call) (strike-counts _ _ _ _ _ _ _ _ _ _ _ (made call) (long call) zero),
       )
 
@@ -159,13 +143,13 @@ returns c = pattern-refused _ _ _ _ _ _ _ (numbered (c .before .before)) (c .if1
 array-share-prefix-pattern : tie.Need-array-share-prefix-pattern
 array-share-prefix-pattern c = inside (c .before .before) (c .if1 .left)
 
-slice-aggregate-start : tie.Need-slice-aggregate-start
-slice-aggregate-start c =
+slice-aggregate-start-scored : tie.Need-slice-aggregate-start-scored
+slice-aggregate-start-scored c =
     let call = c .before .before .before in
     sym (length-take-le (m call) (written call) (inside call (c .before .if1 .left)))
 
-start-requires : tie.Need-start-requires
-start-requires c κs = search needs
+start-scored-requires : tie.Need-start-scored-requires
+start-scored-requires c κs = search needs
 
 of-start-requires : tie.Need-of-start-requires
 of-start-requires c κs = search needs
@@ -194,8 +178,8 @@ open-pattern-spec =
     of-strike-requires
     returns
     array-share-prefix-pattern
-    slice-aggregate-start
-    start-requires
+    slice-aggregate-start-scored
+    start-scored-requires
     of-start-requires
     same-length
     returns-2
