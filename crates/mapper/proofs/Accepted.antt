@@ -15,7 +15,7 @@ use Rattle.mappings.specs.declared.Scoring.the-variants.{Linear, Jaccard}
 use Rattle.mappings.specs.Score.{Task}
 use Rattle.mappings.specs.Cells.{hitCount}
 use Rattle.mappings.proofs.Range.{SmallNumbers, Limited}
-use Rattle.session_start.specs.ScoreWords.{firstNumber, secondNumber, kindNumber}
+use Rattle.session_start.specs.Numbers.{firstNumber, secondNumber, kindNumber}
 use Rattle.session_start.specs.Start.{badWeights, badFraction, judged, startReply}
 use Rattle.mapper.specs.Step.{badScoring}
 

@@ -17,7 +17,8 @@ use Rattle.mappings.specs.Cells.{hitsFrom, hits, hitCount}
 use Rattle.mappings.specs.HitCodes.{hitCodes}
 use Rattle.session_words.specs.Layout.{reachFrom, blockCount}
 use Rattle.session_start.specs.Start.{badWeights, badFraction}
-use Rattle.session_start.specs.ScoreWords.{thresholdWord, firstNumber, secondNumber, kindNumber}
+use Rattle.session_start.specs.ScoreWords.{thresholdWord}
+use Rattle.session_start.specs.Numbers.{firstNumber, secondNumber, kindNumber}
 use Rattle.session_start.specs.Tables.{reach, back, startOf}
 
 -- 1 where x stands at this index, else 0

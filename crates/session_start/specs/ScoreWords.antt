@@ -27,16 +27,3 @@ thresholdWord (Jaccard (suc f) g) = fractionWord (suc f) g
 -- the score word of [a, b]
 unfoldable pub scoreWordOf : Task → ℕ → ℕ → ℕ
 scoreWordOf task a b = scoreWord (task .scoring) (length (task .pattern)) (sharedOf task a b) (lengthOf a b)
-
--- words 1 and 2 of a session: u and v, or f and g; and word 4, the kind of score: 0 linear, 1 Jaccard
-abbrev pub firstNumber : Scoring → ℕ
-firstNumber (Linear u v threshold) = u
-firstNumber (Jaccard f g) = f
-
-abbrev pub secondNumber : Scoring → ℕ
-secondNumber (Linear u v threshold) = v
-secondNumber (Jaccard f g) = g
-
-abbrev pub kindNumber : Scoring → ℕ
-kindNumber (Linear u v threshold) = 0
-kindNumber (Jaccard f g) = 1

@@ -8,7 +8,8 @@ ghost use mathlib.Core.Bool.{false};
 ghost use Prim.Native.Nat.{_≤_};
 ghost use Rattle.base.specs.Limits.{divisorLimit};
 ghost use Rattle.mappings.specs.Bias.{biasedZ};
-ghost use Rattle.session_start.specs.ScoreWords.{thresholdWord, firstNumber, secondNumber, kindNumber};
+ghost use Rattle.session_start.specs.ScoreWords.{thresholdWord};
+ghost use Rattle.session_start.specs.Numbers.{firstNumber, secondNumber, kindNumber};
 ghost use Rattle.session_start.specs.Noting.{badScoring};
 
 pub(crate) fn first_number(scoring: Scoring) -> u32
