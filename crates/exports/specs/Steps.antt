@@ -8,7 +8,6 @@ use lib.IntN.{ℤ, pos}
 use Rattle.base.specs.Limits.{signedLimit}
 use Rattle.mappings.specs.declared.Score.{Score}
 use Rattle.mappings.specs.declared.Score.the-variants.{Number, Fraction}
-use Rattle.mappings.specs.Cells.{Mapping}
 use Rattle.mappings.specs.Rule.{Answer, found, finished, spent, refused, reported}
 use Rattle.mapper.specs.declared.answer.Stepped.{Stepped}
 use Rattle.mapper.specs.Answers.{answerOf}
