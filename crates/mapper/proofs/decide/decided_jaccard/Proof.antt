@@ -66,21 +66,22 @@ mul-if1-2 : tie.Need-mul-if1-2
 mul-if1-2 c =
     rw (mul-comm _ _) (product _ _ (omega (arith, small c .0, small c .1)) (omega (arith, counts c .at-most-size, counts c .short-pattern)))
 
-returns : tie.Need-returns
-unfolding candidateScore
-returns c =
-    let entry = c .before in
-    let args = entry .args in
-    let enough : args .f * computed entry ≤ args .m * args .g = omega (arith, c .if1 .taken) in
-    ap (λ (d : ℕ). Found (args .a) (args .b) (Fraction (args .m) d) (args .m) (args .cells)) (divisor-is entry)
-    ∙ sym (decided-found (terms entry) _ _ _ _ (last entry ∙ le-leb (args .f * computed entry) (args .m * args .g) enough))
-
+-- below the threshold
 returns-2 : tie.Need-returns-2
 returns-2 c =
     let entry = c .before in
     let args = entry .args in
     let low : args .m * args .g < args .f * computed entry = omega (arith, c .if1 .left) in
     sym (decided-spent (terms entry) _ _ _ _ (last entry ∙ lt-leb (args .f * computed entry) (args .m * args .g) low))
+
+-- not below it
+returns : tie.Need-returns
+unfolding candidateScore
+returns c =
+    let entry = c .before in
+    let args = entry .args in
+    ap (λ (d : ℕ). Found (args .a) (args .b) (Fraction (args .m) d) (args .m) (args .cells)) (divisor-is entry)
+    ∙ sym (decided-found (terms entry) _ _ _ _ (last entry ∙ le-leb (args .f * computed entry) (args .m * args .g) (omega (arith, c .if1 .taken))))
 
 pub decided-jaccard-spec : {M : Type 1} → statement M
 decided-jaccard-spec =

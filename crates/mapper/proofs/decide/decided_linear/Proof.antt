@@ -59,6 +59,14 @@ score-read c =
 threshold-read : (entry : tie.Start) → toZ w32 (ofZ w32 (entry .args .threshold)) ≡ entry .args .threshold
 threshold-read entry = toZ-ofZ {w = w32} (entry .fits .threshold)
 
+-- below the threshold
+returns-2 : tie.Need-returns-2
+returns-2 c =
+    let entry = c .before .before in
+    let low : leZ (entry .args .threshold) (score entry) ≡ false = rw (threshold-read entry, score-read (c .before)) at (c .if1 .left) in
+    sym (decided-spent (terms entry) _ _ _ _ (last entry ∙ low))
+
+-- not below it
 returns : tie.Need-returns
 unfolding candidateScore
 returns c =
@@ -67,12 +75,6 @@ returns c =
     let enough : leZ (args .threshold) (score entry) ≡ true = rw (threshold-read entry, score-read (c .before)) at (c .if1 .taken) in
     ap (λ (z : ℤ). Found (args .a) (args .b) (Number z) (args .m) (args .cells)) (score-read (c .before))
     ∙ sym (decided-found (terms entry) _ _ _ _ (last entry ∙ enough))
-
-returns-2 : tie.Need-returns-2
-returns-2 c =
-    let entry = c .before .before in
-    let low : leZ (entry .args .threshold) (score entry) ≡ false = rw (threshold-read entry, score-read (c .before)) at (c .if1 .left) in
-    sym (decided-spent (terms entry) _ _ _ _ (last entry ∙ low))
 
 pub decided-linear-spec : {M : Type 1} → statement M
 decided-linear-spec = tie.close (tie.spec sub-score add-score score-requires returns returns-2)
