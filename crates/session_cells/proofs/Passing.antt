@@ -1,9 +1,9 @@
 -- Passing a column, unrolled by one cell and by the rest of one block; which rows it passes, and how long it leaves the part.
-use Prim.Native.Nat.{ℕ, zero, suc, _+_, _-_, _/_, _≤_, _<_, min}
+use Prim.Native.Nat.{ℕ, zero, suc, _+_, _-_, _*_, _/_, _≤_, _<_, min}
 use native.Mathlib.Nat.{le-refl, le-suc}
 use native.Mathlib.Omega.{arith}
 use native.Mathlib.Numerals.{add-one}
-use mathlib.Core.Path.{_≡_, refl, sym, _∙_}
+use mathlib.Core.Path.{_≡_, refl, sym, ap, _∙_}
 use mathlib.Core.Bool.{Bool, true, false, cond, _&&_, true≢false, false≢true}
 use mathlib.Core.List.{List}
 use borrow.Author.Tests.{le-ltb, lt-ltb, leb-true, ltb-true, ltb-false}
@@ -11,12 +11,35 @@ use lib.Dec.{leb, ltb, eqb}
 use lib.ListN.{length, getD, set, length-set}
 use Rattle.base.proofs.Lists.{and-left}
 use Rattle.session_words.specs.Layout.{blockRows}
-use Rattle.session_records.specs.Words.{atMost}
+use Rattle.session_records.specs.Words.{numerator, denominator, atMost}
 use Rattle.session_records.specs.Records.{greater}
-use Rattle.session_records.proofs.Words.{word-order}
 use Rattle.session_cells.specs.declared.cells.Line.{Line}
-use Rattle.session_cells.specs.Passing.{bestAt, topAt, lowered, lineScore, orderIn, inReach, entered, candidateTest, Update, passRows}
-use Rattle.session_cells.specs.Passing.{restEnd, skips, skipped, passRest, passBlocks}
+use Rattle.session_cells.specs.Passing.{bestAt, topAt, lowered, lineScore, lineDivisor, orderIn, inReach, entered, matters, candidateTest}
+use Rattle.session_cells.specs.Passing.{Update, passRows, restEnd, skips, skipped, passRest, passBlocks}
+
+-- ---- a line whose kind of score words is known
+
+module _ (line : Line) (fractions : Bool) (kind : line .fractions ≡ fractions) where
+  pub greater-of : (a b : ℕ) {seen : ℕ} → seen ≡ greater (atMost fractions) a b → seen ≡ greater (orderIn line) a b
+  greater-of a b e = rw kind e
+
+  pub entered-of : (part : List ℕ) (i s seen : ℕ) {updated : List ℕ} → updated ≡ entered fractions part i s seen
+      → updated ≡ entered (line .fractions) part i s seen
+  entered-of part i s seen e = rw kind e
+
+module _ (line : Line) (seen m x : ℕ) where
+  abbrev mattersIf : Bool → Bool
+  mattersIf fractions = cond fractions (leb (numerator seen * lineDivisor line m x) (m * denominator seen)) (leb seen (lineScore line m x))
+
+  pub number-matters : {answer : Bool} → line .fractions ≡ false → (s : ℕ) → s ≡ lineScore line m x → leb seen s ≡ answer
+      → matters line seen m x ≡ answer
+  unfolding matters
+  number-matters k s e t = ap mattersIf k ∙ ap (λ (n : ℕ). leb seen n) (sym e) ∙ t
+
+  pub fraction-matters : {answer : Bool} → line .fractions ≡ true → (d : ℕ) → d ≡ lineDivisor line m x
+      → leb (numerator seen * d) (m * denominator seen) ≡ answer → matters line seen m x ≡ answer
+  unfolding matters
+  fraction-matters k d e t = ap mattersIf k ∙ ap (λ (n : ℕ). leb (numerator seen * n) (m * denominator seen)) (sym e) ∙ t
 
 -- ---- one cell
 
@@ -37,19 +60,28 @@ abbrev pub behind : Bool → ℕ → ℕ → ℕ → List ℕ → Update
 behind found row m highest part = record { answer = record { found = found; row = row; m = m; highest = highest }; part = part }
 
 module _ (line : Line) (i m highest : ℕ) (part : List ℕ) (s one seen rest : ℕ) (at : AtCell line i m highest part s one seen rest) where
+  -- the cell matters: its score is at least what the rows up to it have seen
+  abbrev matter : Bool
+  matter = matters line seen m (getD part i 0)
+
+  -- what the rows up to it have seen once it is passed, and the part
+  abbrev top : ℕ
+  top = cond matter (greater (orderIn line) seen s) seen
+
+  abbrev after : List ℕ
+  after = cond matter (entered (line .fractions) part i s seen) part
+
   -- the laws below, in one: what is passed later is the same from the words that the code goes on with
   unrolled : (n : ℕ) → passRows line (suc n) i m highest part
-      ≡ cond (candidateTest (line .fractions) seen s one (line .back) i)
-      (behind true (i + 1) rest (greater (orderIn line) seen s) (entered (line .fractions) part i s seen))
-      (passRows line n (i + 1) rest (greater (orderIn line) seen s) (entered (line .fractions) part i s seen))
+      ≡ cond (candidateTest matter one (line .back) i) (behind true (i + 1) rest top after) (passRows line n (i + 1) rest top after)
   unrolled n = rw (at .lower, at .score, at .reach, at .known, add-one)
 
-  -- a score word below what the rows up to it have seen matters to nothing
-  pub pass-low : (n : ℕ) → orderIn line seen s ≡ false → passRows line (suc n) i m highest part ≡ passRows line n (i + 1) rest seen part
-  unfolding candidateTest entered greater
-  pass-low n l = unrolled n ∙ rw (l, word-order (line .fractions) .total seen s l)
+  -- a cell that does not matter changes nothing
+  pub pass-low : (n : ℕ) → matter ≡ false → passRows line (suc n) i m highest part ≡ passRows line n (i + 1) rest seen part
+  unfolding candidateTest
+  pass-low n l = unrolled n ∙ rw l
 
-  module _ (updated : List ℕ) (higher : ℕ) (l : orderIn line seen s ≡ true) (e : updated ≡ entered (line .fractions) part i s seen)
+  module _ (updated : List ℕ) (higher : ℕ) (l : matter ≡ true) (e : updated ≡ entered (line .fractions) part i s seen)
       (g : higher ≡ greater (orderIn line) seen s) where
     pub pass-stop : (n : ℕ) → reasonable line one i ≡ true → passRows line (suc n) i m highest part ≡ behind true (i + 1) rest higher updated
     unfolding candidateTest
@@ -98,13 +130,19 @@ none-found i n row m highest part e = record {
 pub bounded : (line : Line) (n i m highest : ℕ) (part : List ℕ) → Bounded i n part (passRows line n i m highest part)
 bounded line zero i m highest part = none-found i 0 i m highest part (omega arith)
 bounded line (suc n) i m highest part =
-    let s = lineScore line m (getD part i 0) in
+    let x = getD part i 0 in
+    let s = lineScore line m x in
     let seen = greater (orderIn line) highest (getD part (bestAt i) 0) in
     let one = inReach line part i in
-    go (candidateTest (line .fractions) seen s one (line .back) i) (lowered m one) (greater (orderIn line) seen s)
-    (length-entered (line .fractions) part i s seen)
-    (bounded line n (suc i) (lowered m one) (greater (orderIn line) seen s) (entered (line .fractions) part i s seen))
+    let matter = matters line seen m x in
+    let top = cond matter (greater (orderIn line) seen s) seen in
+    let after = cond matter (entered (line .fractions) part i s seen) part in
+    go (candidateTest matter one (line .back) i) (lowered m one) top (kept matter s seen) (bounded line n (suc i) (lowered m one) top after)
   where
+    kept : (b : Bool) (s seen : ℕ) → length (cond b (entered (line .fractions) part i s seen) part) ≡ length part
+    kept true s seen = length-entered (line .fractions) part i s seen
+    kept false s seen = refl
+
     go : (b : Bool) (rest higher : ℕ) {after : List ℕ} {later : Update} → length after ≡ length part → Bounded (suc i) n after later
         → Bounded i (suc n) part (cond b (behind true (suc i) rest higher after) later)
     go true rest higher e r = record {

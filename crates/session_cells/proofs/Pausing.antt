@@ -9,23 +9,13 @@ use borrow.Author.Tests.{le-ltb}
 use lib.Dec.{ltb}
 use lib.ListN.{getD}
 use Rattle.base.specs.Lists.{bit}
-use Rattle.session_records.specs.Words.{atMost}
 use Rattle.session_records.specs.Records.{greater}
 use Rattle.session_records.proofs.Words.{word-order}
 use Rattle.session_cells.specs.declared.cells.Line.{Line}
 use Rattle.session_cells.specs.declared.rows.Paused.{Paused}
-use Rattle.session_cells.specs.Passing.{reachAt, bestAt, lowered, lineScore, orderIn, inReach, entered, Update, passRows}
+use Rattle.session_cells.specs.Passing.{reachAt, bestAt, lowered, lineScore, orderIn, inReach, entered, matters, Update, passRows}
 use Rattle.session_cells.specs.Pausing.{quietRows}
 use Rattle.session_cells.proofs.Passing.{AtCell, reasonable, behind, pass-low, pass-stop, pass-on}
-
--- ---- the order of a line's score words, where their kind is known
-
-module _ (line : Line) (fractions : Bool) (kind : line .fractions ≡ fractions) where
-  pub order-of : (a b : ℕ) {answer : Bool} → atMost fractions a b ≡ answer → orderIn line a b ≡ answer
-  order-of a b e = rw kind e
-
-  pub greater-of : (a b : ℕ) {seen : ℕ} → seen ≡ greater (atMost fractions) a b → seen ≡ greater (orderIn line) a b
-  greater-of a b e = rw kind e
 
 -- ---- one cell
 
@@ -35,14 +25,15 @@ pausedAt row m highest s reach = record { row = row; m = m; highest = highest; s
 
 module _ (line : Line) (i m highest : ℕ) (part : List ℕ) (s one seen rest : ℕ) (at : AtCell line i m highest part s one seen rest) where
   unrolled : (n : ℕ) → quietRows line (suc n) i m highest part
-      ≡ cond (orderIn line seen s) (pausedAt (i + 1) rest seen s (getD part (reachAt i) 0)) (quietRows line n (i + 1) rest seen part)
+      ≡ cond (matters line seen m (getD part i 0)) (pausedAt (i + 1) rest seen s (getD part (reachAt i) 0)) (quietRows line n (i + 1) rest seen part)
   unrolled n = rw (at .lower, at .score, at .reach, at .known, add-one)
 
-  pub quiet-stop : (n : ℕ) → orderIn line seen s ≡ true
+  pub quiet-stop : (n : ℕ) → matters line seen m (getD part i 0) ≡ true
       → quietRows line (suc n) i m highest part ≡ pausedAt (i + 1) rest seen s (getD part (reachAt i) 0)
   quiet-stop n l = unrolled n ∙ rw l
 
-  pub quiet-on : (n : ℕ) → orderIn line seen s ≡ false → quietRows line (suc n) i m highest part ≡ quietRows line n (i + 1) rest seen part
+  pub quiet-on : (n : ℕ) → matters line seen m (getD part i 0) ≡ false
+      → quietRows line (suc n) i m highest part ≡ quietRows line n (i + 1) rest seen part
   quiet-on n l = unrolled n ∙ rw l
 
 -- what the definitions say at a cell, its pause among it
@@ -58,7 +49,7 @@ module _ (line : Line) (i m highest : ℕ) (part : List ℕ) where
 
   -- the cell matters
   abbrev high : Bool
-  high = orderIn line seen score
+  high = matters line seen m (getD part i 0)
 
   abbrev paused : Paused
   paused = pausedAt (i + 1) rest seen score (getD part (reachAt i) 0)
@@ -107,13 +98,13 @@ none-matters line i to m highest part e =
 
 module _ (line : Line) (n i to m highest : ℕ) (part : List ℕ) (e : to ≡ i + suc n) where
   -- a cell that matters
-  matters : high line i m highest part ≡ true → (found : Bool) → reasonable line (inReach line part i) i ≡ found
+  stops : high line i m highest part ≡ true → (found : Bool) → reasonable line (inReach line part i) i ≡ found
       → passRows line (suc n) i m highest part ≡ resumed line to part (paused line i m highest part)
   unfolding inReach
-  matters l true t =
+  stops l true t =
       let j : i + 1 - 1 ≡ i = omega arith in
       pass-stop _ _ _ _ _ _ _ _ _ (at-cell line i m highest part) _ _ l refl refl n t ∙ rw (j, t)
-  matters l false t =
+  stops l false t =
       let j : i + 1 - 1 ≡ i = omega arith in
       let k : to - (i + 1) ≡ n = omega arith in
       pass-on _ _ _ _ _ _ _ _ _ (at-cell line i m highest part) _ _ l refl refl n t ∙ rw (j, t, k)
@@ -121,7 +112,7 @@ module _ (line : Line) (n i to m highest : ℕ) (part : List ℕ) (e : to ≡ i 
   one-more : (c : Bool) → high line i m highest part ≡ c → (later : Paused)
       → passRows line n (i + 1) (rest line i m highest part) (seen line i m highest part) part ≡ resumed line to part later
       → passRows line (suc n) i m highest part ≡ resumed line to part (cond c (paused line i m highest part) later)
-  one-more true t later r = matters t (reasonable line (inReach line part i) i) refl
+  one-more true t later r = stops t (reasonable line (inReach line part i) i) refl
   one-more false t later r = pass-low _ _ _ _ _ _ _ _ _ (at-cell line i m highest part) n t ∙ r
 
 -- passing goes on from the pause as from the first row

@@ -7,7 +7,7 @@ use lib.ListN.{length, getD, set}
 use Rattle.base.specs.Limits.{hitLimit, wordLimit}
 use Rattle.base.specs.Lists.{bit}
 use Rattle.session_words.specs.Layout.{indexFrom, reachFrom, bestFrom, blockRows, topsFrom, startsFrom, partLength}
-use Rattle.session_records.specs.Words.{atMost}
+use Rattle.session_records.specs.Words.{numerator, denominator, atMost}
 use Rattle.session_records.specs.Records.{greater}
 use Rattle.session_cells.specs.declared.cells.Line.{Line}
 use Rattle.session_cells.specs.declared.cells.Passed.{Passed}
@@ -48,10 +48,19 @@ entered fractions part i s seen =
     part
     (set (set part (bestAt i) s) (topAt (i / blockRows)) (greater (atMost fractions) s (getD part (topAt (i / blockRows)) 0)))
 
--- Definition 1 at a cell of row i, by words: its score word is at least what the rows up to i have seen, the threshold included, and
--- both of its ends are reasonable
-unfoldable pub candidateTest : Bool → ℕ → ℕ → ℕ → ℕ → ℕ → Bool
-candidateTest fractions seen s one back i = atMost fractions seen s && eqb one 1 && leb back i
+-- the divisor of the fraction of a cell of the line: the column's own part, which base holds, less x and m, as a word
+unfoldable pub lineDivisor : Line → ℕ → ℕ → ℕ
+lineDivisor line m x = (3 * wordLimit - 1 - line .base - x - m) % wordLimit
+
+-- the score of a cell of the line is at least what the rows up to its own have seen, the threshold included: a number by its score word, a
+-- fraction by cross products of m and its divisor
+unfoldable pub matters : Line → ℕ → ℕ → ℕ → Bool
+matters line seen m x =
+    cond (line .fractions) (leb (numerator seen * lineDivisor line m x) (m * denominator seen)) (leb seen (lineScore line m x))
+
+-- Definition 1 at a cell of row i that matters, or not: both of its ends are reasonable
+unfoldable pub candidateTest : Bool → ℕ → ℕ → ℕ → Bool
+candidateTest matter one back i = matter && eqb one 1 && leb back i
 
 -- a column's update: what it answers, and the part of the work words afterwards
 pub record Update : Type 0 where
@@ -69,13 +78,16 @@ nonePassed i m highest = record { found = false; row = i; m = m; highest = highe
 abbrev pub passRows : Line → ℕ → ℕ → ℕ → ℕ → List ℕ → Update
 passRows line zero i m highest part = record { answer = nonePassed i m highest; part = part }
 passRows line (suc n) i m highest part =
-    let s = lineScore line m (getD part i 0) in
+    let x = getD part i 0 in
+    let s = lineScore line m x in
     let seen = greater (orderIn line) highest (getD part (bestAt i) 0) in
     let one = inReach line part i in
-    let after = entered (line .fractions) part i s seen in
-    let later = passRows line n (suc i) (lowered m one) (greater (orderIn line) seen s) after in
-    cond (candidateTest (line .fractions) seen s one (line .back) i)
-    (record { answer = record { found = true; row = suc i; m = lowered m one; highest = greater (orderIn line) seen s }; part = after })
+    let matter = matters line seen m x in
+    let after = cond matter (entered (line .fractions) part i s seen) part in
+    let top = cond matter (greater (orderIn line) seen s) seen in
+    let later = passRows line n (suc i) (lowered m one) top after in
+    cond (candidateTest matter one (line .back) i)
+    (record { answer = record { found = true; row = suc i; m = lowered m one; highest = top }; part = after })
     later
 
 -- ---- block by block
@@ -84,13 +96,10 @@ passRows line (suc n) i m highest part =
 unfoldable pub restEnd : Line → ℕ → ℕ
 restEnd line i = min ((i / blockRows + 1) * blockRows) (line .column + 1)
 
--- the bound of the rows from i up to that end: m of the first with the length of the last
-unfoldable pub bound : Line → ℕ → ℕ → List ℕ → ℕ
-bound line i m part = lineScore line m (getD part (restEnd line i - 1) 0)
-
--- the rest of the block is skipped: it ends within the rows that are asked for, and its bound is less than what the rows before it have seen
+-- the rest of the block is skipped: it ends within the rows that are asked for, and m of its first row with the length of its last does not
+-- reach what the rows before it have seen
 unfoldable pub skips : Line → ℕ → ℕ → ℕ → ℕ → List ℕ → Bool
-skips line to i m highest part = leb (restEnd line i) to && not (orderIn line highest (bound line i m part))
+skips line to i m highest part = leb (restEnd line i) to && not (matters line highest m (getD part (restEnd line i - 1) 0))
 
 -- behind the rest of the block of row i
 unfoldable pub skipped : Line → ℕ → ℕ → List ℕ → Passed

@@ -1,9 +1,11 @@
 // Passing the cells of one column: up to a candidate, or all of some rows, by blocks of rows that are skipped where none of their cells can
 // matter. A candidate passes the tests of Definition 1 by score words, which order as the scores do. It is the caller who decides, by
 // the score itself.
+use crate::fractions::matters_fraction;
+use crate::fractions::pass_row_fraction;
+use crate::fractions::pass_rows_fractions;
 use crate::rows::pass_row;
 use crate::rows::pass_rows;
-use crate::score::at_most;
 use crate::score::greater;
 use crate::score::score_word;
 use base::HIT_LIMIT;
@@ -78,8 +80,11 @@ fn is_skipped(part: &[u32], line: Line, to: usize, row: usize, m: u32, highest: 
     if to < end {
         return false;
     }
-    let bound = score_word(line.gain, m, line.v, part[end - 1], line.base);
-    !at_most(line.fractions, highest, bound)
+    let x = part[end - 1];
+    if line.fractions {
+        return !matters_fraction(line, highest, m, x);
+    }
+    score_word(line.gain, m, line.v, x, line.base) < highest
 }
 
 // Behind the rest of the block of this row.
@@ -104,14 +109,11 @@ fn pass_rest(part: &mut [u32], line: Line, to: usize, row: usize, m: u32, highes
     if is_skipped(part, line, to, row, m, highest) {
         return skip(part, line, row, highest);
     }
-    pass_rows(
-        part,
-        line,
-        row,
-        smaller(rest_end(line, row), to),
-        m,
-        highest,
-    )
+    let end = smaller(rest_end(line, row), to);
+    if line.fractions {
+        return pass_rows_fractions(part, line, row, end, m, highest);
+    }
+    pass_rows(part, line, row, end, m, highest)
 }
 
 // Passes the cells of rows from `from` up to `to`, or up to the first candidate, block by block.
@@ -178,8 +180,11 @@ pub fn pass_one(part: &mut [u32], line: Line, row: usize, m: u32, highest: u32) 
     if HIT_LIMIT <= row {
         return none_passed(row, m, highest);
     }
-    if fits(line, part, row, row + 1) {
-        return pass_row(part, line, row, m, highest);
+    if !fits(line, part, row, row + 1) {
+        return none_passed(row, m, highest);
     }
-    none_passed(row, m, highest)
+    if line.fractions {
+        return pass_row_fraction(part, line, row, m, highest);
+    }
+    pass_row(part, line, row, m, highest)
 }

@@ -1,11 +1,9 @@
-// Passing cells row by row. A cell's score word enters its row as a record where it is greater than all that the rows up to it have
-// seen, the threshold included; where it is at least that and its ends are reasonable, the cell is a candidate.
+// Passing cells row by row, where score words are numbers. A cell's score word enters its row as a record where it is greater than all
+// that the rows up to it have seen, the threshold included; where it is at least that and its ends are reasonable, the cell is a
+// candidate.
 use crate::cells::Line;
 use crate::cells::Passed;
-use crate::fractions::quiet_fractions;
-use crate::score::at_most;
 use crate::score::below;
-use crate::score::greater;
 use crate::score::greater_number;
 use crate::score::lowered;
 use crate::score::score_word;
@@ -43,21 +41,21 @@ pub(crate) struct Paused {
 }
 
 // Enters this score word in its row, where it is greater than what the rows up to there have seen.
-fn enter(part: &mut [u32], fractions: bool, row: usize, s: u32, seen: u32)
+fn enter(part: &mut [u32], row: usize, s: u32, seen: u32)
     requires { ⌜ (length (now part) ≡ partLength) × (row < hitLimit) ⌝ }
-    ensures { λ _. ⌜ now (part .exit) ≡ entered fractions (now (part .entry)) row s seen ⌝ }
+    ensures { λ _. ⌜ now (part .exit) ≡ entered false (now (part .entry)) row s seen ⌝ }
 {
-    if at_most(fractions, s, seen) {
+    if s <= seen {
         return;
     }
     let block = row / BLOCK_ROWS;
-    let top = greater(fractions, s, part[TOPS_AT + block]);
+    let top = greater_number(s, part[TOPS_AT + block]);
     part[BEST_AT + row] = s;
     part[TOPS_AT + block] = top;
 }
 
 // Both ends of a cell of this row are reasonable: `one` says it of the left end, and the right end is so from the row `back` on.
-fn is_reasonable(one: u32, back: usize, row: usize) -> bool
+pub(crate) fn is_reasonable(one: u32, back: usize, row: usize) -> bool
     ensures { λ r. ⌜ r ≡ (eqb one 1 && leb back row) ⌝ }
 {
     if one != 1 {
@@ -66,7 +64,8 @@ fn is_reasonable(one: u32, back: usize, row: usize) -> bool
     back <= row
 }
 
-// `quiet` where score words are numbers. It only reads; m and the row go on before the only test, so that the loop has one way on.
+// Passes the cells of rows from `from` up to `to`, or up to the first that matters. m0 is the first cell's m, and the rows before it have
+// seen highest0. It only reads; m and the row go on before the only test, so that the loop has one way on.
 fn quiet_numbers(part: &[u32], line: Line, from: usize, to: usize, m0: u32, highest0: u32) -> Paused
     requires { ⌜ (length (now part) ≡ partLength) × (from ≤ to) × (to ≤ hitLimit) × (line .fractions ≡ false) ⌝ }
     ensures { λ r. ⌜ r ≡ quietRows line (to - from) from m0 highest0 (now (part .entry)) ⌝ }
@@ -99,18 +98,6 @@ fn quiet_numbers(part: &[u32], line: Line, from: usize, to: usize, m0: u32, high
     }
 }
 
-// Passes the cells of rows from `from` up to `to`, or up to the first that matters. m is the first cell's, and the rows before it have
-// seen `highest`.
-fn quiet(part: &[u32], line: Line, from: usize, to: usize, m: u32, highest: u32) -> Paused
-    requires { ⌜ (length (now part) ≡ partLength) × (from ≤ to) × (to ≤ hitLimit) ⌝ }
-    ensures { λ r. ⌜ r ≡ quietRows line (to - from) from m highest (now (part .entry)) ⌝ }
-{
-    if line.fractions {
-        return quiet_fractions(part, line, from, to, m, highest);
-    }
-    quiet_numbers(part, line, from, to, m, highest)
-}
-
 // Passes the cells of rows from `from` up to `to`, or up to the first candidate. m0 is the first cell's m, and the rows before it have
 // seen highest0. Where no cell matters, the pause's score word 0 enters nothing and its reach 0 is not reasonable.
 pub(crate) fn pass_rows(
@@ -121,7 +108,7 @@ pub(crate) fn pass_rows(
     m0: u32,
     highest0: u32,
 ) -> Passed
-    requires { ⌜ (length (now part) ≡ partLength) × (from ≤ to) × (to ≤ hitLimit) ⌝ }
+    requires { ⌜ (length (now part) ≡ partLength) × (from ≤ to) × (to ≤ hitLimit) × (line .fractions ≡ false) ⌝ }
     ensures { λ r. ⌜ r ≡ passRows line (to - from) from m0 highest0 (now (part .entry)) .answer ⌝ }
     ensures { λ r. ⌜ now (part .exit) ≡ passRows line (to - from) from m0 highest0 (now (part .entry)) .part ⌝ }
 {
@@ -129,11 +116,11 @@ pub(crate) fn pass_rows(
     let mut highest = highest0;
     let mut i = from;
     while i < to {
-        let q = quiet(part, line, i, to, m, highest);
+        let q = quiet_numbers(part, line, i, to, m, highest);
         i = q.row;
         m = q.m;
-        enter(part, line.fractions, i - 1, q.score, q.highest);
-        highest = greater(line.fractions, q.highest, q.score);
+        enter(part, i - 1, q.score, q.highest);
+        highest = greater_number(q.highest, q.score);
         if is_reasonable(below(line.column, q.reach), line.back, i - 1) {
             return Passed {
                 found: true,
@@ -153,16 +140,16 @@ pub(crate) fn pass_rows(
 
 // Passes the one cell of this row, whose m is this. No loop: steps of one cell pass here.
 pub(crate) fn pass_row(part: &mut [u32], line: Line, row: usize, m: u32, highest: u32) -> Passed
-    requires { ⌜ (length (now part) ≡ partLength) × (row < hitLimit) ⌝ }
+    requires { ⌜ (length (now part) ≡ partLength) × (row < hitLimit) × (line .fractions ≡ false) ⌝ }
     ensures { λ r. ⌜ r ≡ passRows line 1 row m highest (now (part .entry)) .answer ⌝ }
     ensures { λ r. ⌜ now (part .exit) ≡ passRows line 1 row m highest (now (part .entry)) .part ⌝ }
 {
     let s = score_word(line.gain, m, line.v, part[row], line.base);
     let one = below(line.column, part[REACH_AT + row]);
-    let seen = greater(line.fractions, highest, part[BEST_AT + row]);
+    let seen = greater_number(highest, part[BEST_AT + row]);
     let rest = lowered(m, one);
     let next = row + 1;
-    if !at_most(line.fractions, seen, s) {
+    if s < seen {
         return Passed {
             found: false,
             row: next,
@@ -170,11 +157,11 @@ pub(crate) fn pass_row(part: &mut [u32], line: Line, row: usize, m: u32, highest
             highest: seen,
         };
     }
-    enter(part, line.fractions, row, s, seen);
+    enter(part, row, s, seen);
     Passed {
         found: is_reasonable(one, line.back, row),
         row: next,
         m: rest,
-        highest: greater(line.fractions, seen, s),
+        highest: greater_number(seen, s),
     }
 }

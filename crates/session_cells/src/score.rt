@@ -14,14 +14,14 @@ ghost use Rattle.session_records.specs.Records as Records;
 ghost use Rattle.session_cells.specs.Passing as Passing;
 
 // The m of a fraction. At most 2048 and a divisor below 2^21: their product is a word.
-fn numerator(word: u32) -> u32
+pub(crate) fn numerator(word: u32) -> u32
     ensures { λ r. ⌜ (r ≡ Words.numerator word) × (r ≤ 2048) ⌝ }
 {
     word / DIVISOR_SPAN + 1
 }
 
 // The divisor of a fraction.
-fn denominator(word: u32) -> u32
+pub(crate) fn denominator(word: u32) -> u32
     ensures { λ r. ⌜ (r ≡ Words.denominator word) × (r < divisorSpan) ⌝ }
 {
     DIVISOR_SPAN - 1 - word % DIVISOR_SPAN
@@ -32,16 +32,6 @@ pub(crate) fn at_most_fraction(a: u32, b: u32) -> bool
     ensures { λ r. ⌜ r ≡ atMost true a b ⌝ }
 {
     numerator(a) * denominator(b) <= numerator(b) * denominator(a)
-}
-
-// One score word is at most the other.
-pub(crate) fn at_most(fractions: bool, a: u32, b: u32) -> bool
-    ensures { λ r. ⌜ r ≡ atMost fractions a b ⌝ }
-{
-    if fractions {
-        return at_most_fraction(a, b);
-    }
-    a <= b
 }
 
 // The greater of two numbers.

@@ -1,5 +1,5 @@
--- At a cell of a session, the numbers of a line are those of the definitions: the score word, m along the column, and Definition 1's
--- tests.
+-- At a cell of a session, the numbers of a line are those of the definitions: the score word, whether the cell matters, m along the column,
+-- and Definition 1's tests.
 use Prim.Native.Nat.{ℕ, zero, suc, _+_, _-_, _*_, _%_, _≤_, _<_}
 use native.Mathlib.Nat.{le-refl, le-trans}
 use native.Mathlib.Omega.{arith}
@@ -28,13 +28,13 @@ use Rattle.mappings.proofs.Shared.{shared-le-length, length-interval, shared-le
 use Rattle.session_records.specs.Records.{highestBefore}
 use Rattle.session_records.proofs.Knowledge.{final-known, known-final}
 use Rattle.session_start.specs.Tables.{reach, back}
-use Rattle.session_start.specs.ScoreWords.{byFractions, scoreWord, scoreWordOf}
+use Rattle.session_start.specs.ScoreWords.{scoreWord, scoreWordOf}
 use Rattle.session_start.specs.WorkWords.{orderOf, bestAfter}
 use Rattle.session_start.proofs.WorkWords.{task-order}
 use Rattle.session_start.proofs.Tables.{reach-test, back-within, back-test, hit-codes-in}
-use Rattle.session_cells.specs.Passing.{lowered, lineScore, candidateTest}
+use Rattle.session_cells.specs.Passing.{lowered, lineScore, matters, candidateTest}
 use Rattle.session_rule.specs.Lines.{sessionLine, sharedAt}
-use Rattle.session_rule.proofs.Scores.{line-score, scores-order, threshold-order}
+use Rattle.session_rule.proofs.Scores.{line-score, matters-order, scores-order, threshold-order}
 use Rattle.session_rule.proofs.Knowing.{scoreAt, least, known}
 
 one-is : (b : Bool) → eqb (bit b) 1 ≡ b
@@ -106,13 +106,6 @@ module _ (task : Task) (limited : Limited task) where
 
   -- ---- score words
 
-  -- m of row i with the length of row k
-  pub score-with : hitCount task ≤ hitLimit → (i k j : ℕ) → i ≤ j → k ≤ j → j < hitCount task
-      → lineScore (sessionLine task j) (sharedAt task i j) (getD (hits task) k 0)
-      ≡ scoreWord (task .scoring) (length (task .pattern)) (sharedAt task i j) (suc (getD (hits task) j 0) - getD (hits task) k 0)
-  score-with small i k j a b l =
-      line-score task limited k j (sharedAt task i j) b l (shared-some i j a l) (shared-few i j a l) (le-trans (shared-hits i j a l) small)
-
   -- a cell's score word, by m of the hits' codes
   pub score-by : (i j : ℕ) → i ≤ j → j < hitCount task
       → scoreAt task i j
@@ -122,7 +115,22 @@ module _ (task : Task) (limited : Limited task) where
 
   pub score-is : hitCount task ≤ hitLimit → (i j : ℕ) → i ≤ j → j < hitCount task
       → lineScore (sessionLine task j) (sharedAt task i j) (getD (hits task) i 0) ≡ scoreAt task i j
-  score-is small i j a l = score-with small i i j a a l ∙ sym (score-by i j a l)
+  score-is small i j a l =
+      line-score task limited i j (sharedAt task i j) a l (shared-some i j a l) (shared-few i j a l) (le-trans (shared-hits i j a l) small)
+      ∙ sym (score-by i j a l)
+
+  -- ---- whether a cell matters
+
+  -- m of row i with the length of row k
+  pub matters-with : (i k j seen : ℕ) → i ≤ j → k ≤ j → j < hitCount task
+      → matters (sessionLine task j) seen (sharedAt task i j) (getD (hits task) k 0)
+      ≡ orderOf task seen
+      (scoreWord (task .scoring) (length (task .pattern)) (sharedAt task i j) (suc (getD (hits task) j 0) - getD (hits task) k 0))
+  matters-with i k j seen a b l = matters-order task limited k j (sharedAt task i j) seen b l (shared-some i j a l) (shared-few i j a l)
+
+  pub matters-is : (i j seen : ℕ) → i ≤ j → j < hitCount task
+      → matters (sessionLine task j) seen (sharedAt task i j) (getD (hits task) i 0) ≡ orderOf task seen (scoreAt task i j)
+  matters-is i j seen a l = matters-with i i j seen a a l ∙ ap (orderOf task seen) (sym (score-by i j a l))
 
   -- ---- the tests
 
@@ -158,7 +166,7 @@ module _ (task : Task) (limited : Limited task) where
 
     -- the tests by words are Definition 1's: one comparison stands for the threshold and for being maximal
     pub final-test : (q : ℕ) → place (hitCount task) i j ≡ q
-        → candidateTest (byFractions (task .scoring)) (highestBefore (orderOf task) (least task) (bestAfter task q) (suc i)) (scoreAt task i j)
+        → candidateTest (orderOf task (highestBefore (orderOf task) (least task) (bestAfter task q) (suc i)) (scoreAt task i j))
         (bit (ltb j (reach (task .pattern) (hitCodes task) i))) (back (task .pattern) (hitCodes task) j) i
         ≡ isFinalCell task (cellAt i j)
     unfolding candidateTest isFinalCell leftEnd rightEnd AtMost

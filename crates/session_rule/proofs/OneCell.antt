@@ -3,7 +3,7 @@ use Prim.Native.Nat.{ℕ, suc, _+_, _*_, _/_, _≤_, _<_}
 use native.Mathlib.Omega.{arith}
 use mathlib.Core.Path.{_≡_, refl, sym, ap, _∙_, subst}
 use mathlib.Core.Logic.{_⊎_, inl, inr}
-use mathlib.Core.Bool.{Bool, true, false}
+use mathlib.Core.Bool.{Bool, true, false, cond}
 use mathlib.Core.List.{List}
 use lib.Dec.{ltb}
 use lib.ListN.{length, getD, set, length-set}
@@ -27,10 +27,10 @@ use Rattle.session_start.specs.Tables.{reach}
 use Rattle.session_start.specs.ScoreWords.{byFractions}
 use Rattle.session_start.specs.WorkWords.{orderOf, bestAfter}
 use Rattle.session_start.proofs.WorkWords.{task-order, length-bestAfter}
-use Rattle.session_cells.specs.Passing.{reachAt, bestAt, topAt, startAt, lowered, lineScore, inReach, entered, candidateTest}
+use Rattle.session_cells.specs.Passing.{reachAt, bestAt, topAt, startAt, lowered, lineScore, inReach, entered, matters, candidateTest}
 use Rattle.session_rule.specs.Lines.{sessionLine, sharedAt}
 use Rattle.session_rule.proofs.Knowing.{scoreAt, least, best-next}
-use Rattle.session_rule.proofs.CellTests.{score-is, shared-next, final-test}
+use Rattle.session_rule.proofs.CellTests.{score-is, matters-is, shared-next, final-test}
 use Rattle.session_rule.proofs.Chunk.{PartHolds, SameOutside, At}
 
 -- the block of a row
@@ -44,6 +44,24 @@ other-block i b n = go (ltb i (b * blockRows)) refl
     go true e = inl (ltb-true i (b * blockRows) e)
     go false e = inr (let l : b * blockRows ≤ i = ltb-false i (b * blockRows) e in omega arith)
 
+-- the numbers at a cell of row i, as a line has them: its score word, what the rows up to it have seen, and whether it matters; and behind it
+-- what they have seen, and the part
+module _ (task : Task) (j i m highest : ℕ) (part : List ℕ) where
+  abbrev scoreIn : ℕ
+  scoreIn = lineScore (sessionLine task j) m (getD part i 0)
+
+  abbrev seenAt : ℕ
+  seenAt = greater (orderOf task) highest (getD part (bestAt i) 0)
+
+  abbrev pub matterAt : Bool
+  matterAt = matters (sessionLine task j) seenAt m (getD part i 0)
+
+  abbrev pub topAfter : ℕ
+  topAfter = cond matterAt (greater (orderOf task) seenAt scoreIn) seenAt
+
+  abbrev pub partAfter : List ℕ
+  partAfter = cond matterAt (entered (byFractions (task .scoring)) part i scoreIn seenAt) part
+
 module _ (task : Task) (limited : Limited task) (threshold-fits : ThresholdFits (task .scoring)) (small : hitCount task ≤ hitLimit)
     (j i q m highest : ℕ) (part : List ℕ) (a : i ≤ j) (l : j < hitCount task) (at : At task j i q m highest part) where
   row-in : i < hitCount task
@@ -52,14 +70,16 @@ module _ (task : Task) (limited : Limited task) (threshold-fits : ThresholdFits 
   in-best : i < length (bestAfter task q)
   in-best = subst (λ (n : ℕ). i < n) (sym (length-bestAfter task q)) row-in
 
-  -- the numbers at the cell, as a line has them
-  abbrev pub score : ℕ
-  score = lineScore (sessionLine task j) m (getD part i 0)
+  abbrev score : ℕ
+  score = scoreIn task j i m highest part
 
-  abbrev pub seen : ℕ
-  seen = greater (orderOf task) highest (getD part (bestAt i) 0)
+  abbrev seen : ℕ
+  seen = seenAt task j i m highest part
 
-  abbrev pub one : ℕ
+  abbrev matter : Bool
+  matter = matterAt task j i m highest part
+
+  abbrev one : ℕ
   one = inReach (sessionLine task j) part i
 
   -- the rows up to i have seen this
@@ -72,6 +92,9 @@ module _ (task : Task) (limited : Limited task) (threshold-fits : ThresholdFits 
   seen-at : seen ≡ top
   seen-at = rw (at .known a .1, at .holds .best-word i row-in) (sym (before-suc (orderOf task) (task-order task) (least task) (bestAfter task q) i in-best))
 
+  matter-at : matter ≡ orderOf task top (scoreAt task i j)
+  matter-at = rw (seen-at, at .known a .0, at .holds .index-word i row-in) (matters-is task limited i j top a l)
+
   pub one-reach : one ≡ bit (ltb j (reach (task .pattern) (hitCodes task) i))
   unfolding inReach
   one-reach = rw (at .holds .reach-word i row-in)
@@ -79,10 +102,14 @@ module _ (task : Task) (limited : Limited task) (threshold-fits : ThresholdFits 
   pub m-next : lowered m one ≡ sharedAt task (suc i) j
   m-next = rw (at .known a .0, one-reach) (shared-next task limited i j a l)
 
-  pub test-at : candidateTest (byFractions (task .scoring)) seen score one (sessionLine task j .back) i ≡ isFinalCell task (cellAt i j)
-  test-at = rw (seen-at, score-at, one-reach) (final-test task limited threshold-fits i j a l q (at .place-is))
+  pub test-at : candidateTest matter one (sessionLine task j .back) i ≡ isFinalCell task (cellAt i j)
+  test-at = rw (matter-at, one-reach) (final-test task limited threshold-fits i j a l q (at .place-is))
 
   -- ---- a record, or none
+
+  -- a cell that does not matter is none
+  low : orderOf task top (scoreAt task i j) ≡ false → orderOf task (scoreAt task i j) top ≡ true
+  low t = task-order task .total top (scoreAt task i j) t
 
   same-best : orderOf task (scoreAt task i j) top ≡ true → bestAfter task (suc q) ≡ bestAfter task q
   same-best t = best-next task i j q a l (at .place-is) ∙ unrecorded (orderOf task) (task-order task) (least task) (bestAfter task q) i (scoreAt task i j) t
@@ -91,9 +118,16 @@ module _ (task : Task) (limited : Limited task) (threshold-fits : ThresholdFits 
   set-best t = best-next task i j q a l (at .place-is) ∙ recorded (orderOf task) (task-order task) (least task) (bestAfter task q) i (scoreAt task i j) t
 
   -- what the rows up to i have seen then
-  pub seen-next : greater (orderOf task) seen score ≡ highestBefore (orderOf task) (least task) (bestAfter task (suc q)) (suc i)
-  seen-next = rw (seen-at, score-at) (go (orderOf task (scoreAt task i j) top) refl)
+  pub seen-next : topAfter task j i m highest part ≡ highestBefore (orderOf task) (least task) (bestAfter task (suc q)) (suc i)
+  seen-next =
+      rw (matter-at, seen-at, score-at)
+      (stays (orderOf task top (scoreAt task i j)) refl ∙ go (orderOf task (scoreAt task i j) top) refl)
     where
+      stays : (b : Bool) → orderOf task top (scoreAt task i j) ≡ b
+          → cond b (greater (orderOf task) top (scoreAt task i j)) top ≡ greater (orderOf task) top (scoreAt task i j)
+      stays true t = refl
+      stays false t = sym (greater-first (orderOf task) (task-order task) top (scoreAt task i j) (low t))
+
       go : (b : Bool) → orderOf task (scoreAt task i j) top ≡ b
           → greater (orderOf task) top (scoreAt task i j) ≡ highestBefore (orderOf task) (least task) (bestAfter task (suc q)) (suc i)
       go true t = rw (same-best t) (greater-first (orderOf task) (task-order task) top (scoreAt task i j) t)
@@ -176,12 +210,22 @@ module _ (task : Task) (limited : Limited task) (threshold-fits : ThresholdFits 
 
   -- ---- the part afterwards
 
-  entered-at : entered (byFractions (task .scoring)) part i score seen ≡ entered (byFractions (task .scoring)) part i (scoreAt task i j) top
-  entered-at = rw (score-at, seen-at)
+  abbrev after : List ℕ
+  after = partAfter task j i m highest part
 
-  pub holds-next : PartHolds task j (suc q) (entered (byFractions (task .scoring)) part i score seen)
+  after-at : after ≡ entered (byFractions (task .scoring)) part i (scoreAt task i j) top
   unfolding entered
-  holds-next = subst (PartHolds task j (suc q)) (sym entered-at) (go (orderOf task (scoreAt task i j) top) refl)
+  after-at = rw (matter-at, score-at, seen-at) (go (orderOf task top (scoreAt task i j)) refl)
+    where
+      go : (b : Bool) → orderOf task top (scoreAt task i j) ≡ b
+          → cond b (entered (byFractions (task .scoring)) part i (scoreAt task i j) top) part
+          ≡ entered (byFractions (task .scoring)) part i (scoreAt task i j) top
+      go true t = refl
+      go false t = rw (low t)
+
+  pub holds-next : PartHolds task j (suc q) after
+  unfolding entered
+  holds-next = subst (PartHolds task j (suc q)) (sym after-at) (go (orderOf task (scoreAt task i j) top) refl)
     where
       go : (b : Bool) → orderOf task (scoreAt task i j) top ≡ b
           → PartHolds task j (suc q) (entered (byFractions (task .scoring)) part i (scoreAt task i j) top)
@@ -195,9 +239,9 @@ module _ (task : Task) (limited : Limited task) (threshold-fits : ThresholdFits 
       })
       go false t = rw t (record-holds t)
 
-  pub same-next : SameOutside task part (entered (byFractions (task .scoring)) part i score seen)
+  pub same-next : SameOutside task part after
   unfolding entered
-  same-next = subst (SameOutside task part) (sym entered-at) (go (orderOf task (scoreAt task i j) top) refl)
+  same-next = subst (SameOutside task part) (sym after-at) (go (orderOf task (scoreAt task i j) top) refl)
     where
       go : (b : Bool) → orderOf task (scoreAt task i j) top ≡ b
           → SameOutside task part (entered (byFractions (task .scoring)) part i (scoreAt task i j) top)

@@ -5,7 +5,6 @@ use mathlib.Core.Path.{_≡_, refl, sym, ap, _∙_, subst}
 use mathlib.Core.Bool.{Bool, true, false, cond, _&&_}
 use mathlib.Core.List.{List}
 use lib.Dec.{leb, ltb, eqb}
-use lib.ListN.{getD}
 use borrow.Author.Tests.{eqb-true, ltb-true, ltb-false}
 use Rattle.base.specs.Limits.{hitLimit}
 use Rattle.base.proofs.Lists.{clash, and-left, and-right}
@@ -16,22 +15,18 @@ use Rattle.mappings.specs.Places.{place}
 use Rattle.mappings.proofs.Cells.{cellAt, place-row}
 use Rattle.mappings.proofs.Range.{Limited}
 use Rattle.mappings.proofs.Rule.{rule-found, rule-pass}
-use Rattle.session_records.specs.Records.{greater}
-use Rattle.session_start.specs.ScoreWords.{byFractions}
-use Rattle.session_start.specs.WorkWords.{orderOf}
-use Rattle.session_cells.specs.Passing.{bestAt, lowered, lineScore, inReach, entered, candidateTest, Update, passRows}
+use Rattle.session_cells.specs.Passing.{lowered, inReach, candidateTest, Update, passRows}
 use Rattle.session_cells.specs.Passing.{restEnd, skips, passRest, passBlocks}
 use Rattle.session_rule.specs.Lines.{sessionLine, sharedAt}
 use Rattle.session_rule.proofs.CellTests.{shared-one}
 use Rattle.session_rule.proofs.Chunk.{Known, At, Chunk, all-passed, one-found, none, join}
-use Rattle.session_rule.proofs.OneCell.{m-next, one-reach, test-at, seen-next, holds-next, same-next}
+use Rattle.session_rule.proofs.OneCell.{matterAt, topAfter, partAfter, m-next, one-reach, test-at, seen-next, holds-next, same-next}
 use Rattle.session_rule.proofs.Skipping.{next-cell, rest-within, place-further, ends-within, skip-chunk}
 
 -- a candidate's left end is reasonable
-candidate-one : (task : Task) (top s b back i : ℕ) → candidateTest (byFractions (task .scoring)) top s b back i ≡ true → b ≡ 1
+candidate-one : (matter : Bool) (one back i : ℕ) → candidateTest matter one back i ≡ true → one ≡ 1
 unfolding candidateTest
-candidate-one task top s b back i t =
-    eqb-true b 1 (and-right (orderOf task top s) (eqb b 1) (and-left (orderOf task top s && eqb b 1) (leb back i) t))
+candidate-one matter one back i t = eqb-true one 1 (and-right matter (eqb one 1) (and-left (matter && eqb one 1) (leb back i) t))
 
 chosen : (b : Bool) (one other : Update) → b ≡ true → cond b one other ≡ one
 chosen true one other e = refl
@@ -43,10 +38,8 @@ module _ (task : Task) (limited : Limited task) (threshold-fits : ThresholdFits 
 
   -- behind a cell
   behind : (i q m highest : ℕ) (part : List ℕ) → i ≤ j → At task j i q m highest part
-      → At task j (suc i) (suc q) (lowered m (inReach (sessionLine task j) part i))
-      (greater (orderOf task) (greater (orderOf task) highest (getD part (bestAt i) 0)) (lineScore (sessionLine task j) m (getD part i 0)))
-      (entered (byFractions (task .scoring)) part i (lineScore (sessionLine task j) m (getD part i 0))
-      (greater (orderOf task) highest (getD part (bestAt i) 0)))
+      → At task j (suc i) (suc q) (lowered m (inReach (sessionLine task j) part i)) (topAfter task j i m highest part)
+      (partAfter task j i m highest part)
   behind i q m highest part a at = record {
     place-is = place-row (hitCount task) i j ∙ ap suc (at .place-is);
     known = λ c. (
@@ -65,31 +58,31 @@ module _ (task : Task) (limited : Limited task) (threshold-fits : ThresholdFits 
       let next = behind i q m highest part a at in
       go (isFinalCell task (cellAt i j)) refl a next (rows-chunk n (suc i) (suc q) _ _ _ (omega arith) next)
     where
-      s : ℕ
-      s = lineScore (sessionLine task j) m (getD part i 0)
-
-      known : ℕ
-      known = greater (orderOf task) highest (getD part (bestAt i) 0)
+      matter : Bool
+      matter = matterAt task j i m highest part
 
       reasonable : ℕ
       reasonable = inReach (sessionLine task j) part i
 
+      top : ℕ
+      top = topAfter task j i m highest part
+
       after : List ℕ
-      after = entered (byFractions (task .scoring)) part i s known
+      after = partAfter task j i m highest part
 
       go : (b : Bool) → isFinalCell task (cellAt i j) ≡ b → i ≤ j
-          → At task j (suc i) (suc q) (lowered m reasonable) (greater (orderOf task) known s) after
-          → Chunk task j (suc i) n (suc q) after (passRows (sessionLine task j) n (suc i) (lowered m reasonable) (greater (orderOf task) known s) after)
+          → At task j (suc i) (suc q) (lowered m reasonable) top after
+          → Chunk task j (suc i) n (suc q) after (passRows (sessionLine task j) n (suc i) (lowered m reasonable) top after)
           → Chunk task j i (suc n) q part (passRows (sessionLine task j) (suc n) i m highest part)
       go true e a next later =
-          let t : candidateTest (byFractions (task .scoring)) known s reasonable (sessionLine task j .back) i ≡ true =
+          let t : candidateTest matter reasonable (sessionLine task j .back) i ≡ true =
           test-at task limited threshold-fits small j i q m highest part a l at ∙ e in
           let h : i + 0 ≡ i = omega arith in
           let g : q + 1 ≡ suc q = omega arith in
-          let r : reasonable ≡ 1 = candidate-one task known s reasonable (sessionLine task j .back) i t in
+          let r : reasonable ≡ 1 = candidate-one matter reasonable (sessionLine task j .back) i t in
           rw t
           (one-found 0 (suc-le-suc zero-le) refl (ap suc (sym h))
-          (rw h (one-more a next r))
+          (rw h (one-more a r))
           (rw h e)
           (rw (h, g) (next .known))
           (rw g (next .holds))
@@ -97,17 +90,16 @@ module _ (task : Task) (limited : Limited task) (threshold-fits : ThresholdFits 
           (λ B. (let z : 1 + B ≡ suc B = omega arith in rw (z, h)
           (rule-found task q (cellAt i j) (next-cell task i j q a l (at .place-is)) B e))))
         where
-          one-more : i ≤ j → At task j (suc i) (suc q) (lowered m reasonable) (greater (orderOf task) known s) after → reasonable ≡ 1
-              → lowered m reasonable + 1 ≡ sharedAt task i j
-          one-more a next r =
+          one-more : i ≤ j → reasonable ≡ 1 → lowered m reasonable + 1 ≡ sharedAt task i j
+          one-more a r =
               rw (m-next task limited threshold-fits small j i q m highest part a l at)
               (shared-one task limited i j a l (sym (one-reach task limited threshold-fits small j i q m highest part a l at) ∙ r))
       go false e a next later =
-          let t : candidateTest (byFractions (task .scoring)) known s reasonable (sessionLine task j .back) i ≡ false =
+          let t : candidateTest matter reasonable (sessionLine task j .back) i ≡ false =
           test-at task limited threshold-fits small j i q m highest part a l at ∙ e in
           rw t
           (join task j i (suc i) 1 n (suc n) q (suc q) part after
-          (passRows (sessionLine task j) n (suc i) (lowered m reasonable) (greater (orderOf task) known s) after) (omega arith) (omega arith) (omega arith)
+          (passRows (sessionLine task j) n (suc i) (lowered m reasonable) top after) (omega arith) (omega arith) (omega arith)
           (same-next task limited threshold-fits small j i q m highest part a l at)
           (λ B. (let z : 1 + B ≡ suc B = omega arith in rw z (rule-pass task q (cellAt i j) (next-cell task i j q a l (at .place-is)) B e)))
           later)
@@ -122,9 +114,9 @@ module _ (task : Task) (limited : Limited task) (threshold-fits : ThresholdFits 
       go : (t : Bool) → skips (sessionLine task j) to i m highest part ≡ t
           → Chunk task j i (min (restEnd (sessionLine task j) i) to - i) q part (passRest (sessionLine task j) to i m highest part)
       go true t =
-          let w : restEnd (sessionLine task j) i ≤ to = ends-within task limited threshold-fits small j i q m highest to part a l at t in
+          let w : restEnd (sessionLine task j) i ≤ to = ends-within task limited threshold-fits j i q m highest to part a l at t in
           let e : min (restEnd (sessionLine task j) i) to ≡ restEnd (sessionLine task j) i = omega arith in
-          rw (t, e) (skip-chunk task limited threshold-fits small j i q m highest to part a l at t)
+          rw (t, e) (skip-chunk task limited threshold-fits j i q m highest to part a l at t)
       go false t = rw t (rows-chunk (min (restEnd (sessionLine task j) i) to - i) i q m highest part (omega (arith, rest-within task i j a)) at)
 
   pub blocks-chunk : (n to i q m highest : ℕ) (part : List ℕ) → i ≤ to → to ≤ suc j → to - i ≤ n → At task j i q m highest part

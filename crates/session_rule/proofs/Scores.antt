@@ -1,10 +1,10 @@
--- What a session takes of a score, by the two cases: its words are monotone, a line's are those of its column's cells, and they order as the
--- scores do. No other file of this crate asks which score it is.
+-- What a session takes of a score, by the two cases: its words are monotone, a line's are those of its column's cells, a cell of a line
+-- matters by the order of the words, and they order as the scores do. No other file of this crate asks which score it is.
 use Prim.Native.Nat.{ℕ, zero, suc, _+_, _-_, _*_, _%_, _≤_, _<_}
 use native.Mathlib.Nat.{le-refl, mul-add, mul-le-mul, add-mod-mod}
 use native.Mathlib.Omega.{arith}
 use mathlib.Core.Path.{_≡_, sym, ap, _∙_}
-use mathlib.Core.Bool.{true, false}
+use mathlib.Core.Bool.{true, false, cond}
 use lib.Arith.{digits-mod}
 use lib.Dec.{leb}
 use lib.ListN.{length, getD}
@@ -18,11 +18,11 @@ use Rattle.mappings.specs.Cells.{hits, hitCount}
 use Rattle.mappings.proofs.Hits.{hit-within, hit-at-most}
 use Rattle.mappings.proofs.Range.{SmallNumbers, Limited, lengths, twice-shared, linear-order, linear-threshold}
 use Rattle.session_records.specs.Order.{Monotone}
-use Rattle.session_records.specs.Words.{divisorSpan, fractionWord, atMost}
+use Rattle.session_records.specs.Words.{divisorSpan, fractionWord, numerator, denominator, atMost}
 use Rattle.session_records.proofs.Words.{word-order, numerator-word, denominator-word, fraction-monotone}
 use Rattle.session_start.specs.ScoreWords.{byFractions, scoreWord, thresholdWord, scoreWordOf}
 use Rattle.session_start.specs.WorkWords.{orderOf}
-use Rattle.session_cells.specs.Passing.{lineScore}
+use Rattle.session_cells.specs.Passing.{lineScore, lineDivisor, matters}
 use Rattle.session_rule.specs.Lines.{margin, gainOf, lossOf, liftOf, sessionLine}
 
 -- ---- the score word does not fall with m and does not rise with len
@@ -98,6 +98,50 @@ unfolding lineScore
 line-score task limited i j m a l some few small =
     word-is (task .scoring) (limited .small-numbers) (length (task .pattern)) m (getD (hits task) i 0) (getD (hits task) j 0) (hit-at-most task i j a l)
     (omega (arith, hit-within task j l, limited .short-text)) (limited .short-pattern) some few small
+
+-- ---- whether a cell of a line matters
+
+-- base is 2^32 − 1 − (y + 1 + size): 2^32 twice is what lineDivisor adds to the divisor
+divisor-is : (size m x y : ℕ) → x ≤ y → y < textLimit → size ≤ patternLimit → m ≤ size
+    → (3 * wordLimit - 1 - (margin - 1 - 1 * (y + 1 + size)) % wordLimit - x - m) % wordLimit ≡ suc y - x + size - m
+divisor-is size m x y a short-text short-pattern few =
+    less (y + 1 + size) (suc y - x + size - m) (omega arith) (omega arith)
+  where
+    less : (both rest : ℕ) → both ≡ rest + x + m → both < wordLimit
+        → (3 * wordLimit - 1 - (margin - 1 - 1 * both) % wordLimit - x - m) % wordLimit ≡ rest
+    less both rest e l =
+        let lifted : margin - 1 - 1 * both ≡ (2 * weightLimit - 1) * wordLimit + (wordLimit - 1 - both) = omega arith in
+        let base : (margin - 1 - 1 * both) % wordLimit ≡ wordLimit - 1 - both =
+        ap (λ (n : ℕ). n % wordLimit) lifted ∙ digits-mod (2 * weightLimit - 1) (let g : wordLimit - 1 - both < wordLimit = omega arith in g) in
+        let f : 3 * wordLimit - 1 - (wordLimit - 1 - both) - x - m ≡ 2 * wordLimit + rest = omega arith in
+        rw base (ap (λ (n : ℕ). n % wordLimit) f ∙ digits-mod 2 (let g : rest < wordLimit = omega arith in g))
+
+order-is : (scoring : Scoring) → SmallNumbers scoring → (size m x y seen : ℕ) → x ≤ y → y < textLimit → size ≤ patternLimit
+    → 1 ≤ m → m ≤ size
+    → cond (byFractions scoring)
+    (leb (numerator seen * ((3 * wordLimit - 1 - (liftOf scoring - lossOf scoring * (y + 1 + size)) % wordLimit - x - m) % wordLimit))
+    (m * denominator seen))
+    (leb seen ((gainOf scoring * m + lossOf scoring * x + (liftOf scoring - lossOf scoring * (y + 1 + size)) % wordLimit) % wordLimit))
+    ≡ atMost (byFractions scoring) seen (scoreWord scoring size m (suc y - x))
+unfolding divisor atMost
+order-is (Linear u v threshold) numbers size m x y seen a short-text short-pattern some few =
+    ap (leb seen) (number-is u v size m x y (numbers .0) (numbers .1) a short-text short-pattern few)
+order-is (Jaccard f g) numbers size m x y seen a short-text short-pattern some few =
+    let d : suc y - x + size - m < divisorSpan = omega arith in
+    rw (
+      divisor-is size m x y a short-text short-pattern few,
+      numerator-word m (suc y - x + size - m) some d,
+      denominator-word m (suc y - x + size - m) some d,
+    )
+
+-- a fraction is compared without its word, and as its word is
+pub matters-order : (task : Task) → Limited task → (i j m seen : ℕ) → i ≤ j → j < hitCount task → 1 ≤ m → m ≤ length (task .pattern)
+    → matters (sessionLine task j) seen m (getD (hits task) i 0)
+    ≡ orderOf task seen (scoreWord (task .scoring) (length (task .pattern)) m (suc (getD (hits task) j 0) - getD (hits task) i 0))
+unfolding matters lineDivisor lineScore
+matters-order task limited i j m seen a l some few =
+    order-is (task .scoring) (limited .small-numbers) (length (task .pattern)) m (getD (hits task) i 0) (getD (hits task) j 0) seen
+    (hit-at-most task i j a l) (omega (arith, hit-within task j l, limited .short-text)) (limited .short-pattern) some few
 
 -- ---- the words order as the scores do
 

@@ -8,7 +8,6 @@ use lib.Dec.{leb}
 use lib.ListN.{length, getD, drop}
 use Rattle.base.proofs.Lists.{and-left, and-right}
 use borrow.Author.Tests.{leb-true}
-use Rattle.base.specs.Limits.{hitLimit}
 use Rattle.mappings.specs.Score.{Task, ThresholdFits}
 use Rattle.mappings.specs.Cells.{hits, hitCount, cellsOf}
 use Rattle.mappings.specs.FinalTest.{isFinalCell}
@@ -26,11 +25,11 @@ use Rattle.session_records.proofs.Skipping.{bound as bound-law, unreached}
 use Rattle.session_start.specs.ScoreWords.{scoreWord}
 use Rattle.session_start.specs.WorkWords.{orderOf, bestAfter}
 use Rattle.session_start.proofs.WorkWords.{task-order}
-use Rattle.session_cells.specs.Passing.{orderIn, candidateTest, topAt, startAt, restEnd, bound, skips, skipped}
+use Rattle.session_cells.specs.Passing.{matters, candidateTest, topAt, startAt, restEnd, skips, skipped}
 use Rattle.session_rule.specs.Lines.{sessionLine, sharedAt}
 use Rattle.session_rule.proofs.Scores.{words-monotone}
 use Rattle.session_rule.proofs.Knowing.{scoreAt, least, best-next}
-use Rattle.session_rule.proofs.CellTests.{shared-falls, score-with, score-by, final-test}
+use Rattle.session_rule.proofs.CellTests.{shared-falls, matters-with, score-by, final-test}
 use Rattle.session_rule.proofs.Chunk.{At, Chunk, all-passed, more-none}
 
 -- the cell with number q + 1
@@ -58,35 +57,35 @@ not-true : (b : Bool) → not b ≡ true → b ≡ false
 not-true true e = sym e
 not-true false e = refl
 
-module _ (task : Task) (limited : Limited task) (threshold-fits : ThresholdFits (task .scoring)) (small : hitCount task ≤ hitLimit)
+module _ (task : Task) (limited : Limited task) (threshold-fits : ThresholdFits (task .scoring))
     (j i q m highest to : ℕ) (part : List ℕ) (a : i ≤ j) (l : j < hitCount task) (at : At task j i q m highest part)
     (skip : skips (sessionLine task j) to i m highest part ≡ true) where
   abbrev end : ℕ
   end = restEnd (sessionLine task j) i
 
-  -- the bound, by the definitions
+  -- what bounds the cells of the rest: the score word of m of the first with the length of the last
   abbrev most : ℕ
   most = scoreWord (task .scoring) (length (task .pattern)) (sharedAt task i j) (suc (getD (hits task) j 0) - getD (hits task) (end - 1) 0)
 
   last-in : end - 1 ≤ j
   last-in = omega (arith, rest-within task i j a)
 
-  bound-is : bound (sessionLine task j) i m part ≡ most
-  unfolding bound
-  bound-is =
-      rw (at .known a .0, at .holds .index-word (end - 1) (omega (arith, last-in)))
-      (score-with task limited small i (end - 1) j a last-in l)
+  -- and whether it reaches what the rows before have seen
+  abbrev reached : Bool
+  reached = matters (sessionLine task j) highest m (getD part (end - 1) 0)
+
+  reached-is : reached ≡ orderOf task (highestBefore (orderOf task) (least task) (bestAfter task q) i) most
+  reached-is =
+      rw (at .known a .0, at .known a .1, at .holds .index-word (end - 1) (omega (arith, last-in)))
+      (matters-with task limited i (end - 1) j (highestBefore (orderOf task) (least task) (bestAfter task q) i) a last-in l)
 
   pub ends-within : end ≤ to
   unfolding skips
-  ends-within = leb-true end to (and-left (leb end to) (not (orderIn (sessionLine task j) highest (bound (sessionLine task j) i m part))) skip)
+  ends-within = leb-true end to (and-left (leb end to) (not reached) skip)
 
   low : orderOf task (highestBefore (orderOf task) (least task) (bestAfter task q) i) most ≡ false
   unfolding skips
-  low =
-      rw (bound-is, at .known a .1)
-      at (not-true (orderOf task highest (bound (sessionLine task j) i m part))
-      (and-right (leb end to) (not (orderOf task highest (bound (sessionLine task j) i m part))) skip))
+  low = sym reached-is ∙ not-true reached (and-right (leb end to) (not reached) skip)
 
   -- each cell of the rest scores at most the bound
   bounded : (k : ℕ) → i ≤ k → k < end → orderOf task (scoreAt task k j) most ≡ true

@@ -1,10 +1,32 @@
 -- `cells::is_skipped` meets its contract: its two tests are those of the definition.
+use Prim.Native.Nat.{ℕ, _-_, _≤_}
 use native.Mathlib.Omega.{arith}
+use mathlib.Core.Path.{_≡_, refl, sym, ap, _∙_}
+use mathlib.Core.Bool.{Bool, true, false, not}
+use mathlib.Core.List.{List}
 use borrow.Author.Needs.{needs}
-use borrow.Author.Tests.{le-leb, lt-leb}
-use Rattle.session_cells.specs.Passing.{lineScore, restEnd, bound, skips}
+use borrow.Author.Tests.{leb-true, leb-false, le-leb, lt-leb, lt-ltb, le-ltb}
+use lib.Dec.{leb, ltb}
+use lib.ListN.{getD}
+use Rattle.session_cells.specs.declared.cells.Line.{Line}
+use Rattle.session_cells.specs.Passing.{lineScore, matters, restEnd, skips}
+use Rattle.session_cells.proofs.Passing.{number-matters}
 use Rattle.session_cells.proofs.cells.is_skipped.Statement.{statement}
 use Rattle.session_cells.proofs.cells.is_skipped.Tie as tie
+
+-- the code asks for less, the definition for not at most
+not-at-most : (a b : ℕ) → ltb a b ≡ not (leb b a)
+not-at-most a b = go (leb b a) refl
+  where
+    go : (t : Bool) → leb b a ≡ t → ltb a b ≡ not t
+    go true e = le-ltb a b (leb-true b a e)
+    go false e = lt-ltb a b (leb-false b a e)
+
+-- where the rest of the block ends within the rows, the bound decides
+by-bound : (line : Line) (to row m highest end : ℕ) (part : List ℕ) → end ≡ restEnd line row → end ≤ to
+    → not (matters line highest m (getD part (end - 1) 0)) ≡ skips line to row m highest part
+unfolding skips
+by-bound line to row m highest end part e l = rw (← e, le-leb end to l)
 
 rest-end-requires : tie.Need-rest-end-requires
 rest-end-requires c κs = search needs
@@ -13,28 +35,37 @@ returns : tie.Need-returns
 unfolding skips
 returns c = simp (← c .before .rest-end .ensures, lt-leb _ _ (c .if1 .taken))
 
-sub-score-word : tie.Need-sub-score-word
+sub-x : tie.Need-sub-x
 unfolding restEnd
-sub-score-word c = omega (arith, c .before .rest-end .ensures)
+sub-x c = omega (arith, c .before .rest-end .ensures)
 
-mul-score-word : tie.Need-mul-score-word
-mul-score-word c = search needs
+mul-x : tie.Need-mul-x
+mul-x c = search needs
 
-shared-slice-read-score-word : tie.Need-shared-slice-read-score-word
-shared-slice-read-score-word c = search needs
+shared-slice-read-x : tie.Need-shared-slice-read-x
+shared-slice-read-x c = search needs
+
+matters-fraction-requires : tie.Need-matters-fraction-requires
+matters-fraction-requires c κs = search needs
+
+returns-2 : tie.Need-returns-2
+returns-2 c =
+    let d = c .before .before .before in
+    let args = d .before .before .before .args in
+    ap not (c .matters-fraction .ensures)
+    ∙ by-bound (args .line) (args .to) (args .row) (args .m) (args .highest) _ (args .part .now) (d .before .rest-end .ensures) (d .if1 .left)
 
 score-word-requires : tie.Need-score-word-requires
 score-word-requires c κs = search needs
 
-at-most-requires : tie.Need-at-most-requires
-at-most-requires c κs = search needs
-
-returns-2 : tie.Need-returns-2
-unfolding skips bound lineScore
-returns-2 c =
-    let bounded = c .before in
-    let d = bounded .before .before in
-    simp (c .at-most .ensures, bounded .score-word .ensures, ← d .before .rest-end .ensures, le-leb _ _ (d .if1 .left))
+returns-3 : tie.Need-returns-3
+unfolding lineScore
+returns-3 c =
+    let d = c .before .before .before in
+    let args = d .before .before .before .args in
+    not-at-most (c .score-word .result) (args .highest)
+    ∙ ap not (sym (number-matters (args .line) (args .highest) (args .m) _ (c .before .if2 .left) _ (c .score-word .ensures) refl))
+    ∙ by-bound (args .line) (args .to) (args .row) (args .m) (args .highest) _ (args .part .now) (d .before .rest-end .ensures) (d .if1 .left)
 
 pub is-skipped-spec : {M : Type 1} → statement M
 is-skipped-spec =
@@ -42,9 +73,10 @@ is-skipped-spec =
     (tie.spec
     rest-end-requires
     returns
-    sub-score-word
-    mul-score-word
-    shared-slice-read-score-word
+    sub-x
+    mul-x
+    shared-slice-read-x
+    matters-fraction-requires
+    returns-2
     score-word-requires
-    at-most-requires
-    returns-2)
+    returns-3)

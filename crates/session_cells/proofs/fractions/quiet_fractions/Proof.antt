@@ -1,48 +1,52 @@
--- `fractions::quiet_fractions` meets its contract. The loop's invariant: what is left to pass gives the same answer as the whole.
+-- `fractions::quiet_fractions` meets its contract. The loop's invariant: what is left to pass gives the same answer as the whole, and
+-- what was seen is taken apart.
 use Prim.Native.Nat.{ℕ, suc, _+_, _-_, _≤_}
 use native.Mathlib.Omega.{arith}
-use mathlib.Core.Path.{_≡_, refl, sym, _∙_}
+use mathlib.Core.Path.{_≡_, refl, sym, ap, _∙_}
 use mathlib.Core.Bool.{Bool}
 use borrow.Author.Needs.{needs}
-use Rattle.session_cells.specs.Passing.{lineScore, orderIn, inReach}
-use Rattle.session_cells.specs.Pausing.{quietRows}
-use Rattle.session_cells.proofs.Passing.{AtCell}
-use Rattle.session_cells.proofs.Pausing.{order-of, greater-of, quiet-stop, quiet-on}
+use lib.ListN.{getD}
+use Rattle.session_cells.specs.Passing.{lineScore, lineDivisor, inReach, matters}
+use Rattle.session_cells.specs.Pausing.{isApart, quietRows}
+use Rattle.session_cells.proofs.Passing.{AtCell, greater-of, fraction-matters}
+use Rattle.session_cells.proofs.Pausing.{quiet-stop, quiet-on}
 use Rattle.session_cells.proofs.fractions.quiet_fractions.Statement.{statement}
 use Rattle.session_cells.proofs.fractions.quiet_fractions.Tie as tie
 
 abbrev Inv-loop : tie.InvT-loop
-Inv-loop part line from to m0 highest0 m₀ highest₀ i₀ m highest i =
-    (i ≤ to) × (quietRows line (to - i) i m highest part ≡ quietRows line (to - from) from m0 highest0 part)
+Inv-loop part line from to m0 highest0 m₀ top₀ i₀ m top i =
+    (i ≤ to) × isApart top × (quietRows line (to - i) i m (top .word) part ≡ quietRows line (to - from) from m0 highest0 part)
 
 abbrev μ-loop : tie.MeasureT-loop
-μ-loop part line from to m0 highest0 m₀ highest₀ i₀ m highest i = to - i
+μ-loop part line from to m0 highest0 m₀ top₀ i₀ m top i = to - i
 
 -- the places of a turn, from the end of the cell's calls back to the turn's head, and the entry of the function
-abbrev known : tie.After-lowered Inv-loop μ-loop → tie.After-greater-fraction Inv-loop μ-loop
+abbrev known : tie.After-lowered Inv-loop μ-loop → tie.After-raised Inv-loop μ-loop
 known d = d .before .before
 
-abbrev scored : tie.After-lowered Inv-loop μ-loop → tie.After-score-word Inv-loop μ-loop
-scored d = known d .before .before .before
-
 abbrev tested : tie.After-lowered Inv-loop μ-loop → tie.In-loop Inv-loop μ-loop
-tested d = scored d .before .before
+tested d = known d .before .before .before .before
 
 abbrev turn : tie.After-lowered Inv-loop μ-loop → tie.At-loop Inv-loop μ-loop
 turn d = tested d .before
 
 abbrev entry : tie.After-lowered Inv-loop μ-loop → tie.Start Inv-loop μ-loop
-entry d = turn d .before .before
+entry d = turn d .before .before .before
 
 module _ (d : tie.After-lowered Inv-loop μ-loop) where
-  -- what is known at a cell before it is tested
-  at-cell : AtCell (entry d .args .line) (turn d .loop .i) (turn d .loop .m) (turn d .loop .highest) (entry d .args .part .now)
-      (scored d .score-word .result) (d .before .below .result) (known d .greater-fraction .result) (d .lowered .result)
-  unfolding lineScore inReach
-  at-cell = record {
-    score = scored d .score-word .ensures;
+  -- the index of the cell's left end
+  abbrev index : ℕ
+  index = getD (entry d .args .part .now) (turn d .loop .i) 0
+
+  -- what is known at a cell before it is tested, with its score word
+  at-cell : (s : ℕ) → s ≡ lineScore (entry d .args .line) (turn d .loop .m) index
+      → AtCell (entry d .args .line) (turn d .loop .i) (turn d .loop .m) (turn d .loop .top .word) (entry d .args .part .now)
+      s (d .before .below .result) (known d .raised .result .word) (d .lowered .result)
+  unfolding inReach
+  at-cell s e = record {
+    score = e;
     reach = d .before .below .ensures;
-    known = greater-of (entry d .args .line) _ (entry d .pre .3) _ _ (known d .greater-fraction .ensures);
+    known = greater-of (entry d .args .line) _ (entry d .pre .3) _ _ (known d .raised .ensures .0);
     lower = d .lowered .ensures;
   }
 
@@ -51,24 +55,38 @@ module _ (d : tie.After-lowered Inv-loop μ-loop) where
   left = entry d .args .to - (turn d .loop .i + 1)
 
   -- the whole, from this row on
-  from-here : quietRows (entry d .args .line) (suc left) (turn d .loop .i) (turn d .loop .m) (turn d .loop .highest) (entry d .args .part .now)
+  from-here : quietRows (entry d .args .line) (suc left) (turn d .loop .i) (turn d .loop .m) (turn d .loop .top .word) (entry d .args .part .now)
       ≡ quietRows (entry d .args .line) (entry d .args .to - entry d .args .from) (entry d .args .from) (entry d .args .m0)
       (entry d .args .highest0) (entry d .args .part .now)
   from-here =
       let n : entry d .args .to - turn d .loop .i ≡ suc left = omega (arith, tested d .loop-test .taken) in
-      rw n at (turn d .loop .inv .1)
+      rw n at (turn d .loop .inv .2)
+
+-- whether the cell matters, by the answer of the test
+told : (t : tie.After-is-at-most Inv-loop μ-loop) {answer : Bool} → t .is-at-most .result ≡ answer
+    → (let d = t .before .before in matters (entry d .args .line) (known d .raised .result .word) (turn d .loop .m) (index d) ≡ answer)
+unfolding lineDivisor
+told t e =
+    let began = entry (t .before .before) in
+    fraction-matters (began .args .line) _ _ _ (began .pre .3) (t .before .divisor .result) (t .before .divisor .ensures)
+    (sym (t .is-at-most .ensures) ∙ e)
+
+apart-requires : tie.Need-apart-requires Inv-loop μ-loop
+apart-requires c κs = search needs
 
 loop-holds : tie.Need-loop-holds Inv-loop μ-loop
-loop-holds c = (search needs, refl)
+loop-holds c =
+    let args = c .before .before .args in (
+      search needs,
+      c .apart .ensures .1,
+      ap (λ (w : ℕ). quietRows (args .line) (args .to - args .from) (args .from) (args .m0) w (args .part .now)) (c .apart .ensures .0),
+    )
 
-mul-score-word : tie.Need-mul-score-word Inv-loop μ-loop
-mul-score-word c = search needs
+mul-x : tie.Need-mul-x Inv-loop μ-loop
+mul-x c = search needs
 
-shared-slice-read-score-word : tie.Need-shared-slice-read-score-word Inv-loop μ-loop
-shared-slice-read-score-word c = search needs
-
-score-word-requires : tie.Need-score-word-requires Inv-loop μ-loop
-score-word-requires c κs = search needs
+shared-slice-read-x : tie.Need-shared-slice-read-x Inv-loop μ-loop
+shared-slice-read-x c = search needs
 
 add-reach : tie.Need-add-reach Inv-loop μ-loop
 add-reach c = search needs
@@ -79,17 +97,17 @@ mul-reach c = search needs
 shared-slice-read-reach : tie.Need-shared-slice-read-reach Inv-loop μ-loop
 shared-slice-read-reach c = search needs
 
-add-greater-fraction : tie.Need-add-greater-fraction Inv-loop μ-loop
-add-greater-fraction c = search needs
+add-raised : tie.Need-add-raised Inv-loop μ-loop
+add-raised c = search needs
 
-mul-greater-fraction : tie.Need-mul-greater-fraction Inv-loop μ-loop
-mul-greater-fraction c = search needs
+mul-raised : tie.Need-mul-raised Inv-loop μ-loop
+mul-raised c = search needs
 
-shared-slice-read-greater-fraction : tie.Need-shared-slice-read-greater-fraction Inv-loop μ-loop
-shared-slice-read-greater-fraction c = search needs
+shared-slice-read-raised : tie.Need-shared-slice-read-raised Inv-loop μ-loop
+shared-slice-read-raised c = search needs
 
-greater-fraction-requires : tie.Need-greater-fraction-requires Inv-loop μ-loop
-greater-fraction-requires c κs = search needs
+raised-requires : tie.Need-raised-requires Inv-loop μ-loop
+raised-requires c κs = search needs
 
 below-requires : tie.Need-below-requires Inv-loop μ-loop
 below-requires c κs = search needs
@@ -100,21 +118,21 @@ lowered-requires c κs = search needs
 add-i : tie.Need-add-i Inv-loop μ-loop
 add-i c = search needs
 
-at-most-fraction-requires : tie.Need-at-most-fraction-requires Inv-loop μ-loop
-at-most-fraction-requires c κs = search needs
+divisor-requires : tie.Need-divisor-requires Inv-loop μ-loop
+divisor-requires c κs = search needs
 
--- the answer of the test, in the line's order
-ordered : (t : tie.After-at-most-fraction Inv-loop μ-loop) {answer : Bool} → t .at-most-fraction .result ≡ answer
-    → (let d = t .before in orderIn (entry d .args .line) (known d .greater-fraction .result) (scored d .score-word .result) ≡ answer)
-ordered t e =
-    let began = entry (t .before) in
-    order-of (began .args .line) _ (began .pre .3) _ _ (sym (t .at-most-fraction .ensures) ∙ e)
+is-at-most-requires : tie.Need-is-at-most-requires Inv-loop μ-loop
+is-at-most-requires c κs = search needs
+
+score-word-requires : tie.Need-score-word-requires Inv-loop μ-loop
+score-word-requires c κs = search needs
 
 returns : tie.Need-returns Inv-loop μ-loop
+unfolding lineScore
 returns c =
-    let t = c .before in
-    let d = t .before in
-    sym (quiet-stop _ _ _ _ _ _ _ _ _ (at-cell d) (left d) (ordered t (c .if1 .taken))) ∙ from-here d
+    let t = c .before .before in
+    let d = t .before .before in
+    sym (quiet-stop _ _ _ _ _ _ _ _ _ (at-cell d _ (c .score-word .ensures)) (left d) (told t (c .before .if1 .taken))) ∙ from-here d
 
 loop-less : tie.Need-loop-less Inv-loop μ-loop
 loop-less c = search needs
@@ -122,13 +140,13 @@ loop-less c = search needs
 loop-again : tie.Need-loop-again Inv-loop μ-loop
 loop-again c =
     let t = c .before in
-    let d = t .before in
-    (search needs, sym (quiet-on _ _ _ _ _ _ _ _ _ (at-cell d) (left d) (ordered t (c .if1 .left))) ∙ from-here d)
+    let d = t .before .before in
+    (search needs, known d .raised .ensures .1, sym (quiet-on _ _ _ _ _ _ _ _ _ (at-cell d _ refl) (left d) (told t (c .if1 .left))) ∙ from-here d)
 
 returns-2 : tie.Need-returns-2 Inv-loop μ-loop
 returns-2 c =
-    let n : c .before .before .before .args .to - c .before .loop .i ≡ 0 = omega arith in
-    rw n at (c .before .loop .inv .1)
+    let n : c .before .before .before .before .args .to - c .before .loop .i ≡ 0 = omega arith in
+    rw n at (c .before .loop .inv .2)
 
 pub quiet-fractions-spec : {M : Type 1} → statement M
 quiet-fractions-spec =
@@ -136,21 +154,23 @@ quiet-fractions-spec =
     (tie.spec
     Inv-loop
     μ-loop
+    apart-requires
     loop-holds
-    mul-score-word
-    shared-slice-read-score-word
-    score-word-requires
+    mul-x
+    shared-slice-read-x
     add-reach
     mul-reach
     shared-slice-read-reach
-    add-greater-fraction
-    mul-greater-fraction
-    shared-slice-read-greater-fraction
-    greater-fraction-requires
+    add-raised
+    mul-raised
+    shared-slice-read-raised
+    raised-requires
     below-requires
     lowered-requires
     add-i
-    at-most-fraction-requires
+    divisor-requires
+    is-at-most-requires
+    score-word-requires
     returns
     loop-less
     loop-again

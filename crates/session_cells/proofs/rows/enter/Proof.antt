@@ -1,30 +1,28 @@
 -- `rows::enter` meets its contract: a record is stored in its row and in the top of its block.
 use native.Mathlib.Omega.{arith}
-use mathlib.Core.Path.{sym, _∙_}
 use borrow.Author.Needs.{needs}
+use borrow.Author.Tests.{le-leb, lt-leb}
 use lib.ListN.{length-set}
+use Rattle.session_records.specs.Words.{atMost}
 use Rattle.session_cells.specs.Passing.{entered}
 use Rattle.session_cells.proofs.rows.enter.Statement.{statement}
 use Rattle.session_cells.proofs.rows.enter.Tie as tie
 
-at-most-requires : tie.Need-at-most-requires
-at-most-requires c κs = search needs
-
 returns : tie.Need-returns
-unfolding entered
-returns c = rw (sym (c .before .at-most .ensures) ∙ c .if1 .taken)
+unfolding entered atMost
+returns c = simp (le-leb _ _ (c .if1 .taken))
 
-add-greater : tie.Need-add-greater
-add-greater c = search needs
+add-greater-number : tie.Need-add-greater-number
+add-greater-number c = search needs
 
-mul-greater : tie.Need-mul-greater
-mul-greater c = search needs
+mul-greater-number : tie.Need-mul-greater-number
+mul-greater-number c = search needs
 
-slice-read-greater : tie.Need-slice-read-greater
-slice-read-greater c = search needs
+slice-read-greater-number : tie.Need-slice-read-greater-number
+slice-read-greater-number c = search needs
 
-greater-requires : tie.Need-greater-requires
-greater-requires c κs = search needs
+greater-number-requires : tie.Need-greater-number-requires
+greater-number-requires c κs = search needs
 
 add-part : tie.Need-add-part
 add-part c = search needs
@@ -48,21 +46,18 @@ same-length : tie.Need-same-length
 same-length c = search needs
 
 returns-2 : tie.Need-returns-2
-unfolding entered
-returns-2 c =
-    let d = c .before .before in
-    simp (sym (d .before .at-most .ensures) ∙ d .if1 .left, c .greater .ensures)
+unfolding entered atMost
+returns-2 c = simp (lt-leb _ _ (c .before .before .if1 .left), c .greater-number .ensures)
 
 pub enter-spec : {M : Type 1} → statement M
 enter-spec =
     tie.close
     (tie.spec
-    at-most-requires
     returns
-    add-greater
-    mul-greater
-    slice-read-greater
-    greater-requires
+    add-greater-number
+    mul-greater-number
+    slice-read-greater-number
+    greater-number-requires
     add-part
     mul-part
     slice-write-part

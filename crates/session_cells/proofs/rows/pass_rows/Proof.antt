@@ -7,6 +7,7 @@ use borrow.Author.Needs.{needs}
 use lib.ListN.{length}
 use Rattle.session_words.specs.Layout.{partLength}
 use Rattle.session_cells.specs.Passing.{Update, passRows}
+use Rattle.session_cells.proofs.Passing.{greater-of, entered-of}
 use Rattle.session_cells.proofs.Pausing.{pace, pause-stop, pause-on}
 use Rattle.session_cells.proofs.rows.pass_rows.Statement.{statement}
 use Rattle.session_cells.proofs.rows.pass_rows.Tie as tie
@@ -18,37 +19,39 @@ Inv-loop part₀ line from to m0 highest0 m₀ highest₀ i₀ part m highest i 
 abbrev μ-loop : tie.MeasureT-loop
 μ-loop part₀ line from to m0 highest0 m₀ highest₀ i₀ part m highest i = to - i
 
--- a turn that `quiet` has been called in: its head, and the entry of the function
-abbrev turn : tie.After-quiet Inv-loop μ-loop → tie.At-loop Inv-loop μ-loop
+-- a turn that `quiet_numbers` has been called in: its head, and the entry of the function
+abbrev turn : tie.After-quiet-numbers Inv-loop μ-loop → tie.At-loop Inv-loop μ-loop
 turn d = d .before .before .before
 
-abbrev entry : tie.After-quiet Inv-loop μ-loop → tie.Start Inv-loop μ-loop
+abbrev entry : tie.After-quiet-numbers Inv-loop μ-loop → tie.Start Inv-loop μ-loop
 entry d = turn d .before .before
 
 -- the pause is behind a row, within the rows that are asked for
-paced : (d : tie.After-quiet Inv-loop μ-loop) → (turn d .loop .i < d .quiet .result .row) × (d .quiet .result .row ≤ entry d .args .to)
+paced : (d : tie.After-quiet-numbers Inv-loop μ-loop)
+    → (turn d .loop .i < d .quiet-numbers .result .row) × (d .quiet-numbers .result .row ≤ entry d .args .to)
 paced d =
     let t = turn d .loop in
-    let p = pace (entry d .args .line) (entry d .args .to) (t .i) (t .m) (t .highest) (t .part) (d .quiet .result) (t .inv .0) (d .quiet .ensures) in
+    let q = d .quiet-numbers in
+    let p = pace (entry d .args .line) (entry d .args .to) (t .i) (t .m) (t .highest) (t .part) (q .result) (t .inv .0) (q .ensures) in
     let l = d .before .before .loop-test .taken in
     (omega (arith, p .moved), omega (arith, p .to, t .inv .0))
 
--- the calls of a turn, from the one before its test back to `quiet`
+-- the calls of a turn, from the one before its test back to `quiet_numbers`
 module _ (b : tie.After-below Inv-loop μ-loop) where
-  abbrev raised : tie.After-greater Inv-loop μ-loop
+  abbrev raised : tie.After-greater-number Inv-loop μ-loop
   raised = b .before
 
   abbrev recorded : tie.After-enter Inv-loop μ-loop
   recorded = raised .before .before .before
 
-  abbrev paused : tie.After-quiet Inv-loop μ-loop
+  abbrev paused : tie.After-quiet-numbers Inv-loop μ-loop
   paused = recorded .before .before
 
 loop-holds : tie.Need-loop-holds Inv-loop μ-loop
 loop-holds c = (search needs, search needs, refl)
 
-quiet-requires : tie.Need-quiet-requires Inv-loop μ-loop
-quiet-requires c κs = search needs
+quiet-numbers-requires : tie.Need-quiet-numbers-requires Inv-loop μ-loop
+quiet-numbers-requires c κs = search needs
 
 sub-enter : tie.Need-sub-enter Inv-loop μ-loop
 sub-enter c = omega (arith, paced (c .before) .0)
@@ -58,8 +61,8 @@ enter-requires c κs =
     let d = c .before in
     (turn d .loop .inv .1, omega (arith, paced d .0, paced d .1, entry d .pre .2))
 
-greater-requires : tie.Need-greater-requires Inv-loop μ-loop
-greater-requires c κs = search needs
+greater-number-requires : tie.Need-greater-number-requires Inv-loop μ-loop
+greater-number-requires c κs = search needs
 
 below-requires : tie.Need-below-requires Inv-loop μ-loop
 below-requires c κs = search needs
@@ -80,8 +83,11 @@ returns c =
     let j = c .before in
     let b = j .before in
     let d = paused b in
-    let e = sym (pause-stop _ _ _ _ _ _ _ (turn d .loop .inv .0) (d .quiet .ensures) _ _ _ (b .below .ensures) (raised b .greater .ensures)
-    (recorded b .enter .ensures) (sym (j .is-reasonable .ensures) ∙ c .if1 .taken)) ∙ turn d .loop .inv .2 in
+    let line = entry d .args .line in
+    let kind = entry d .pre .3 in
+    let e = sym (pause-stop _ _ _ _ _ _ _ (turn d .loop .inv .0) (d .quiet-numbers .ensures) _ _ _ (b .below .ensures)
+    (greater-of line _ kind _ _ (raised b .greater-number .ensures))
+    (entered-of line _ kind _ _ _ _ (recorded b .enter .ensures)) (sym (j .is-reasonable .ensures) ∙ c .if1 .taken)) ∙ turn d .loop .inv .2 in
     (ap (λ (u : Update). u .answer) e, ap (λ (u : Update). u .part) e)
 
 loop-less : tie.Need-loop-less Inv-loop μ-loop
@@ -94,8 +100,11 @@ loop-again c =
     let j = c .before in
     let b = j .before in
     let d = paused b in
-    let e = sym (pause-on _ _ _ _ _ _ _ (turn d .loop .inv .0) (d .quiet .ensures) _ _ _ (b .below .ensures) (raised b .greater .ensures)
-    (recorded b .enter .ensures) (sym (j .is-reasonable .ensures) ∙ c .if1 .left)) ∙ turn d .loop .inv .2 in
+    let line = entry d .args .line in
+    let kind = entry d .pre .3 in
+    let e = sym (pause-on _ _ _ _ _ _ _ (turn d .loop .inv .0) (d .quiet-numbers .ensures) _ _ _ (b .below .ensures)
+    (greater-of line _ kind _ _ (raised b .greater-number .ensures))
+    (entered-of line _ kind _ _ _ _ (recorded b .enter .ensures)) (sym (j .is-reasonable .ensures) ∙ c .if1 .left)) ∙ turn d .loop .inv .2 in
     (paced d .1, recorded b .enter .kept .0 ∙ turn d .loop .inv .1, e)
 
 same-length-2 : tie.Need-same-length-2 Inv-loop μ-loop
@@ -114,10 +123,10 @@ pass-rows-spec =
     Inv-loop
     μ-loop
     loop-holds
-    quiet-requires
+    quiet-numbers-requires
     sub-enter
     enter-requires
-    greater-requires
+    greater-number-requires
     below-requires
     sub-is-reasonable
     is-reasonable-requires

@@ -6,11 +6,11 @@ use mathlib.Core.Bool.{Bool}
 use borrow.Author.Needs.{needs}
 use borrow.Author.Tests.{le-leb, lt-leb}
 use lib.Dec.{leb}
-use Rattle.session_records.specs.Words.{atMost}
-use Rattle.session_cells.specs.Passing.{lineScore, orderIn, inReach}
+use lib.ListN.{getD}
+use Rattle.session_cells.specs.Passing.{lineScore, inReach, matters}
 use Rattle.session_cells.specs.Pausing.{quietRows}
-use Rattle.session_cells.proofs.Passing.{AtCell}
-use Rattle.session_cells.proofs.Pausing.{order-of, greater-of, quiet-stop, quiet-on}
+use Rattle.session_cells.proofs.Passing.{AtCell, greater-of, number-matters}
+use Rattle.session_cells.proofs.Pausing.{quiet-stop, quiet-on}
 use Rattle.session_cells.proofs.rows.quiet_numbers.Statement.{statement}
 use Rattle.session_cells.proofs.rows.quiet_numbers.Tie as tie
 
@@ -49,11 +49,10 @@ module _ (d : tie.After-lowered Inv-loop μ-loop) where
     lower = d .lowered .ensures;
   }
 
-  -- the answer of the test, in the line's order
-  ordered : {answer : Bool} → leb (known d .greater-number .result) (scored d .score-word .result) ≡ answer
-      → orderIn (entry d .args .line) (known d .greater-number .result) (scored d .score-word .result) ≡ answer
-  unfolding atMost
-  ordered e = order-of (entry d .args .line) _ (entry d .pre .3) _ _ e
+  -- whether the cell matters, by the answer of the test
+  told : {answer : Bool} → leb (known d .greater-number .result) (scored d .score-word .result) ≡ answer
+      → matters (entry d .args .line) (known d .greater-number .result) (turn d .loop .m) (getD (entry d .args .part .now) (turn d .loop .i) 0) ≡ answer
+  told e = number-matters (entry d .args .line) _ _ _ (entry d .pre .3) _ (at-cell .score) e
 
   -- the rows behind this one
   abbrev left : ℕ
@@ -112,7 +111,7 @@ add-i c = search needs
 returns : tie.Need-returns Inv-loop μ-loop
 returns c =
     let d = c .before in
-    sym (quiet-stop _ _ _ _ _ _ _ _ _ (at-cell d) (left d) (ordered d (le-leb _ _ (c .if1 .taken)))) ∙ from-here d
+    sym (quiet-stop _ _ _ _ _ _ _ _ _ (at-cell d) (left d) (told d (le-leb _ _ (c .if1 .taken)))) ∙ from-here d
 
 loop-less : tie.Need-loop-less Inv-loop μ-loop
 loop-less c = search needs
@@ -120,7 +119,7 @@ loop-less c = search needs
 loop-again : tie.Need-loop-again Inv-loop μ-loop
 loop-again c =
     let d = c .before in
-    (search needs, sym (quiet-on _ _ _ _ _ _ _ _ _ (at-cell d) (left d) (ordered d (lt-leb _ _ (c .if1 .left)))) ∙ from-here d)
+    (search needs, sym (quiet-on _ _ _ _ _ _ _ _ _ (at-cell d) (left d) (told d (lt-leb _ _ (c .if1 .left)))) ∙ from-here d)
 
 returns-2 : tie.Need-returns-2 Inv-loop μ-loop
 returns-2 c =
