@@ -1,6 +1,6 @@
 -- `fractions::matters_fraction` meets its contract: it compares as the definition does.
 use Prim.Native.Nat.{ℕ, _*_}
-use mathlib.Core.Path.{_≡_, sym, ap, _∙_}
+use mathlib.Core.Path.{sym, ap, _∙_}
 use borrow.Author.Needs.{needs}
 use lib.Dec.{leb}
 use Rattle.session_records.specs.Words.{numerator, denominator}
