@@ -12,7 +12,7 @@ use Rattle.session_cells.proofs.cells.pass_one.Tie as tie
 
 -- the entry of the function, once `fits` has been asked
 abbrev entry : tie.After-fits2 → tie.Start
-entry c = c .before .before .before .before
+entry c = let tried = c .before .before in tried .before .before
 
 -- `fits` has said so
 fitting : (d : tie.Else2) → (let args = entry (d .before) .args in fits (args .line) (args .part .now) (args .row) (args .row + 1) ≡ true)

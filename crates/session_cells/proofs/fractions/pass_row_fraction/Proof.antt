@@ -14,7 +14,7 @@ abbrev compared : tie.After-lowered → tie.After-below
 compared d = d .before .before .before
 
 abbrev entry : tie.After-lowered → tie.Start
-entry d = compared d .before .before .before .before
+entry d = let read = compared d .before .before in read .before .before
 
 -- what is known at the cell before it is tested, with its score word
 at-cell : (d : tie.After-lowered) (s : ℕ)

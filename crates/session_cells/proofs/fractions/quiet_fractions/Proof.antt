@@ -25,7 +25,7 @@ abbrev known : tie.After-lowered Inv-loop μ-loop → tie.After-raised Inv-loop 
 known d = d .before .before
 
 abbrev tested : tie.After-lowered Inv-loop μ-loop → tie.In-loop Inv-loop μ-loop
-tested d = known d .before .before .before .before
+tested d = let row = known d .before .before in row .before .before
 
 abbrev turn : tie.After-lowered Inv-loop μ-loop → tie.At-loop Inv-loop μ-loop
 turn d = tested d .before
@@ -145,8 +145,10 @@ loop-again c =
 
 returns-2 : tie.Need-returns-2 Inv-loop μ-loop
 returns-2 c =
-    let n : c .before .before .before .before .args .to - c .before .loop .i ≡ 0 = omega arith in
-    rw n at (c .before .loop .inv .2)
+    let last = c .before in
+    let began = last .before .before .before in
+    let n : began .args .to - last .loop .i ≡ 0 = omega arith in
+    rw n at (last .loop .inv .2)
 
 pub quiet-fractions-spec : {M : Type 1} → statement M
 quiet-fractions-spec =
