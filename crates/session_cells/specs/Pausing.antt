@@ -8,12 +8,12 @@ use lib.ListN.{getD}
 use Rattle.session_records.specs.Words.{divisorSpan, numerator, denominator}
 use Rattle.session_records.specs.Records.{greater}
 use Rattle.session_cells.specs.declared.cells.Line.{Line}
-use Rattle.session_cells.specs.declared.fractions.Fraction.{Fraction}
+use Rattle.session_cells.specs.declared.fractions.Factors.{Factors}
 use Rattle.session_cells.specs.declared.rows.Paused.{Paused}
 use Rattle.session_cells.specs.Passing.{reachAt, bestAt, lowered, lineScore, orderIn, inReach, matters}
 
 -- the fraction of a score word, taken apart: products with another word have 64 bits
-abbrev pub isApart : Fraction → Type 0
+abbrev pub isApart : Factors → Type 0
 isApart top = (top .m ≡ numerator (top .word)) × (top .divisor ≡ denominator (top .word)) × (top .m ≤ 2048) × (top .divisor < divisorSpan)
 
 -- the next n cells of the line from row i on; the rows before i have seen `highest`

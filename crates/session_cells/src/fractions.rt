@@ -38,16 +38,16 @@ const BEST_AT: usize = BEST - INDEX;
 const TOPS_AT: usize = TOPS - INDEX;
 
 // A score word, and its fraction taken apart, as factors of products of 64 bits.
-pub(crate) struct Fraction {
+pub(crate) struct Factors {
     pub word: u32,
     pub m: u64,
     pub divisor: u64,
 }
 
-fn apart(word: u32) -> Fraction
+fn apart(word: u32) -> Factors
     ensures { λ r. ⌜ (r .word ≡ word) × isApart r ⌝ }
 {
-    Fraction {
+    Factors {
         word,
         m: numerator(word) as u64,
         divisor: denominator(word) as u64,
@@ -55,7 +55,7 @@ fn apart(word: u32) -> Fraction
 }
 
 // The greater of a fraction and of a row's record. Most rows have none: nothing is taken apart there.
-fn raised(top: Fraction, best: u32) -> Fraction
+fn raised(top: Factors, best: u32) -> Factors
     requires { ⌜ isApart top ⌝ }
     ensures { λ r. ⌜ (r .word ≡ Records.greater (atMost true) (top .word) best) × isApart r ⌝ }
 {
@@ -73,7 +73,7 @@ fn divisor(base: u32, m: u32, x: u32) -> u32
 }
 
 // A fraction is at most m / d. Both are any words, so the products have 64 bits.
-fn is_at_most(top: Fraction, m: u32, d: u32) -> bool
+fn is_at_most(top: Factors, m: u32, d: u32) -> bool
     requires { ⌜ isApart top ⌝ }
     ensures { λ r. ⌜ r ≡ leb (Words.numerator (top .word) * d) (m * Words.denominator (top .word)) ⌝ }
 {

@@ -15,7 +15,7 @@ use host::reference::score::{Scoring, Task, times};
 use host::reference::sketch::{codes, sketch};
 use host::reference::strand::Strand;
 
-const SAMPLES: [&str; 3] = ["two_copies", "through_a_repeat", "both_strands"];
+const SAMPLES: [&str; 4] = ["two_copies", "through_a_repeat", "both_strands", "as_a_fraction"];
 
 fn file(name: &str) -> Vec<u8> {
     fs::read(Path::new(env!("CARGO_MANIFEST_DIR")).join("../data/sample").join(name)).expect("a file of the sample")
