@@ -1,5 +1,7 @@
 // The answers of sketch, strike, the reverse complement, save, load and start as document 01 numbers them: the number and the value of the
 // reply, and for load k and w.
+#![tactic(auto)]
+
 ghost use Rattle.std.specs.Prelude.{◌≡◌};
 ghost use Rattle.sketch.specs.Answers.{reply_of as sketchedReply};
 ghost use Rattle.strike.specs.Answers.{reply_of as struckReply};

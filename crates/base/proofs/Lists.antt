@@ -85,6 +85,7 @@ add_if_mem false x l m = inr m
 
 module _ {A : Type 0} (f : A → Bool) where
   pub every_mem : {a : A} {l : List A} → every f l ≡ true → Memᴰ a l → f a ≡ true
+  every_mem {a} {l = []} h m = absurd (Memᴰ.not-nil m)
   every_mem {a} {l = x ∷ xs} h (Memᴰ.head e) = ap f e ∙ and_left (f x) (every f xs) h
   every_mem {a} {l = x ∷ xs} h (Memᴰ.tail m) = every_mem (and_right (f x) (every f xs) h) m
 
@@ -106,6 +107,7 @@ module _ {A : Type 0} (f : A → Bool) where
       go rec (inr m') = let r = rec m' in (Memᴰ.tail r.0, r.1)
 
   pub mem_keep : {a : A} {l : List A} → Memᴰ a l → f a ≡ true → Memᴰ a (keep f l)
+  mem_keep {a} {l = []} m e = absurd (Memᴰ.not-nil m)
   mem_keep {a} {l = x ∷ xs} (Memᴰ.head p) e =
       subst (λ (b : Bool). Memᴰ a (add_if b x (keep f xs))) (sym (ap f (sym p) ∙ e)) (Memᴰ.head p)
   mem_keep {a} {l = x ∷ xs} (Memᴰ.tail m) e = mem_add_if (f x) x (mem_keep m e)

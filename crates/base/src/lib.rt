@@ -1,4 +1,6 @@
 // The limits of document 01 as constants, the bytes of lines, the test of a range, and the smaller of two numbers.
+#![tactic(auto)]
+
 ghost use Rattle.std.specs.Prelude.{◌≡◌, min};
 ghost use Rattle.base.specs.Limits.{outside};
 

@@ -2,6 +2,8 @@
 // Count and per mille answer one signed number. Of the others, but step, the lent `number` becomes 0 where the call is accepted, else 01's
 // refusal number, and the result is the value answered, or the second value.
 // A caller passes each slice as two arguments, a pointer and a length, and not as one of 16 bytes.
+#![tactic(auto)]
+
 ghost use Rattle.std.specs.Prelude.{◌≡◌};
 ghost use Rattle.mappings.specs.Score.{task_with};
 ghost use Rattle.sketch.specs.Replies.{host_number, count_reply};

@@ -1,1 +1,2 @@
 // Letters, their runs, k-mers and ranks: definitions and laws, and no code.
+#![tactic(auto)]

@@ -1,4 +1,6 @@
 // Letters and their values.
+#![tactic(auto)]
+
 ghost use Rattle.std.specs.Prelude.{◌≡◌};
 ghost use Rattle.kmers.specs.Letters.{value};
 ghost use Rattle.letters.specs.Computed.{computed};

@@ -1,4 +1,6 @@
 // Reading the three lines of standard input: `k w c u v threshold` or `k w c f g jaccard`, the text line and the read line.
+#![tactic(auto)]
+
 ghost use Rattle.std.specs.Prelude.{◌≡◌, ◌≤◌, ◌^◌, length, pos, neg_ℤ};
 ghost use Rattle.list_input.specs.Input.{fields, same_bytes};
 ghost use Rattle.list_input.specs.Answers.{first_part, digits_of, number_of, threshold_of, last_field_of, field_of, first_line_of, request_of};

@@ -1,4 +1,6 @@
 // The lines of the mappings that one session hands out, in pieces that fit a lent buffer.
+#![tactic(auto)]
+
 pub mod filling;
 mod mapping;
 pub mod words;

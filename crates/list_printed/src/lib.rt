@@ -1,1 +1,2 @@
 // What `maplist` prints: definitions, theorems and examples, no code.
+#![tactic(auto)]

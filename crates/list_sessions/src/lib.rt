@@ -1,4 +1,6 @@
 // From the bytes of the input to the two sessions of a run: that of the read, and that of its reverse complement.
+#![tactic(auto)]
+
 ghost use Rattle.std.specs.Prelude.{◌≡◌, ◌≤◌, length};
 ghost use Rattle.base.specs.Limits.{line_limit};
 ghost use Rattle.list_input.specs.Input.{given, input_of};

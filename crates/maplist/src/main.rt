@@ -1,5 +1,7 @@
 // The program `maplist`: from standard input a line of numbers, a text and a read; to standard output every final mapping of the read's
 // sketch in the text's, and of that of its reverse complement. What it prints is decided in `list_output`. It assumes what the C library's read and write do.
+#![tactic(auto)]
+
 ghost use Rattle.std.specs.Prelude.{◌≡◌, length};
 ghost use Rattle.list_input.specs.Input.{input_limit};
 

@@ -1,4 +1,6 @@
 // Mapping sessions: `session::step` passes cells in the work words that start wrote.
+#![tactic(auto)]
+
 pub mod answer;
 mod decide;
 mod place;

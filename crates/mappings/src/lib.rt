@@ -1,4 +1,5 @@
 // How mappings are scored, and a score, as callers give and get them: two kinds of each. What they mean, and all laws, are in specs/ and proofs/.
+#![tactic(auto)]
 
 // The linear score with the weights u and v and a threshold; or the weighted Jaccard with the threshold f/g.
 #[derive(Drop)]

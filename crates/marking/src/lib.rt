@@ -1,5 +1,7 @@
 // Marking the words of a list that are rare among the words that decide. It needs no heap: what counts them lies on the stack, some
 // 0.8 MiB.
+#![tactic(auto)]
+
 mod frequent;
 mod lookup;
 mod slots;

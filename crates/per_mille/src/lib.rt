@@ -1,4 +1,6 @@
 // The per mille of a mapping, rounded to the nearest whole number.
+#![tactic(auto)]
+
 ghost use Rattle.std.specs.Prelude.{◌<◌, ◌^◌, ◌≡◌};
 ghost use Rattle.per_mille.specs.Rounding.{nearest};
 ghost use Rattle.per_mille.specs.PerMille.{per_mille_number};

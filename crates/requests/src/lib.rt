@@ -1,4 +1,6 @@
 // What is asked of a run: its settings. The task that they make of text and read is a definition.
+#![tactic(auto)]
+
 use mappings::Scoring;
 
 // k, w and c, and how mappings are scored.

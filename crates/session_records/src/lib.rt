@@ -1,1 +1,2 @@
 // Records of a session, over any score: definitions and laws, no code.
+#![tactic(auto)]

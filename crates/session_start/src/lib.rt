@@ -1,4 +1,6 @@
 // Starting a mapping session, scored either way: `start_scored` copies what a session needs into lent work words.
+#![tactic(auto)]
+
 mod hits;
 mod per_hit;
 mod starts;

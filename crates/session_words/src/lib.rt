@@ -1,5 +1,7 @@
 // The layout of the work words: which word or block holds what, as docs/WORK_WORDS.md says in a table; and a word as a wider
 // number. Every index counts from word 0; specs/Layout.antt has the same by name.
+#![tactic(auto)]
+
 ghost use Rattle.std.specs.Prelude.{◌≡◌, ◌<◌};
 ghost use Rattle.base.specs.Limits.{word_limit};
 

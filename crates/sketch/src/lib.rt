@@ -1,4 +1,6 @@
 // Sketches of letters: the sketch in two buffers, and the count of its entries.
+#![tactic(auto)]
+
 ghost use Rattle.std.specs.Prelude.{◌≤◌, ◌≡◌, length};
 ghost use Rattle.base.specs.Limits.{k_limit, w_limit, letter_limit};
 ghost use Rattle.minimizers.specs.Sketch.{sketch};

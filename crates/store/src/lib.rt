@@ -1,4 +1,6 @@
 // The store of a sketch: what `save` and `load` answer, how its words are laid out, and which codes and positions they hold.
+#![tactic(auto)]
+
 ghost use Rattle.std.specs.Prelude.{◌≡◌, ◌^◌, min};
 ghost use Rattle.base.specs.Limits.{k_limit};
 ghost use Rattle.store.specs.Words.{is_position};

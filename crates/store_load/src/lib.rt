@@ -1,4 +1,6 @@
 // `load` judges the words of a store, and reads a sketch's entries back from a good one.
+#![tactic(auto)]
+
 mod format;
 mod judging;
 

@@ -1,4 +1,6 @@
 // `save` writes a sketch's entries as words of 32 bits: its store.
+#![tactic(auto)]
+
 mod entries;
 mod format;
 

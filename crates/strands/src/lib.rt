@@ -1,4 +1,6 @@
 // The two strands that a read may come from, and the reverse complement: what a read of the other strand says of this one.
+#![tactic(auto)]
+
 ghost use Rattle.std.specs.Prelude.{◌≡◌, length};
 ghost use Rattle.strands.specs.Complement.{complement, complement_reply, complement_bytes};
 ghost use Rattle.strands.specs.Answers.{reply_of};

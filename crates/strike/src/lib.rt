@@ -1,4 +1,6 @@
 // Striking of frequent k-mers: from a text's sketch by its own counts, and from a read's by the counts of the text. It needs no heap.
+#![tactic(auto)]
+
 mod blocks;
 mod copying;
 

@@ -1,1 +1,2 @@
 // Runs on both strands: definitions and theorems, no code.
+#![tactic(auto)]

@@ -1,4 +1,6 @@
 // The winnowing of letters: their sketch in two buffers, as far as there is room.
+#![tactic(auto)]
+
 mod blocks;
 mod codes;
 mod reading;
