@@ -17,7 +17,7 @@ use strands::Complemented;
 use strike::Struck;
 
 // 0 where the call is accepted, else 01's refusal number; and the value answered, or the second value, 0 where there is none.
-#[derive(Drop)]
+#[derive(Clone, Copy)]
 pub struct Numbers(pub u32, pub usize);
 
 pub fn of_sketch(answer: Sketched) -> Numbers

@@ -9,7 +9,7 @@ use mathlib.Core.List.{List, [], ◌∷◌}
 use lib.Dec.{leb, ltb, eqb}
 use lib.ListN.{length, get_or, take, drop, length-take}
 use lib.Seq.{take-nil, take_all}
-use borrow.Author.Tests.{ltb-true, leb-true, leb-false, eqb-false, ne_eqb, not_true, le-leb}
+use borrow.Author.Tests.{ltb-true, leb-true, leb-false, eqb-false, ne_eqb, not-true, le-leb}
 use Rattle.base.specs.Lists.{every, extend}
 use Rattle.base.proofs.Lists.{and_left, and_right, decided}
 use Rattle.base.specs.Limits.{line_limit, word_limit, signed_limit}
@@ -165,7 +165,7 @@ length_number (b ∷ x ∷ l) e h = go (decided (leb (length l) 8))
     go (inl t) = let k : length l ≤ 8 = leb-true (length l) 8 t in omega arith
     go (inr t) =
         let many : 8 < length l = leb-false (length l) 8 t in
-        let nonzero : b ≡ 48 → ⊥ = eqb-false b 48 (not_true (eqb b (digit 0)) (and_left (not (eqb b (digit 0))) (every is_digit (b ∷ x ∷ l)) e)) in
+        let nonzero : b ≡ 48 → ⊥ = eqb-false b 48 (not-true (eqb b (digit 0)) (and_left (not (eqb b (digit 0))) (every is_digit (b ∷ x ∷ l)) e)) in
         let digits : every is_digit (b ∷ x ∷ l) ≡ true = and_right (not (eqb b (digit 0))) (every is_digit (b ∷ x ∷ l)) e in
         let low : 48 ≤ b = leb-true 48 b (and_left (leb 48 b) (leb b 57) (and_left (is_digit b) (every is_digit (x ∷ l)) digits)) in
         let v : (0 + (b - 48)) * 10 ^ suc (length l) ≤ decimal_value (0 + (b - 48)) (x ∷ l) = value_pow (0 + (b - 48)) (x ∷ l) in

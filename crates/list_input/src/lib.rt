@@ -15,35 +15,35 @@ const UNSIGNED_MAX: u32 = (WORD_LIMIT - 1) as u32;
 const SIGNED_MAX: u32 = (WORD_LIMIT / 2 - 1) as u32;
 
 // A number without a sign, or what is none.
-#[derive(Drop)]
+#[derive(Clone, Copy)]
 pub enum Number {
     Malformed,
     Value(u32),
 }
 
 // A signed number, or what is none.
-#[derive(Drop)]
+#[derive(Clone, Copy)]
 pub enum Threshold {
     Malformed,
     Value(i32),
 }
 
 // How mappings are scored, or a last field that does not say it.
-#[derive(Drop)]
+#[derive(Clone, Copy)]
 pub enum LastField {
     Malformed,
     Given(Scoring),
 }
 
 // A number with a space behind it, and where the next field begins.
-#[derive(Drop)]
+#[derive(Clone, Copy)]
 pub enum Field {
     Malformed,
     Given { value: u32, next: usize },
 }
 
 // What the first line asks for.
-#[derive(Drop)]
+#[derive(Clone, Copy)]
 pub enum FirstLine {
     Malformed,
     Given {
@@ -55,7 +55,7 @@ pub enum FirstLine {
 }
 
 // What the first line asks for, and where the text line and the read line stand in the bytes.
-#[derive(Drop)]
+#[derive(Clone, Copy)]
 pub enum Request {
     Malformed,
     Given {

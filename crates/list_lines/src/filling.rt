@@ -16,7 +16,7 @@ const FOUND_LIMIT: u32 = (HIT_LIMIT * (HIT_LIMIT + 1)) as u32;
 const BUDGET: u32 = (WORD_LIMIT - 1) as u32;
 
 // The bytes of a piece, the mappings found up to its end, and the cells that remain and one more, or 0 where nothing can follow.
-#[derive(Drop)]
+#[derive(Clone, Copy)]
 pub struct Filled {
     pub written: usize,
     pub found: u32,

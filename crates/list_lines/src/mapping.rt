@@ -35,7 +35,7 @@ fn end_of(positions: &[u32], k: u32, size: usize, from: usize, to: usize) -> u64
 }
 
 // A mapping as a step hands it out.
-#[derive(Drop)]
+#[derive(Clone, Copy)]
 pub struct Mapping {
     pub score: Score,
     pub a: u32,

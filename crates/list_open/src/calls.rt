@@ -9,7 +9,7 @@ use base::PATTERN_LIMIT;
 use requests::Settings;
 
 // A session in the work words, with the number of entries of the pattern; or the number of the first call that refuses.
-#[derive(Drop)]
+#[derive(Clone, Copy)]
 pub enum Opened {
     Refused(u32),
     Session(usize),

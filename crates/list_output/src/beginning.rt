@@ -9,7 +9,7 @@ use list_sessions::{Sessions, open_sessions};
 
 // The bytes of the piece; what the lines of mappings need, k and the numbers of entries of the two patterns; and the cells that remain and one
 // more for each session, or 0 where nothing is left to print.
-#[derive(Drop)]
+#[derive(Clone, Copy)]
 pub struct Begun {
     pub written: usize,
     pub k: u32,

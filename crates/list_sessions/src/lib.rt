@@ -16,7 +16,7 @@ use strands::reverse_complement;
 
 // Two sessions, each in its own work words, with k and the number of entries of each pattern; or why there are none: what is malformed, or
 // the number of the first call that refuses.
-#[derive(Drop)]
+#[derive(Clone, Copy)]
 pub enum Sessions {
     Malformed,
     Refused(u32),

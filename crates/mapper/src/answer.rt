@@ -2,7 +2,7 @@
 use mappings::Score;
 
 // What a step answers.
-#[derive(Drop)]
+#[derive(Clone, Copy)]
 pub enum Stepped {
     Found {
         a: u32,

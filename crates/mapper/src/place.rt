@@ -11,7 +11,7 @@ use session_words::{
     BACK, COLUMNS, HIGHEST, PART_END, PASSED, ROW, SHARED, STARTS, THRESHOLD, wide, wider,
 };
 
-#[derive(Drop)]
+#[derive(Clone, Copy)]
 pub struct Place {
     pub columns: usize,
     pub row: usize,

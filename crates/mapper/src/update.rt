@@ -15,7 +15,7 @@ use session_words::{
 };
 
 // What the scores of a session share: the scoring, and the pattern's length.
-#[derive(Drop)]
+#[derive(Clone, Copy)]
 pub struct Terms {
     pub scoring: Scoring,
     pub size: u32,
@@ -55,7 +55,7 @@ pub fn terms_of(work: &[u32]) -> Terms
 const MARGIN: u64 = 2 * WEIGHT_LIMIT as u64 * WORD_LIMIT;
 
 // What score words gain with m and lose with the length, what is added to them, and whether they are fractions.
-#[derive(Drop)]
+#[derive(Clone, Copy)]
 struct Rates {
     gain: u32,
     loss: u32,

@@ -16,7 +16,7 @@ use Rattle.mappings.specs.Demand.{Found, Finished, step_at, answer_at, passed_be
 use Rattle.mappings.proofs.Cells.{length_cells}
 use Rattle.mappings.proofs.Rule.{total, finals_of}
 use Rattle.mappings.proofs.Steps.{accepted_answer, refused_answer, step_refused, step_finished, answers_list, answers_within, length_answers}
-use Rattle.mappings.proofs.Steps.{take_answers, answer_at, passed_suc, answers_end}
+use Rattle.mappings.proofs.Steps.{take_answers, answer_at_lem, passed_suc, answers_end}
 use Rattle.mappings.proofs.Finals.{finals_among, finals_once, final_among}
 
 -- all cells
@@ -36,7 +36,7 @@ module _ (task : Task) (steps : List Step) where
   fresh_within n = rw (take_answers task 0 n steps) (omega (arith, answers_within task 0 (take n steps) zero-le))
 
   fresh_answer : (n : ℕ) → n < length steps → answer_at given n ≡ step_answer task (passed_before given n) (step_at steps n)
-  fresh_answer n h = answer_at task 0 n steps h ∙ ap (λ (k : ℕ). step_answer task k (step_at steps n)) (zero-add (passed_before given n))
+  fresh_answer n h = answer_at_lem task 0 n steps h ∙ ap (λ (k : ℕ). step_answer task k (step_at steps n)) (zero-add (passed_before given n))
 
   -- the q after step n
   fresh_suc : (n : ℕ) → n < length steps

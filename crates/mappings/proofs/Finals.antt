@@ -73,6 +73,7 @@ different_keep f (cell ∷ rest) h = go (f cell) (different_keep f rest h.1)
 
 map_mem : (task : Task) {mapping : Mapping} (l : List Cell) → Memᴰ mapping (map (mapping_of task) l)
     → (cell : Cell) × Memᴰ cell l × (mapping ≡ mapping_of task cell)
+map_mem task [] m = absurd (Memᴰ.not-nil m)
 map_mem task (cell ∷ rest) (Memᴰ.head e) = (cell, Memᴰ.head refl, e)
 map_mem task (cell ∷ rest) (Memᴰ.tail m) = let r = map_mem task rest m in (r.0, Memᴰ.tail r.1, r.2)
 

@@ -5,6 +5,7 @@ use native.Mathlib.Omega.{arith}
 use mathlib.Core.Path.{◌≡◌, refl, sym, subst}
 use mathlib.Core.Logic.{◌⊎◌, inl, inr}
 use mathlib.Core.Bool.{Bool, true, false}
+use mathlib.Core.List.Memᴰ
 use mathlib.Core.List.{List, [], ◌∷◌, Memᴰ}
 use lib.Dec.{ltb}
 use lib.ListN.{length, get_or}
@@ -19,6 +20,7 @@ module _ {A : Type 0} (d : A) where
   get_d_mem (x ∷ xs) (suc i) h = Memᴰ.tail (get_d_mem xs i (le_of_suc-le-suc h))
 
   pub mem_get_d : {a : A} (l : List A) → Memᴰ a l → (i : ℕ) × (i < length l) × (get_or l i d ≡ a)
+  mem_get_d [] m = absurd (Memᴰ.not-nil m)
   mem_get_d (x ∷ xs) (Memᴰ.head e) = (0, zero-lt-suc (length xs), sym e)
   mem_get_d (x ∷ xs) (Memᴰ.tail m) = let r = mem_get_d xs m in (suc r.0, suc-le-suc r.1, r.2)
 

@@ -9,7 +9,7 @@ use mathlib.Core.List.{List, [], ◌∷◌, ◌++◌, map}
 use lib.Dec.{ltb}
 use lib.ListN.{length, take, drop}
 use lib.Seq.{take-add, drop-drop}
-use borrow.Author.Tests.{lt-ltb, le-ltb, ltb-true, ltb-false, not_true}
+use borrow.Author.Tests.{lt-ltb, le-ltb, ltb-true, ltb-false, not-true}
 use Rattle.base.specs.Lists.{add_if, keep}
 use Rattle.base.proofs.Lists.{decided, clash, and_left, and_right, keep_append, map_append}
 use Rattle.base.specs.Limits.{work_words}
@@ -29,7 +29,7 @@ accepted_test step h = ap not (le-ltb step.lent work_words h)
 
 test_accepted : (step : Step) → is_accepted step ≡ true → work_words ≤ step.lent
 unfolding is_accepted
-test_accepted step e = ltb-false step.lent work_words (not_true (ltb step.lent work_words) e)
+test_accepted step e = ltb-false step.lent work_words (not-true (ltb step.lent work_words) e)
 
 refused_test : (step : Step) → step.lent < work_words → is_accepted step ≡ false
 unfolding is_accepted
@@ -128,14 +128,14 @@ take_answers task q (suc n) (step ∷ steps) =
     ap (λ (l : List Answer). step_answer task q step ∷ l) (take_answers task (q + reported (step_answer task q step)) n steps)
 
 -- each answer is the step's, from the q before it
-pub answer_at : (task : Task) (q n : ℕ) (steps : List Step) → n < length steps
+pub answer_at_lem : (task : Task) (q n : ℕ) (steps : List Step) → n < length steps
     → answer_at (answers task q steps) n ≡ step_answer task (q + passed_before (answers task q steps) n) (step_at steps n)
 unfolding answers
-answer_at task q n [] h = absurd (not-suc-le-zero h)
-answer_at task q zero (step ∷ steps) h = ap (λ (k : ℕ). step_answer task k step) (omega arith)
-answer_at task q (suc n) (step ∷ steps) h =
+answer_at_lem task q n [] h = absurd (not-suc-le-zero h)
+answer_at_lem task q zero (step ∷ steps) h = ap (λ (k : ℕ). step_answer task k step) (omega arith)
+answer_at_lem task q (suc n) (step ∷ steps) h =
     let r : ℕ = reported (step_answer task q step) in
-    answer_at task (q + r) n steps (le_of_suc-le-suc h)
+    answer_at_lem task (q + r) n steps (le_of_suc-le-suc h)
     ∙ ap (λ (k : ℕ). step_answer task k (step_at steps n)) (omega arith)
 
 -- the q after a step is the q before it and what it reports

@@ -4,7 +4,7 @@
 use mappings::Scoring;
 
 // k, w and c, and how mappings are scored.
-#[derive(Drop)]
+#[derive(Clone, Copy)]
 pub struct Settings {
     pub k: u32,
     pub w: u32,

@@ -21,7 +21,7 @@ const PART_LENGTH: usize = PART_END - INDEX;
 
 // What the cells of a column share: its number, the factors and the sum of the score words, the row from which its hit is reasonable as
 // a right end, and whether score words are fractions, else numbers.
-#[derive(Drop)]
+#[derive(Clone, Copy)]
 pub struct Line {
     pub column: u32,
     pub gain: u32,
@@ -33,7 +33,7 @@ pub struct Line {
 
 // Whether the last cell passed is a candidate; and of the next one the row, m, and the greatest of the threshold and of the records in the
 // rows before it.
-#[derive(Drop)]
+#[derive(Clone, Copy)]
 pub struct Passed {
     pub found: bool,
     pub row: usize,

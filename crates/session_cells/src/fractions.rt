@@ -25,7 +25,7 @@ const BEST_AT: usize = BEST - INDEX;
 const TOPS_AT: usize = TOPS - INDEX;
 
 // A score word, and its fraction taken apart, as factors of products of 64 bits.
-#[derive(Drop)]
+#[derive(Clone, Copy)]
 pub(crate) struct Factors {
     pub word: u32,
     pub m: u64,

@@ -21,7 +21,7 @@ const TOPS_AT: usize = TOPS - INDEX;
 // Where cells were passed up to one that matters, whose score word is at least what the rows up to it have seen: the row of the next cell
 // and its m, what the rows before that one have seen but for the last cell, and of the last cell its score word and its left end's
 // reach, both 0 where no cell matters.
-#[derive(Drop)]
+#[derive(Clone, Copy)]
 pub(crate) struct Paused {
     pub row: usize,
     pub m: u32,

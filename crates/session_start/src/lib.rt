@@ -26,7 +26,7 @@ use session_words::{BACK, BEST, INDEX, TOPS};
 use sorting::sort_words;
 
 // h, or why the call is refused: 7, 17, 8, 9, 10, or 11 with h.
-#[derive(Drop)]
+#[derive(Clone, Copy)]
 pub enum Started {
     Hits(usize),
     BadWeights,

@@ -11,7 +11,7 @@ use base::{K_LIMIT, LETTER_LIMIT, W_LIMIT, outside, smaller};
 use winnowing::winnow;
 
 // What a sketch answers: the number of entries, or why it is refused.
-#[derive(Drop)]
+#[derive(Clone, Copy)]
 pub enum Sketched {
     Entries(usize),
     BadK,

@@ -5,7 +5,7 @@ use native.Mathlib.Omega.{arith}
 use mathlib.Core.Path.{◌≡◌}
 use mathlib.Core.Bool.{true, not, ◌&&◌}
 use lib.Dec.{eqb, ltb, leb, lit<}
-use borrow.Author.Tests.{lt-ltb, eq-eqb, ltb-true, leb-true, not_true, eqb-true}
+use borrow.Author.Tests.{lt-ltb, eq-eqb, ltb-true, leb-true, not-true, eqb-true}
 use Rattle.base.proofs.Lists.{and_both, and_left, and_right}
 use Rattle.base.specs.Limits.{k_limit, w_limit, letter_limit, outside}
 use Rattle.base.proofs.Ranges.{inside, inside_range}
@@ -84,8 +84,8 @@ is_header_holds x h =
     let out_k = outside 1 k_limit (header_k x) in
     let out_w = outside 1 w_limit (header_w x) in
     let front = eqb (kind x) 0 && ltb (content x) (2 ^ 12) in
-    let ks = inside_range 1 k_limit (header_k x) (not_true out_k (and_right front (not out_k) (and_left (front && not out_k) (not out_w) h))) in
-    let ws = inside_range 1 w_limit (header_w x) (not_true out_w (and_right (front && not out_k) (not out_w) h)) in
+    let ks = inside_range 1 k_limit (header_k x) (not-true out_k (and_right front (not out_k) (and_left (front && not out_k) (not out_w) h))) in
+    let ws = inside_range 1 w_limit (header_w x) (not-true out_w (and_right (front && not out_k) (not out_w) h)) in
     let bits = and_left front (not out_k) (and_left (front && not out_k) (not out_w) h) in
     let kind_is = eqb-true (kind x) 0 (and_left (eqb (kind x) 0) (ltb (content x) (2 ^ 12)) bits) in
     let low = ltb-true (content x) (2 ^ 12) (and_right (eqb (kind x) 0) (ltb (content x) (2 ^ 12)) bits) in

@@ -15,7 +15,7 @@ pub const W_UNIT: u32 = 32;
 pub const W_SPAN: u32 = 128;
 
 // What `save` answers: the number of words written, or why nothing was.
-#[derive(Drop)]
+#[derive(Clone, Copy)]
 pub enum Saved {
     Words(usize),
     BadK,
@@ -26,7 +26,7 @@ pub enum Saved {
 }
 
 // What `load` answers: the sketch's k and w and how many entries were written, or why nothing was.
-#[derive(Drop)]
+#[derive(Clone, Copy)]
 pub enum Loaded {
     Sketch { k: u32, w: u32, entries: usize },
     BadHeader(usize),

@@ -9,7 +9,7 @@ ghost use Rattle.store_load.specs.Verdicts.{verdict_reply, counted};
 use crate::format;
 
 // What the words behind word 0 hold: a number of entries, or the index of the first bad word.
-#[derive(Drop)]
+#[derive(Clone, Copy)]
 pub(crate) enum Verdict {
     Good(usize),
     BadWord(usize),

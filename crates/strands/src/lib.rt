@@ -6,14 +6,14 @@ ghost use Rattle.strands.specs.Complement.{complement, complement_reply, complem
 ghost use Rattle.strands.specs.Answers.{reply_of};
 
 // The strand of a mapping: the read maps as it is given, or its reverse complement does.
-#[derive(Drop)]
+#[derive(Clone, Copy)]
 pub enum Strand {
     Forward,
     Reverse,
 }
 
 // The bytes written, or 4 with the bytes needed.
-#[derive(Drop)]
+#[derive(Clone, Copy)]
 pub enum Complemented {
     Bytes(usize),
     TooShort(usize),

@@ -14,7 +14,7 @@ use crate::blocks::block_zeros;
 use base::{TEXT_LIMIT, smaller};
 
 // The entries kept, or why the call is refused: 5, 8, 6, or 4 with the entries needed.
-#[derive(Drop)]
+#[derive(Clone, Copy)]
 pub enum Struck {
     Entries(usize),
     NotPaired,

@@ -9,14 +9,14 @@ use crate::codes::{next_code, rank};
 use letters::FOREIGN;
 
 // A position, and the code in hand there.
-#[derive(Drop)]
+#[derive(Clone, Copy)]
 pub(crate) struct Reached {
     pub(crate) at: usize,
     pub(crate) code: u32,
 }
 
 // A position, the code in hand there, and the rank of its k-mer, or NO_RANK where none was found.
-#[derive(Drop)]
+#[derive(Clone, Copy)]
 pub(crate) struct Found {
     pub(crate) at: usize,
     pub(crate) code: u32,

@@ -14,7 +14,7 @@ use crate::windows::{Counted, Measures, Passed, pass_kmers, pass_windows, put_lo
 use letters::{FOREIGN, value};
 
 // A position, where the block at hand begins, and the entries found so far.
-#[derive(Drop)]
+#[derive(Clone, Copy)]
 pub(crate) struct Place {
     pub(crate) at: usize,
     pub(crate) base: usize,

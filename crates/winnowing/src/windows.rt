@@ -14,7 +14,7 @@ use letters::FOREIGN;
 
 // The measures of a scan: how many letters of a k-mer stand in front of its last one, how many k-mers a window has, and how many
 // entries the buffers have room for.
-#[derive(Drop)]
+#[derive(Clone, Copy)]
 pub(crate) struct Measures {
     pub(crate) last: usize,
     pub(crate) w: usize,
@@ -22,7 +22,7 @@ pub(crate) struct Measures {
 }
 
 // A position, the code in hand there, and the entries found up to there.
-#[derive(Drop)]
+#[derive(Clone, Copy)]
 pub(crate) struct Counted {
     pub(crate) at: usize,
     pub(crate) code: u32,
@@ -30,7 +30,7 @@ pub(crate) struct Counted {
 }
 
 // The same with the lowest of the window that ends there, and its rank.
-#[derive(Drop)]
+#[derive(Clone, Copy)]
 pub(crate) struct Passed {
     pub(crate) at: usize,
     pub(crate) code: u32,
@@ -40,7 +40,7 @@ pub(crate) struct Passed {
 }
 
 // A position, the rank of its k-mer, and the entries found with it.
-#[derive(Drop)]
+#[derive(Clone, Copy)]
 pub(crate) struct Picked {
     pub(crate) at: usize,
     pub(crate) rank: u32,

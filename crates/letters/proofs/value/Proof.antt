@@ -14,6 +14,7 @@ use Rattle.letters.proofs.value.Tie as tie
 
 -- a byte that a match has found among these is one of them
 one_of : (b : ℕ) (l : List ℕ) → OneOf l b → Memᴰ b l
+one_of b [] h = absurd h
 one_of b (x ∷ []) h = Memᴰ.head h
 one_of b (x ∷ y ∷ l) (inl h) = Memᴰ.head h
 one_of b (x ∷ y ∷ l) (inr h) = Memᴰ.tail (one_of b (y ∷ l) h)
@@ -21,14 +22,14 @@ one_of b (x ∷ y ∷ l) (inr h) = Memᴰ.tail (one_of b (y ∷ l) h)
 computed-requires : tie.Need-computed-requires
 computed-requires c κs = search rules
 
-returns : tie.Need-returns
-returns c = c.computed.ensures ∙ sym (computed_value c.before.before.args.b (one_of c.before.before.args.b eight c.before.match.keys1))
+returns : tie.Need-returns-in-65
+returns c = c.computed.ensures ∙ sym (computed_value c.args.b (one_of c.args.b eight c.in-65.is))
 
-returns-2 : tie.Need-returns-2
+returns-2 : tie.Need-returns-in_default
 unfolding value
 returns-2 c =
-    let b = c.before.args.b in
-    let none = c.match.rest.1 in
+    let b = c.args.b in
+    let none = c.in_default.in_default-own.rest.1 in
     simp (
       ne_eqb b 65 (λ h. none (inl h)),
       ne_eqb b 67 (λ h. none (inr (inl h))),

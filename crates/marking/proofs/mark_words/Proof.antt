@@ -9,60 +9,52 @@ use Rattle.marking.proofs.mark_words.Statement.{statement}
 use Rattle.marking.proofs.mark_words.Tie as tie
 
 -- the places behind the list, and the entry of the function
-abbrev lent : tie.After-mark-by-list → tie.After-list2
+abbrev lent : tie.After-mark_by_list → tie.After-list-2-1
 lent c = c.before.before.before
 
-abbrev listed : tie.After-mark-by-list → tie.After-list-frequent
-listed c = (lent c).before
+abbrev listed : tie.After-mark_by_list → tie.After-list_frequent-n
+listed c = c.before.before.before.before
 
-abbrev made : tie.After-list-frequent → tie.After-slice-known
+abbrev made : tie.After-list_frequent-n → tie.After-slice_known-1
 made c = c.before.before.before
 
-abbrev entry : tie.After-list-frequent → tie.Start
-entry c = (made c).before.before.before
+abbrev entry : tie.After-list_frequent-n → tie.Start
+entry c = c.before.before.before.before.before.before
 
 -- the list is as long as was answered
-long : (c : tie.After-list-frequent) → length (take c.list-frequent.result c.list-frequent.new.1.1.0) ≡ c.list-frequent.result
+long : (c : tie.After-list_frequent-n) → length (take c.list_frequent-n.result c.list_frequent-n.new.list) ≡ c.list_frequent-n.result
 long c = length-take-le _ _ (omega arith)
 
-text-zeros-requires : tie.Need-text-zeros-requires
+text-zeros-requires : tie.Need-text_zeros-list-requires
 text-zeros-requires c κs = search rules
 
-slice-aggregate-list-frequent : tie.Need-slice-aggregate-list-frequent
+slice-aggregate-list-frequent : tie.Need-slice_bounds-list_frequent-end
 slice-aggregate-list-frequent c = search rules
 
-list-frequent-requires : tie.Need-list-frequent-requires
+list-frequent-requires : tie.Need-list_frequent-n-requires
 list-frequent-requires c κs = search rules
 
-array-share-prefix-list : tie.Need-array-share-prefix-list
+array-share-prefix-list : tie.Need-slice_bounds-list-end
 array-share-prefix-list c = search rules
 
-slice-aggregate-mark-by-list : tie.Need-slice-aggregate-mark-by-list
+slice-aggregate-mark-by-list : tie.Need-slice_bounds-mark_by_list-end
 slice-aggregate-mark-by-list c = sym (long c.before.before)
 
-mark-by-list-requires : tie.Need-mark-by-list-requires
+mark-by-list-requires : tie.Need-mark_by_list-requires
 mark-by-list-requires c κs =
     let listed = c.before.before.before in
-    (listed.list-frequent.ensures.1.in_order, omega (arith, long listed), search rules)
+    (listed.list_frequent-n.ensures.1.in_order, omega (arith, long listed), search rules)
 
-same_length : tie.Need-same-length
+same_length : tie.Need-shape_of-marks
 same_length c = search rules
 
 returns : tie.Need-returns
 returns c =
     let marked = c.before.before in
     let start = entry (listed marked) in
-    marks_same _ start.args.limit _ start.args.words.now _ (listed marked).list-frequent.ensures.1 marked.mark-by-list.ensures
+    marks_same _ start.args.limit _ start.args.words.now _ (listed marked).list_frequent-n.ensures.1 marked.mark_by_list.ensures
 
-pub mark-words-spec : {M : Type 1} → statement M
-mark-words-spec =
+pub mark_words_spec : {M : Type 1} → statement M
+mark_words_spec =
     tie.close
-    (tie.spec
-    text-zeros-requires
-    slice-aggregate-list-frequent
-    list-frequent-requires
-    array-share-prefix-list
-    slice-aggregate-mark-by-list
-    mark-by-list-requires
-    same_length
-    returns)
+    (tie.spec text-zeros-requires slice-aggregate-list-frequent list-frequent-requires array-share-prefix-list slice-aggregate-mark-by-list mark-by-list-requires same_length returns)

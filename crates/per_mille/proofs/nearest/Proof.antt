@@ -33,26 +33,32 @@ div-quotient c = search rules
 rem-twice : tie.Need-nonzero-rem-twice
 rem-twice c = search rules
 
-mul-twice : tie.Need-overflow-mul-twice
+mul-twice : tie.Need-overflow_mul-twice
 mul-twice c = search (rules, mod-lt c.args.dividend c.requires.0)
 
-returns : tie.Need-returns
-returns c = less _ _ c.if1.true
+returns : tie.Need-returns-then-twice-divisor
+returns c = less _ _ c.if-twice-divisor.true
 
-add-result : tie.Need-overflow-add-result
-add-result c = let entry = c.before.before.args in search (rules, div-le_self entry.dividend entry.divisor)
+add-result : tie.Need-overflow_add-result
+add-result c = let entry = c.args in search (rules, div-le_self entry.dividend entry.divisor)
 
-returns-2 : tie.Need-returns-2
-returns-2 c = more _ _ c.before.if1.false c.if2.true
+returns-2 : tie.Need-returns-then-divisor-twice
+returns-2 c = more _ _ c.if-twice-divisor.false c.if-divisor-twice.true
 
-returns-3 : tie.Need-returns-3
-returns-3 c = half-even _ _ c.before.before.if1.false c.before.if2.false c.if3.true
+returns-3 : tie.Need-returns-then-quotient-eq0
+returns-3 c = half-even _ _ c.if-twice-divisor.false c.if-divisor-twice.false c.if-quotient-eq0.true
 
-add-result-2 : tie.Need-overflow-add-result-2
-add-result-2 c = let entry = c.before.before.before.args in search (rules, div-le_self entry.dividend entry.divisor)
+add-result-2 : tie.Need-overflow_add-result-2
+add-result-2 c = let entry = c.args in search (rules, div-le_self entry.dividend entry.divisor)
 
-returns-4 : tie.Need-returns-4
-returns-4 c = half-odd _ _ c.before.before.if1.false c.before.if2.false c.if3.false
+returns-4 : tie.Need-returns
+returns-4 c = half-odd _ _ c.if-twice-divisor.false c.if-divisor-twice.false c.if-quotient-eq0.false
 
-pub nearest-spec : {M : Type 1} → statement M
-nearest-spec = tie.close (tie.spec div-quotient rem-twice mul-twice returns add-result returns-2 returns-3 add-result-2 returns-4)
+auto-nonzero_div-quotient : tie.Need-nonzero_div-quotient
+auto-nonzero_div-quotient c = search rules
+
+auto-nonzero_rem-twice : tie.Need-nonzero_rem-twice
+auto-nonzero_rem-twice c = search rules
+
+pub nearest_spec : {M : Type 1} → statement M
+nearest_spec = tie.close (tie.spec auto-nonzero_div-quotient auto-nonzero_rem-twice mul-twice returns add-result returns-2 returns-3 add-result-2 returns-4)

@@ -17,30 +17,30 @@ use Rattle.per_mille.proofs.PerMille.{per_mille_at_most}
 use Rattle.per_mille.proofs.per_mille.Statement.{statement}
 use Rattle.per_mille.proofs.per_mille.Tie as tie
 
-returns : tie.Need-returns
+returns : tie.Need-returns-then-len-m
 unfolding per_mille_number is_refused
-returns c = simp (lt-ltb _ _ c.if1.true)
+returns c = simp (lt-ltb _ _ c.if-len-m.true)
 
-returns-2 : tie.Need-returns-2
+returns-2 : tie.Need-returns-then-size-m
 unfolding per_mille_number is_refused
-returns-2 c = simp (le-ltb _ _ c.before.if1.false, lt-ltb _ _ c.if2.true)
+returns-2 c = simp (le-ltb _ _ c.if-len-m.false, lt-ltb _ _ c.if-size-m.true)
 
-returns-3 : tie.Need-returns-3
+returns-3 : tie.Need-returns-then-len-gt-TEXT_LIMIT
 unfolding per_mille_number is_refused
-returns-3 c = simp (le-ltb _ _ c.before.before.if1.false, le-ltb _ _ c.before.if2.false, lt-ltb _ _ c.if3.true)
+returns-3 c = simp (le-ltb _ _ c.if-len-m.false, le-ltb _ _ c.if-size-m.false, lt-ltb _ _ c.if-len-gt-TEXT_LIMIT.true)
 
-returns-4 : tie.Need-returns-4
+returns-4 : tie.Need-returns-then-size-gt-PATTERN_LIMIT
 unfolding per_mille_number is_refused
 returns-4 c =
     let first = c.before.before.before in
     simp (
-      le-ltb _ _ first.if1.false,
-      le-ltb _ _ c.before.before.if2.false,
-      le-ltb _ _ c.before.if3.false,
-      lt-ltb pattern_limit first.before.args.size (omega arith),
+      le-ltb _ _ first.if-len-m.false,
+      le-ltb _ _ c.if-size-m.false,
+      le-ltb _ _ c.if-len-gt-TEXT_LIMIT.false,
+      lt-ltb pattern_limit first.args.size (omega arith),
     )
 
-add-if5 : tie.Need-overflow-add-if5
+add-if5 : tie.Need-overflow_add-len
 add-if5 c = search rules
 
 module _ (m len size : ℕ) (in_len : m ≤ len) (in_size : m ≤ size) (len-fits : len ≤ text_limit) (size_fits : size ≤ pattern_limit) where
@@ -64,28 +64,28 @@ module _ (m len size : ℕ) (in_len : m ≤ len) (in_size : m ≤ size) (len-fit
       let fits : per_mille m len size < 2 ^ 31 = omega arith in
       (fits, to_z_pos w32 fits ∙ simp (le-ltb _ _ in_len, le-ltb _ _ in_size, le-ltb _ _ len-fits, le-ltb _ _ size_fits, not-both-zero ne))
 
-returns-5 : tie.Need-returns-5
+returns-5 : tie.Need-returns-then-len-size-eq0
 returns-5 c =
     let third = c.before.before in
-    both_zero _ _ _ third.before.before.if1.false third.before.if2.false third.if3.false c.before.if4.false c.if5.true
+    both_zero _ _ _ third.if-len-m.false third.if-size-m.false third.if-len-gt-TEXT_LIMIT.false c.if-size-gt-PATTERN_LIMIT.false c.if-len-size-eq0.true
 
-mul-nearest : tie.Need-overflow-mul-nearest
+mul-nearest : tie.Need-overflow_mul-m
 mul-nearest c = search rules
 
-add-nearest : tie.Need-overflow-add-nearest
+add-nearest : tie.Need-overflow_add-len-2
 add-nearest c = search rules
 
-sub-nearest : tie.Need-overflow-sub-nearest
+sub-nearest : tie.Need-overflow_sub-len
 sub-nearest c = search rules
 
 nearest-requires : tie.Need-nearest-requires
 nearest-requires c κs = search rules
 
 module _ (c : tie.After-nearest) where
-  abbrev third : tie.Else3
+  abbrev third : tie.Else-len-gt-TEXT_LIMIT
   third = c.before.before.before
 
-  abbrev first : tie.Else1
+  abbrev first : tie.Else-len-m
   first = third.before.before
 
   abbrev entry : tie.Start
@@ -98,27 +98,15 @@ module _ (c : tie.After-nearest) where
   computed-is : (c.nearest.result < 2 ^ 31) × (to_z w32 c.nearest.result ≡ per_mille_number entry.args.m entry.args.len entry.args.size)
   computed-is =
       subst (λ (x : ℕ). (x < 2 ^ 31) × (to_z w32 x ≡ per_mille_number entry.args.m entry.args.len entry.args.size)) (sym computed)
-      (accepted _ _ _ first.if1.left third.before.if2.left third.if3.left c.before.before.if4.false c.before.if5.false)
+      (accepted _ _ _ first.if-len-m.false third.if-size-m.false third.if-len-gt-TEXT_LIMIT.false c.if-size-gt-PATTERN_LIMIT.false c.if-len-size-eq0.false)
 
-cast-result : tie.Need-overflow-cast-result
+cast-result : tie.Need-overflow_cast-result
 cast-result c = record { sfits = (computed-is c).0 }
 
-returns-6 : tie.Need-returns-6
+returns-6 : tie.Need-returns
 returns-6 c = (computed-is c).1
 
-pub per-mille-spec : {M : Type 1} → statement M
-per-mille-spec =
+pub per_mille_spec : {M : Type 1} → statement M
+per_mille_spec =
     tie.close
-    (tie.spec
-    returns
-    returns-2
-    returns-3
-    returns-4
-    add-if5
-    returns-5
-    mul-nearest
-    add-nearest
-    sub-nearest
-    nearest-requires
-    cast-result
-    returns-6)
+    (tie.spec returns returns-2 returns-3 returns-4 add-if5 returns-5 mul-nearest add-nearest sub-nearest nearest-requires cast-result returns-6)

@@ -6,19 +6,19 @@ use Rattle.store.specs.Words.{is_position}
 use Rattle.store.proofs.is_position.Statement.{statement}
 use Rattle.store.proofs.is_position.Tie as tie
 
-returns : tie.Need-returns
+returns : tie.Need-returns-then-x-low
 unfolding is_position
 returns c =
-    let a = c.before.args in
+    let a = c.args in
     let lower : a.x < a.low = omega arith in
     simp (lt-leb a.low a.x lower)
 
-returns-2 : tie.Need-returns-2
+returns-2 : tie.Need-returns
 unfolding is_position
 returns-2 c =
-    let a = c.before.args in
+    let a = c.args in
     let reached : a.low ≤ a.x = omega arith in
     simp (le-leb a.low a.x reached)
 
-pub is-position-spec : {M : Type 1} → statement M
-is-position-spec = tie.close (tie.spec returns returns-2)
+pub is_position_spec : {M : Type 1} → statement M
+is_position_spec = tie.close (tie.spec returns returns-2)

@@ -8,7 +8,7 @@ use mathlib.Core.List.{List, [], ◌∷◌}
 use lib.ListN.{length, drop, get_or}
 use lib.Dec.{ltb}
 use borrow.Author.Rules.{rules}
-use borrow.Author.Tests.{lt-ltb, ltb-false, not_true, not-false}
+use borrow.Author.Tests.{lt-ltb, ltb-false, not-true, not-false}
 use Rattle.base.specs.Replies.{Reply, refused, after}
 use Rattle.base.proofs.Lists.{or_left, or_right}
 use Rattle.base.specs.Limits.{k_limit}
@@ -97,7 +97,7 @@ returns-2 : tie.Need-returns-2
 returns-2 c =
     let a = (entry-else1 c.before.before.before).args in
     judged_bad a.words.now a.codes.now a.positions.now
-    (judge_no_header a.words.now (sym c.before.is-header.ensures ∙ not_true c.before.is-header.result c.if2.true))
+    (judge_no_header a.words.now (sym c.before.is-header.ensures ∙ not-true c.before.is-header.result c.if2.true))
 
 header-k-requires : tie.Need-header-k-requires
 header-k-requires c κs = search rules

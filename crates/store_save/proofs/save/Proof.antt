@@ -6,7 +6,7 @@ use mathlib.Core.List.{List, [], ◌∷◌}
 use lib.ListN.{length}
 use lib.Dec.{eqb}
 use borrow.Author.Rules.{rules}
-use borrow.Author.Tests.{lt-ltb, eq-eqb, ne_eqb, not_true, not-false}
+use borrow.Author.Tests.{lt-ltb, eq-eqb, ne_eqb, not-true, not-false}
 use Rattle.base.specs.Replies.{Reply, accepted, refused, after}
 use Rattle.base.specs.Limits.{k_limit, w_limit, outside}
 use Rattle.kmers.specs.Kmers.{entries}
@@ -86,7 +86,7 @@ returns-4 c =
     let d = e.before.before.before in
     let a = (entry-else1 d).args in
     let no-good : storable a.k 0 (entries a.codes.now a.positions.now) ≡ false =
-    sym c.before.are-storable.ensures ∙ not_true c.before.are-storable.result c.if4.true
+    sym c.before.are-storable.ensures ∙ not-true c.before.are-storable.result c.if4.true
     in
     refusal a.k a.w a.codes.now a.positions.now a.words.now (rw (k_inside d, w_inside e.before, same_size e, no-good))
 

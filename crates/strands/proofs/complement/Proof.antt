@@ -5,27 +5,27 @@ use Rattle.strands.specs.Complement.{complement}
 use Rattle.strands.proofs.complement.Statement.{statement}
 use Rattle.strands.proofs.complement.Tie as tie
 
-returns : tie.Need-returns
+returns : tie.Need-returns-in-65
 unfolding complement
-returns c = ⊎_elim (λ h. rw h) (λ h. rw h) c.match.keys1
+returns c = ⊎_elim (λ h. rw h) (λ h. rw h) c.in-65.is
 
-returns-2 : tie.Need-returns-2
+returns-2 : tie.Need-returns-in-67
 unfolding complement
-returns-2 c = ⊎_elim (λ h. rw h) (λ h. rw h) c.match.keys2
+returns-2 c = ⊎_elim (λ h. rw h) (λ h. rw h) c.in-67.is
 
-returns-3 : tie.Need-returns-3
+returns-3 : tie.Need-returns-in-71
 unfolding complement
-returns-3 c = ⊎_elim (λ h. rw h) (λ h. rw h) c.match.keys3
+returns-3 c = ⊎_elim (λ h. rw h) (λ h. rw h) c.in-71.is
 
-returns-4 : tie.Need-returns-4
+returns-4 : tie.Need-returns-in-84
 unfolding complement
-returns-4 c = ⊎_elim (λ h. rw h) (λ h. rw h) c.match.keys4
+returns-4 c = ⊎_elim (λ h. rw h) (λ h. rw h) c.in-84.is
 
-returns-5 : tie.Need-returns-5
+returns-5 : tie.Need-returns-in_default
 unfolding complement
 returns-5 c =
-    let b = c.before.args.b in
-    let none = c.match.rest in
+    let b = c.args.b in
+    let none = c.in_default.in_default-own.rest in
     simp (
       ne_eqb b 65 (λ h. none.0.0.0.1 (inl h)),
       ne_eqb b 97 (λ h. none.0.0.0.1 (inr h)),
@@ -37,5 +37,5 @@ returns-5 c =
       ne_eqb b 116 (λ h. none.1 (inr h)),
     )
 
-pub complement-spec : {M : Type 1} → statement M
-complement-spec = tie.close (tie.spec returns returns-2 returns-3 returns-4 returns-5)
+pub complement_spec : {M : Type 1} → statement M
+complement_spec = tie.close (tie.spec returns returns-2 returns-3 returns-4 returns-5)

@@ -47,71 +47,57 @@ module _ (read out : List ℕ) where
       rw (le-leb (length read) (length out) room)
       (refl, w ∙ ap₂ (λ (a b : List ℕ). a ++ b) (take_all i (reverse_complement read) (omega arith)) (ap (λ (k : ℕ). drop k out) same))
 
-abbrev invariant-loop : tie.invariant-loop
+abbrev invariant-loop : tie.invariant-loop-i
 invariant-loop read out₀ n i₀ out i = (i ≤ n) × Written (reverse_complement read) out₀ i out × (length out ≡ length out₀)
 
-abbrev decreases-loop : tie.decreases-loop
+abbrev decreases-loop : tie.decreases-loop-i
 decreases-loop read out₀ n i₀ out i = n - i
 
 -- the turn of the loop, from where the letter is complemented
-abbrev turn : tie.After-complement invariant-loop decreases-loop → tie.At-loop invariant-loop decreases-loop
+abbrev turn : tie.After-complement invariant-loop decreases-loop → tie.At-loop-i invariant-loop decreases-loop
 turn c = c.before.before.before
 
-returns : tie.Need-returns invariant-loop decreases-loop
-returns c = too_short _ _ c.if1.true
+returns : tie.Need-returns-then-out-n invariant-loop decreases-loop
+returns c = too_short _ _ c.if-out-n.true
 
-loop-holds : tie.Need-loop-init invariant-loop decreases-loop
+loop-holds : tie.Need-loop-i-init invariant-loop decreases-loop
 loop-holds c = search rules
 
-sub-complement : tie.Need-overflow-sub-complement invariant-loop decreases-loop
+sub-complement : tie.Need-overflow_sub-n invariant-loop decreases-loop
 sub-complement c = search rules
 
-sub-complement-2 : tie.Need-overflow-sub-complement-2 invariant-loop decreases-loop
+sub-complement-2 : tie.Need-overflow_sub-n-in-loop-i invariant-loop decreases-loop
 sub-complement-2 c = search rules
 
-shared-slice-read-complement : tie.Need-shared-slice-read-complement invariant-loop decreases-loop
+shared-slice-read-complement : tie.Need-bounds-read-n invariant-loop decreases-loop
 shared-slice-read-complement c = search rules
 
 complement-requires : tie.Need-complement-requires invariant-loop decreases-loop
 complement-requires c κs = search rules
 
-slice-write-out : tie.Need-slice-write-out invariant-loop decreases-loop
+slice-write-out : tie.Need-bounds-out-i invariant-loop decreases-loop
 slice-write-out c = search rules
 
-add-i : tie.Need-overflow-add-i invariant-loop decreases-loop
+add-i : tie.Need-overflow_add-i invariant-loop decreases-loop
 add-i c = search rules
 
-loop-less : tie.Need-loop-smaller invariant-loop decreases-loop
+loop-less : tie.Need-loop-i-smaller invariant-loop decreases-loop
 loop-less c = search rules
 
-loop-again : tie.Need-loop-preserved invariant-loop decreases-loop
+loop-again : tie.Need-loop-i-preserved invariant-loop decreases-loop
 loop-again c =
-    let held = (turn c).loop.invariant in
+    let held = c.loop-i.invariant in
     (omega arith, more _ _ _ _ _ (omega arith) (omega arith) c.complement.ensures held.1, search rules)
 
-same_length : tie.Need-same-length invariant-loop decreases-loop
+same_length : tie.Need-shape_of-out invariant-loop decreases-loop
 same_length c = search rules
 
-returns-2 : tie.Need-returns-2 invariant-loop decreases-loop
+returns-2 : tie.Need-returns invariant-loop decreases-loop
 returns-2 c =
-    let held = c.before.loop.invariant in
-    all _ _ _ _ held.0 c.loop-test.false (omega arith) held.1
+    let held = c.loop-i.invariant in
+    all _ _ _ _ held.0 c.loop-i-test.false (omega arith) held.1
 
-pub reverse-complement-spec : {M : Type 1} → statement M
-reverse-complement-spec =
+pub reverse_complement_spec : {M : Type 1} → statement M
+reverse_complement_spec =
     tie.close
-    (tie.spec
-    invariant-loop
-    decreases-loop
-    returns
-    loop-holds
-    sub-complement
-    sub-complement-2
-    shared-slice-read-complement
-    complement-requires
-    slice-write-out
-    add-i
-    loop-less
-    loop-again
-    same_length
-    returns-2)
+    (tie.spec invariant-loop decreases-loop returns loop-holds sub-complement sub-complement-2 shared-slice-read-complement complement-requires slice-write-out add-i loop-less loop-again same_length returns-2)

@@ -6,7 +6,7 @@ use mir.Facts.{to_z-of_z}
 use mir.Syntax.{w32}
 use mir.Val.{to_z, of_z}
 use borrow.Author.Rules.{rules, sfits_of}
-use borrow.Author.Tests.{not_true, not-false}
+use borrow.Author.Tests.{not-true, not-false}
 use Rattle.mappings.specs.declared.Scoring.{Scoring}
 use Rattle.mappings.specs.declared.Scoring.TheVariants.{Linear}
 use Rattle.mapper.specs.Deciding.{is_scorable, decides, decided}
@@ -22,7 +22,7 @@ unfolding decides
 returns c =
     let args = c.before.before.args in
     let no : is_scorable args.terms args.a args.b args.m ≡ false =
-    sym c.before.is-scorable.ensures ∙ not_true c.before.is-scorable.result c.if1.true in
+    sym c.before.is-scorable.ensures ∙ not-true c.before.is-scorable.result c.if1.true in
     sym (decided_spent args.terms args.a args.b args.m args.cells (rw no))
 
 -- `is_scorable` has said so

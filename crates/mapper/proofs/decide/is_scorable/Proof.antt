@@ -5,7 +5,7 @@ use mathlib.Core.Path.{◌≡◌, sym, ap, ◌∙◌}
 use mathlib.Core.Bool.{true}
 use lib.Dec.{leb}
 use borrow.Author.Rules.{rules}
-use borrow.Author.Tests.{le-leb, lt-leb, lt-ltb, le-ltb, not_true, not-false}
+use borrow.Author.Tests.{le-leb, lt-leb, lt-ltb, le-ltb, not-true, not-false}
 use Rattle.mappings.specs.Score.{length_of}
 use Rattle.mapper.specs.Deciding.{is_small, is_scorable}
 use Rattle.mapper.proofs.Deciding.{last_test}
@@ -31,7 +31,7 @@ is-small-requires c κs = search rules
 
 returns : tie.Need-returns
 unfolding is_scorable
-returns c = simp (sym c.before.is-small.ensures ∙ not_true c.before.is-small.result c.if1.true)
+returns c = simp (sym c.before.is-small.ensures ∙ not-true c.before.is-small.result c.if1.true)
 
 returns-2 : tie.Need-returns-2
 unfolding is_scorable

@@ -13,59 +13,52 @@ use Rattle.marking.proofs.frequent.list_by_sorting.Statement.{statement}
 use Rattle.marking.proofs.frequent.list_by_sorting.Tie as tie
 
 -- the places back from the list to the sort, and the entry of the function
-abbrev known : tie.After-list-runs-arg2 → tie.After-sorted
+abbrev known : tie.After-list-runs-arg2 → tie.After-sorted-1
 known c = c.before.before.before
 
-abbrev sorted : tie.After-list-runs-arg2 → tie.After-sort-through
+abbrev sorted : tie.After-list-runs-arg2 → tie.After-sort_through
 sorted c = (known c).before.before.before
 
-abbrev lent : tie.After-sort-through → tie.After-slice-known2
+abbrev lent : tie.After-sort_through → tie.After-slice_known-2-1
 lent c = c.before.before.before
 
-abbrev entry : tie.After-sort-through → tie.Start
-entry c = (lent c).before.before
+abbrev entry : tie.After-sort_through → tie.Start
+entry c = c.before.before.before.before.before
 
 -- the words to sort, and what the sort leaves
-abbrev words : tie.After-sort-through → List ℕ
-words c = take (entry c).args.n (entry c).args.list.now
+abbrev words : tie.After-sort_through → List ℕ
+words c = take c.args.n c.args.list-1.now
 
-in_order : (c : tie.After-sort-through) → c.sort-through.new.1.0 ≡ sorted_words (words c)
+in_order : (c : tie.After-sort_through) → c.sort_through.new.sorted ≡ sorted_words (words c)
 in_order c =
     let start = entry c in
-    c.sort-through.ensures.1.1 ∙ through_exact (words c) _ (start.pre.0 ∙ sym (length-take-le _ _ start.pre.1))
+    c.sort_through.ensures.1.1 ∙ through_exact (words c) _ (start.requires.0 ∙ sym (length-take-le _ _ start.requires.1))
 
-slice-relend-prefix-sort-through : tie.Need-slice-relend-prefix-sort-through
+slice-relend-prefix-sort-through : tie.Need-slice_bounds-sort_through-end
 slice-relend-prefix-sort-through c = search rules
 
-slice-aggregate-sort-through : tie.Need-slice-aggregate-sort-through
+slice-aggregate-sort-through : tie.Need-slice_bounds-sort_through-end-2
 slice-aggregate-sort-through c = sym (length-take-le _ _ (omega arith))
 
-sort-through-requires : tie.Need-sort-through-requires
+sort-through-requires : tie.Need-sort_through-requires
 sort-through-requires c κs = search rules
 
-list-runs-requires : tie.Need-list-runs-requires
+list-runs-requires : tie.Need-list_runs-requires
 list-runs-requires c κs = (copy_sorted (words (sorted c)) _ (in_order (sorted c)), search rules)
 
-same_length : tie.Need-same-length
+same_length : tie.Need-shape_of-sorted
 same_length c = search rules
 
-same-length-2 : tie.Need-same-length-2
+same-length-2 : tie.Need-shape_of-list
 same-length-2 c = search rules
 
 returns : tie.Need-returns
 returns c =
     let run = c.before.before in
     let s = sorted run.before in
-    (in_order s, (omega arith, copy_frequent (words s) _ _ _ (in_order s) run.list-runs.ensures.1))
+    (in_order s, (omega arith, copy_frequent (words s) _ _ _ (in_order s) run.list_runs.ensures.1))
 
-pub list-by-sorting-spec : {M : Type 1} → statement M
-list-by-sorting-spec =
+pub list_by_sorting_spec : {M : Type 1} → statement M
+list_by_sorting_spec =
     tie.close
-    (tie.spec
-    slice-relend-prefix-sort-through
-    slice-aggregate-sort-through
-    sort-through-requires
-    list-runs-requires
-    same_length
-    same-length-2
-    returns)
+    (tie.spec slice-relend-prefix-sort-through slice-aggregate-sort-through sort-through-requires list-runs-requires same_length same-length-2 returns)

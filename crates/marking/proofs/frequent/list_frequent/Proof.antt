@@ -8,63 +8,52 @@ use Rattle.marking.proofs.frequent.list_frequent.Statement.{statement}
 use Rattle.marking.proofs.frequent.list_frequent.Tie as tie
 
 -- the places behind the words to sort, from the list back to them
-abbrev listed : tie.After-slice-known4 → tie.After-list-by-sorting
+abbrev listed : tie.After-slice_known-3-1 → tie.After-list_by_sorting
 listed c = c.before.before.before
 
-abbrev made : tie.After-slice-known4 → tie.After-text-zeros
-made c = (listed c).before.before.before
+abbrev made : tie.After-slice_known-3-1 → tie.After-text_zeros-sorted
+made c = c.before.before.before.before.before.before
 
-abbrev suspected : tie.After-slice-known4 → tie.After-suspects
-suspected c = (made c).before.before.before
+abbrev suspected : tie.After-slice_known-3-1 → tie.After-suspects-n
+suspected c = c.before.before.before.before.before.before.before.before.before
 
-in-order-requires : tie.Need-in-order-requires
+in-order-requires : tie.Need-in_order-requires
 in-order-requires c κs = search rules
 
-list-runs-requires : tie.Need-list-runs-requires
+list-runs-requires : tie.Need-list_runs-requires
 list-runs-requires c κs =
     let tested = c.before in
-    (tested.before.in_order.ensures.0 tested.if1.true, search rules)
+    (tested.in_order.ensures.0 tested.if-in_order.true, search rules)
 
-same_length : tie.Need-same-length
+same_length : tie.Need-shape_of-list-then-in_order
 same_length c = search rules
 
-returns : tie.Need-returns
+returns : tie.Need-returns-then-in_order
 returns c = search rules
 
-suspects-requires : tie.Need-suspects-requires
+suspects-requires : tie.Need-suspects-n-requires
 suspects-requires c κs = search rules
 
-text-zeros-requires : tie.Need-text-zeros-requires
+text-zeros-requires : tie.Need-text_zeros-sorted-requires
 text-zeros-requires c κs = search rules
 
-array-borrow-prefix-sorted : tie.Need-array-borrow-prefix-sorted
+array-borrow-prefix-sorted : tie.Need-slice_bounds-sorted-end
 array-borrow-prefix-sorted c = search rules
 
-slice-aggregate-list-by-sorting : tie.Need-slice-aggregate-list-by-sorting
+slice-aggregate-list-by-sorting : tie.Need-slice_bounds-list_by_sorting-end
 slice-aggregate-list-by-sorting c = sym (length-take-le _ _ (omega arith))
 
-list-by-sorting-requires : tie.Need-list-by-sorting-requires
+list-by-sorting-requires : tie.Need-list_by_sorting-requires
 list-by-sorting-requires c κs = (length-take-le _ _ (omega arith), search rules)
 
-same-length-2 : tie.Need-same-length-2
+same-length-2 : tie.Need-shape_of-list
 same-length-2 c = search rules
 
-returns-2 : tie.Need-returns-2
+returns-2 : tie.Need-returns
 returns-2 c =
-    (omega arith, suspects_frequent _ _ _ _ (suspected c).suspects.ensures.1 (listed c).list-by-sorting.ensures.1.1)
+    (omega arith, suspects_frequent _ _ _ _ c.suspects-n.ensures.1 c.list_by_sorting.ensures.1.1)
 
-pub list-frequent-spec : {M : Type 1} → statement M
-list-frequent-spec =
+pub list_frequent_spec : {M : Type 1} → statement M
+list_frequent_spec =
     tie.close
-    (tie.spec
-    in-order-requires
-    list-runs-requires
-    same_length
-    returns
-    suspects-requires
-    text-zeros-requires
-    array-borrow-prefix-sorted
-    slice-aggregate-list-by-sorting
-    list-by-sorting-requires
-    same-length-2
-    returns-2)
+    (tie.spec in-order-requires list-runs-requires same_length returns suspects-requires text-zeros-requires array-borrow-prefix-sorted slice-aggregate-list-by-sorting list-by-sorting-requires same-length-2 returns-2)

@@ -9,88 +9,72 @@ use borrow.Author.Rules.{rules}
 use Rattle.marking.proofs.frequent.list_runs.Statement.{statement}
 use Rattle.marking.proofs.frequent.list_runs.Tie as tie
 
-abbrev invariant-loop : tie.invariant-loop
+abbrev invariant-loop : tie.invariant-loop-i
 invariant-loop sorted limit list₀ back n₀ i₀ list n i = (length list ≡ length list₀) × Listed sorted limit i n list
 
-abbrev decreases-loop : tie.decreases-loop
+abbrev decreases-loop : tie.decreases-loop-i
 decreases-loop sorted limit list₀ back n₀ i₀ list n i = length sorted - i
 
 -- the places of a turn, and the entry of the function
-abbrev tested : tie.After-shared-slice-known3 invariant-loop decreases-loop → tie.In-loop invariant-loop decreases-loop
+abbrev tested : tie.After-shared_slice_known-in-loop-i-2-1 invariant-loop decreases-loop → tie.In-loop-i invariant-loop decreases-loop
 tested c = c.before.before
 
-abbrev turn : tie.After-shared-slice-known3 invariant-loop decreases-loop → tie.At-loop invariant-loop decreases-loop
-turn c = (tested c).before
+abbrev turn : tie.After-shared_slice_known-in-loop-i-2-1 invariant-loop decreases-loop → tie.At-loop-i invariant-loop decreases-loop
+turn c = c.before.before.before
 
-abbrev entry : tie.At-loop invariant-loop decreases-loop → tie.Start invariant-loop decreases-loop
+abbrev entry : tie.At-loop-i invariant-loop decreases-loop → tie.Start invariant-loop decreases-loop
 entry c = c.before.before.before
 
-loop-holds : tie.Need-loop-init invariant-loop decreases-loop
+loop-holds : tie.Need-loop-i-init invariant-loop decreases-loop
 loop-holds c = (refl, listed_none _ _ _)
 
-sub-if1 : tie.Need-overflow-sub-if1 invariant-loop decreases-loop
+sub-if1 : tie.Need-overflow_sub-i invariant-loop decreases-loop
 sub-if1 c = search rules
 
-mul-if1 : tie.Need-overflow-mul-if1 invariant-loop decreases-loop
+mul-if1 : tie.Need-offset_bounds-sorted-i invariant-loop decreases-loop
 mul-if1 c = search rules
 
-shared-slice-read-if1 : tie.Need-shared-slice-read-if1 invariant-loop decreases-loop
+shared-slice-read-if1 : tie.Need-bounds-sorted-i invariant-loop decreases-loop
 shared-slice-read-if1 c = search rules
 
-mul-if1-2 : tie.Need-overflow-mul-if1-2 invariant-loop decreases-loop
+mul-if1-2 : tie.Need-offset_bounds-sorted-i-in-loop-i invariant-loop decreases-loop
 mul-if1-2 c = search rules
 
-shared-slice-read-if1-2 : tie.Need-shared-slice-read-if1-2 invariant-loop decreases-loop
+shared-slice-read-if1-2 : tie.Need-bounds-sorted-i-in-loop-i invariant-loop decreases-loop
 shared-slice-read-if1-2 c = search rules
 
-mul-put-new : tie.Need-overflow-mul-put-new invariant-loop decreases-loop
+mul-put-new : tie.Need-offset_bounds-sorted-i-then-sorted-i invariant-loop decreases-loop
 mul-put-new c = search rules
 
-shared-slice-read-put-new : tie.Need-shared-slice-read-put-new invariant-loop decreases-loop
+shared-slice-read-put-new : tie.Need-bounds-sorted-i-then-sorted-i invariant-loop decreases-loop
 shared-slice-read-put-new c = search rules
 
-put-new-requires : tie.Need-put-new-requires invariant-loop decreases-loop
+put-new-requires : tie.Need-put_new-n-requires invariant-loop decreases-loop
 put-new-requires c κs = omega arith
 
-add-i : tie.Need-overflow-add-i invariant-loop decreases-loop
+add-i : tie.Need-overflow_add-i invariant-loop decreases-loop
 add-i c = search rules
 
-loop-less : tie.Need-loop-smaller invariant-loop decreases-loop
+loop-less : tie.Need-loop-i-smaller invariant-loop decreases-loop
 loop-less c = search rules
 
-loop-again : tie.Need-loop-preserved invariant-loop decreases-loop
+loop-again : tie.Need-loop-i-preserved invariant-loop decreases-loop
 loop-again c =
-    let at = (turn c.before).loop in
+    let at = c.loop-i in
     let start = entry (turn c.before) in
-    let inside = (tested c.before).loop-test.taken in
-    let put = listed_put start.args.sorted.now start.pre.0 start.args.limit at.i at.n at.list at.inv.1 inside in
-    let pass = listed_pass start.args.sorted.now start.pre.0 start.args.limit at.i at.n at.list at.inv.1 inside in
-    ⊎_elim (λ w. rw (w.6, w.7) (w.3.kept.1.1.0 ∙ at.inv.0, put w.0.taken _ _ w.3.ensures.0 w.3.ensures.1))
-    (λ w. rw (w.1, w.2) (at.inv.0, pass w.0.left)) c.if1.branch
+    let inside = c.loop-i-test.true in
+    let put = listed_put start.args.sorted.now start.requires.0 start.args.limit at.i at.n at.list-1 at.invariant.1 inside in
+    let pass = listed_pass start.args.sorted.now start.requires.0 start.args.limit at.i at.n at.list-1 at.invariant.1 inside in
+    ⊎_elim (λ w. rw (w.6, w.7) (w.3.kept.1.1.0 ∙ at.invariant.0, put w.0.true _ _ w.3.ensures.0 w.3.ensures.1))
+    (λ w. rw (w.1, w.2) (at.invariant.0, pass w.0.left)) c.if-sorted-i.branch
 
-same_length : tie.Need-same-length invariant-loop decreases-loop
-same_length c = c.before.loop.invariant.0
+same_length : tie.Need-shape_of-list invariant-loop decreases-loop
+same_length c = c.loop-i.invariant.0
 
 returns : tie.Need-returns invariant-loop decreases-loop
-returns c = listed_all _ _ _ _ _ c.before.loop.invariant.1 c.loop-test.false
+returns c = listed_all _ _ _ _ _ c.loop-i.invariant.1 c.loop-i-test.false
 
-pub list-runs-spec : {M : Type 1} → statement M
-list-runs-spec =
+pub list_runs_spec : {M : Type 1} → statement M
+list_runs_spec =
     tie.close
-    (tie.spec
-    invariant-loop
-    decreases-loop
-    loop-holds
-    sub-if1
-    mul-if1
-    shared-slice-read-if1
-    mul-if1-2
-    shared-slice-read-if1-2
-    mul-put-new
-    shared-slice-read-put-new
-    put-new-requires
-    add-i
-    loop-less
-    loop-again
-    same_length
-    returns)
+    (tie.spec invariant-loop decreases-loop loop-holds sub-if1 mul-if1 shared-slice-read-if1 mul-if1-2 shared-slice-read-if1-2 mul-put-new shared-slice-read-put-new put-new-requires add-i loop-less loop-again same_length returns)

@@ -8,77 +8,62 @@ use borrow.Author.Rules.{rules}
 use Rattle.marking.proofs.lookup.fill_heads.Statement.{statement}
 use Rattle.marking.proofs.lookup.fill_heads.Tie as tie
 
-abbrev invariant-loop : tie.invariant-loop
+abbrev invariant-loop : tie.invariant-loop-i
 invariant-loop list heads₀ i₀ heads i = Noting list i heads
 
-abbrev decreases-loop : tie.decreases-loop
+abbrev decreases-loop : tie.decreases-loop-i
 decreases-loop list heads₀ i₀ heads i = length list - i
 
 -- the turn, and the entry of the function
-abbrev turn : tie.After-slot invariant-loop decreases-loop → tie.At-loop invariant-loop decreases-loop
+abbrev turn : tie.After-slot-s invariant-loop decreases-loop → tie.At-loop-i invariant-loop decreases-loop
 turn c = c.before.before.before
 
-abbrev entry : tie.At-loop invariant-loop decreases-loop → tie.Start invariant-loop decreases-loop
+abbrev entry : tie.At-loop-i invariant-loop decreases-loop → tie.Start invariant-loop decreases-loop
 entry c = c.before.before.before
 
-loop-holds : tie.Need-loop-init invariant-loop decreases-loop
-loop-holds c = noting_none _ _ c.before.before.requires.0
+loop-holds : tie.Need-loop-i-init invariant-loop decreases-loop
+loop-holds c = noting_none _ _ c.requires.0
 
-mul-slot : tie.Need-overflow-mul-slot invariant-loop decreases-loop
+mul-slot : tie.Need-offset_bounds-list-i invariant-loop decreases-loop
 mul-slot c = search rules
 
-shared-slice-read-slot : tie.Need-shared-slice-read-slot invariant-loop decreases-loop
+shared-slice-read-slot : tie.Need-bounds-list-i invariant-loop decreases-loop
 shared-slice-read-slot c = search rules
 
-slot-requires : tie.Need-slot-requires invariant-loop decreases-loop
+slot-requires : tie.Need-slot-s-requires invariant-loop decreases-loop
 slot-requires c κs = search rules
 
-add-heads : tie.Need-overflow-add-heads invariant-loop decreases-loop
+add-heads : tie.Need-overflow_add-heads invariant-loop decreases-loop
 add-heads c = search rules
 
-cast-heads : tie.Need-overflow-cast-heads invariant-loop decreases-loop
-cast-heads c = omega (arith, (entry (turn c)).pre.1)
+cast-heads : tie.Need-overflow_cast-heads invariant-loop decreases-loop
+cast-heads c = omega (arith, (entry (turn c)).requires.1)
 
-mul-heads : tie.Need-overflow-mul-heads invariant-loop decreases-loop
+mul-heads : tie.Need-offset_bounds-heads-s invariant-loop decreases-loop
 mul-heads c = search rules
 
-slice-write-heads : tie.Need-slice-write-heads invariant-loop decreases-loop
-slice-write-heads c = omega (arith, (turn c).loop.invariant.long)
+slice-write-heads : tie.Need-bounds-heads-s invariant-loop decreases-loop
+slice-write-heads c = omega (arith, c.loop-i.invariant.long)
 
-add-i : tie.Need-overflow-add-i invariant-loop decreases-loop
+add-i : tie.Need-overflow_add-i invariant-loop decreases-loop
 add-i c = search rules
 
-loop-less : tie.Need-loop-smaller invariant-loop decreases-loop
+loop-less : tie.Need-loop-i-smaller invariant-loop decreases-loop
 loop-less c = search rules
 
-loop-again : tie.Need-loop-preserved invariant-loop decreases-loop
+loop-again : tie.Need-loop-i-preserved invariant-loop decreases-loop
 loop-again c =
-    noting_more _ _ _ _ (turn c).loop.invariant c.before.before.loop-test.true c.slot.ensures.0 c.slot.ensures.1
+    noting_more _ _ _ _ c.loop-i.invariant c.loop-i-test.true c.slot-s.ensures.0 c.slot-s.ensures.1
 
-same_length : tie.Need-same-length invariant-loop decreases-loop
+same_length : tie.Need-shape_of-heads invariant-loop decreases-loop
 same_length c =
     let start = entry c.before in
-    c.before.loop.invariant.long ∙ sym (noting_none start.args.list.now _ start.pre.0).long
+    c.loop-i.invariant.long ∙ sym (noting_none start.args.list.now _ start.requires.0).long
 
 returns : tie.Need-returns invariant-loop decreases-loop
-returns c = noting_all _ _ _ c.before.loop.invariant c.loop-test.false
+returns c = noting_all _ _ _ c.loop-i.invariant c.loop-i-test.false
 
-pub fill-heads-spec : {M : Type 1} → statement M
-fill-heads-spec =
+pub fill_heads_spec : {M : Type 1} → statement M
+fill_heads_spec =
     tie.close
-    (tie.spec
-    invariant-loop
-    decreases-loop
-    loop-holds
-    mul-slot
-    shared-slice-read-slot
-    slot-requires
-    add-heads
-    cast-heads
-    mul-heads
-    slice-write-heads
-    add-i
-    loop-less
-    loop-again
-    same_length
-    returns)
+    (tie.spec invariant-loop decreases-loop loop-holds mul-slot shared-slice-read-slot slot-requires add-heads cast-heads mul-heads slice-write-heads add-i loop-less loop-again same_length returns)

@@ -5,59 +5,49 @@ use Rattle.marking.proofs.lookup.mark_by_list.Statement.{statement}
 use Rattle.marking.proofs.lookup.mark_by_list.Tie as tie
 
 -- the test before the marks of an empty list, and the entry of the function
-abbrev tested : tie.After-mark-all → tie.Then1
+abbrev tested : tie.After-mark_all → tie.Then-list-eq0
 tested c = c.before.before
 
-abbrev known : tie.Then1 → tie.After-shared-slice-known
+abbrev known : tie.Then-list-eq0 → tie.After-shared_slice_known-1
 known c = c.before.before.before
 
-abbrev entry : tie.Then1 → tie.Start
-entry c = (known c).before
+abbrev entry : tie.Then-list-eq0 → tie.Start
+entry c = c.before.before.before.before
 
-mark-all-requires : tie.Need-mark-all-requires
+mark-all-requires : tie.Need-mark_all-requires
 mark-all-requires c κs = search rules
 
-same_length : tie.Need-same-length
+same_length : tie.Need-shape_of-marks-then-list-eq0
 same_length c = search rules
 
-returns : tie.Need-returns
+returns : tie.Need-returns-then-list-eq0
 returns c =
     let marked = c.before.before in
     let start = entry (tested marked) in
-    marks_none start.args.list.now start.args.words.now _ _ (tested marked).if1.true start.pre.2 marked.mark-all.ensures
+    marks_none start.args.list.now start.args.words.now _ _ (tested marked).if-list-eq0.true start.requires.2 marked.mark_all.ensures
 
-slot-zeros-requires : tie.Need-slot-zeros-requires
+slot-zeros-requires : tie.Need-slot_zeros-heads-requires
 slot-zeros-requires c κs = search rules
 
-slice-aggregate-fill-heads : tie.Need-slice-aggregate-fill-heads
+slice-aggregate-fill-heads : tie.Need-slice_bounds-fill_heads-end
 slice-aggregate-fill-heads c = search rules
 
-fill-heads-requires : tie.Need-fill-heads-requires
+fill-heads-requires : tie.Need-fill_heads-requires
 fill-heads-requires c κs = search rules
 
-slice-aggregate-mark-by-heads : tie.Need-slice-aggregate-mark-by-heads
+slice-aggregate-mark-by-heads : tie.Need-slice_bounds-mark_by_heads-end
 slice-aggregate-mark-by-heads c = search rules
 
-mark-by-heads-requires : tie.Need-mark-by-heads-requires
+mark-by-heads-requires : tie.Need-mark_by_heads-requires
 mark-by-heads-requires c κs = search rules
 
-same-length-2 : tie.Need-same-length-2
+same-length-2 : tie.Need-shape_of-marks
 same-length-2 c = search rules
 
-returns-2 : tie.Need-returns-2
+returns-2 : tie.Need-returns
 returns-2 c = search rules
 
-pub mark-by-list-spec : {M : Type 1} → statement M
-mark-by-list-spec =
+pub mark_by_list_spec : {M : Type 1} → statement M
+mark_by_list_spec =
     tie.close
-    (tie.spec
-    mark-all-requires
-    same_length
-    returns
-    slot-zeros-requires
-    slice-aggregate-fill-heads
-    fill-heads-requires
-    slice-aggregate-mark-by-heads
-    mark-by-heads-requires
-    same-length-2
-    returns-2)
+    (tie.spec mark-all-requires same_length returns slot-zeros-requires slice-aggregate-fill-heads fill-heads-requires slice-aggregate-mark-by-heads mark-by-heads-requires same-length-2 returns-2)

@@ -5,34 +5,34 @@ use Rattle.marking.proofs.lookup.mark_by_search.Statement.{statement}
 use Rattle.marking.proofs.lookup.mark_by_search.Tie as tie
 
 -- the entry of the function, from behind the search
-abbrev entry : tie.After-lower-bound → tie.Start
+abbrev entry : tie.After-lower_bound-at → tie.Start
 entry c = c.before.before
 
-lower-bound-requires : tie.Need-lower-bound-requires
+lower-bound-requires : tie.Need-lower_bound-at-requires
 lower-bound-requires c κs = search rules
 
-returns : tie.Need-returns
+returns : tie.Need-returns-then-list-at
 returns c =
     let end = c.before in
-    mark_beyond _ (entry end).requires _ _ end.lower-bound.ensures c.if1.true
+    mark_beyond _ (entry end).requires _ _ end.lower_bound-at.ensures c.if-list-at.true
 
-mul-if2 : tie.Need-overflow-mul-if2
+mul-if2 : tie.Need-offset_bounds-list-at
 mul-if2 c = search rules
 
-shared-slice-read-if2 : tie.Need-shared-slice-read-if2
+shared-slice-read-if2 : tie.Need-bounds-list-at
 shared-slice-read-if2 c = search rules
 
-returns-2 : tie.Need-returns-2
+returns-2 : tie.Need-returns-then-list-at-2
 returns-2 c =
     let end = c.before.before.before in
-    mark_at (entry end).args.list.now _ _ c.before.before.if1.false c.if2.true
+    mark_at (entry end).args.list.now _ _ c.if-list-at.false c.if-list-at-2.true
 
-returns-3 : tie.Need-returns-3
+returns-3 : tie.Need-returns-else-list-at-2
 returns-3 c =
     let end = c.before.before.before in
-    mark_other _ (entry end).requires _ _ end.lower-bound.ensures c.if2.false
+    mark_other _ (entry end).requires _ _ end.lower_bound-at.ensures c.if-list-at-2.false
 
-pub mark-by-search-spec : {M : Type 1} → statement M
-mark-by-search-spec =
+pub mark_by_search_spec : {M : Type 1} → statement M
+mark_by_search_spec =
     tie.close
     (tie.spec lower-bound-requires returns mul-if2 shared-slice-read-if2 returns-2 returns-3)

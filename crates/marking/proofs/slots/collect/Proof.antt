@@ -11,118 +11,99 @@ use borrow.Author.Rules.{rules}
 use Rattle.marking.proofs.slots.collect.Statement.{statement}
 use Rattle.marking.proofs.slots.collect.Tie as tie
 
-abbrev invariant-loop : tie.invariant-loop
+abbrev invariant-loop : tie.invariant-loop-i
 invariant-loop words limit slots out₀ at₀ i₀ out at i = (length out ≡ length out₀) × Collected (crowds words limit) words i at out
 
-abbrev decreases-loop : tie.decreases-loop
+abbrev decreases-loop : tie.decreases-loop-i
 decreases-loop words limit slots out₀ at₀ i₀ out at i = length words - i
 
 -- the places of a turn, from its end back to its test, and the entry of the function
-abbrev slotted : tie.After-crowded invariant-loop decreases-loop → tie.After-slot invariant-loop decreases-loop
+abbrev slotted : tie.After-crowded-at invariant-loop decreases-loop → tie.After-slot-s invariant-loop decreases-loop
 slotted c = c.before.before.before
 
-abbrev tested : tie.After-slot invariant-loop decreases-loop → tie.In-loop invariant-loop decreases-loop
+abbrev tested : tie.After-slot-s invariant-loop decreases-loop → tie.In-loop-i invariant-loop decreases-loop
 tested c = c.before.before
 
-abbrev turn : tie.After-slot invariant-loop decreases-loop → tie.At-loop invariant-loop decreases-loop
-turn c = (tested c).before
+abbrev turn : tie.After-slot-s invariant-loop decreases-loop → tie.At-loop-i invariant-loop decreases-loop
+turn c = c.before.before.before
 
-abbrev known : tie.At-loop invariant-loop decreases-loop → tie.After-shared-slice-known invariant-loop decreases-loop
+abbrev known : tie.At-loop-i invariant-loop decreases-loop → tie.After-shared_slice_known-1 invariant-loop decreases-loop
 known c = c.before.before.before
 
-abbrev entry : tie.At-loop invariant-loop decreases-loop → tie.Start invariant-loop decreases-loop
-entry c = (known c).before
+abbrev entry : tie.At-loop-i invariant-loop decreases-loop → tie.Start invariant-loop decreases-loop
+entry c = c.before.before.before.before
 
 -- the step is that of the word's slot
-step : (c : tie.After-crowded invariant-loop decreases-loop) →
-    (let at = turn (slotted c) in c.crowded.result
-    ≡ bit (crowds (entry at).args.words.now (entry at).args.limit (get_or (entry at).args.words.now at.loop.i 0)))
+step : (c : tie.After-crowded-at invariant-loop decreases-loop) →
+    (let at = turn (slotted c) in c.crowded-at.result
+    ≡ bit (crowds (entry at).args.words.now (entry at).args.limit (get_or (entry at).args.words.now at.loop-i.i 0)))
 step c =
     let found = slotted c in
     let start = entry (turn found) in
-    c.crowded.ensures.0
+    c.crowded-at.ensures.0
     ∙ ap (λ (n : ℕ). bit (ltb start.args.limit n))
-    (start.pre.1 _ found.slot.ensures.1 ∙ ap (in_slot start.args.words.now) found.slot.ensures.0)
+    (start.requires.1 _ found.slot-s.ensures.1 ∙ ap (in_slot start.args.words.now) found.slot-s.ensures.0)
 
 -- there is room for one word more
-room : (c : tie.After-slot invariant-loop decreases-loop) → (turn c).loop.at < length (turn c).loop.out
-room c = omega (arith, (turn c).loop.invariant.0, (turn c).loop.invariant.1.few, (tested c).loop-test.true, (entry (turn c)).pre.0.1)
+room : (c : tie.After-slot-s invariant-loop decreases-loop) → c.loop-i.at < length c.loop-i.out
+room c = omega (arith, c.loop-i.invariant.0, c.loop-i.invariant.1.few, c.loop-i-test.true, (entry (turn c)).requires.0.1)
 
-loop-holds : tie.Need-loop-init invariant-loop decreases-loop
+loop-holds : tie.Need-loop-i-init invariant-loop decreases-loop
 loop-holds c = (refl, collected_none _ _ _)
 
-mul-slot : tie.Need-overflow-mul-slot invariant-loop decreases-loop
+mul-slot : tie.Need-offset_bounds-words-i invariant-loop decreases-loop
 mul-slot c = search rules
 
-shared-slice-read-slot : tie.Need-shared-slice-read-slot invariant-loop decreases-loop
+shared-slice-read-slot : tie.Need-bounds-words-i invariant-loop decreases-loop
 shared-slice-read-slot c = search rules
 
-slot-requires : tie.Need-slot-requires invariant-loop decreases-loop
+slot-requires : tie.Need-slot-s-requires invariant-loop decreases-loop
 slot-requires c κs = search rules
 
-mul-out : tie.Need-overflow-mul-out invariant-loop decreases-loop
+mul-out : tie.Need-offset_bounds-words-i-in-loop-i invariant-loop decreases-loop
 mul-out c = search rules
 
-shared-slice-read-out : tie.Need-shared-slice-read-out invariant-loop decreases-loop
+shared-slice-read-out : tie.Need-bounds-words-i-in-loop-i invariant-loop decreases-loop
 shared-slice-read-out c = search rules
 
-mul-out-2 : tie.Need-overflow-mul-out-2 invariant-loop decreases-loop
+mul-out-2 : tie.Need-offset_bounds-out-at invariant-loop decreases-loop
 mul-out-2 c = omega (arith, room c.before)
 
-slice-write-out : tie.Need-slice-write-out invariant-loop decreases-loop
+slice-write-out : tie.Need-bounds-out-at invariant-loop decreases-loop
 slice-write-out c = room c.before
 
-mul-crowded : tie.Need-overflow-mul-crowded invariant-loop decreases-loop
+mul-crowded : tie.Need-offset_bounds-slots-s invariant-loop decreases-loop
 mul-crowded c = search rules
 
-shared-slice-read-crowded : tie.Need-shared-slice-read-crowded invariant-loop decreases-loop
+shared-slice-read-crowded : tie.Need-bounds-slots-s invariant-loop decreases-loop
 shared-slice-read-crowded c = search rules
 
-crowded-requires : tie.Need-crowded-requires invariant-loop decreases-loop
+crowded-requires : tie.Need-crowded-at-requires invariant-loop decreases-loop
 crowded-requires c κs = search rules
 
-add_at : tie.Need-overflow-add-at invariant-loop decreases-loop
+add_at : tie.Need-overflow_add-at invariant-loop decreases-loop
 add_at c = search rules
 
-add-i : tie.Need-overflow-add-i invariant-loop decreases-loop
+add-i : tie.Need-overflow_add-i invariant-loop decreases-loop
 add-i c = search rules
 
-loop-less : tie.Need-loop-smaller invariant-loop decreases-loop
+loop-less : tie.Need-loop-i-smaller invariant-loop decreases-loop
 loop-less c = search rules
 
-loop-again : tie.Need-loop-preserved invariant-loop decreases-loop
+loop-again : tie.Need-loop-i-preserved invariant-loop decreases-loop
 loop-again c =
     let found = slotted c in
-    let at = (turn found).loop in
-    (simp length-set at.inv.0, collected_more _ _ _ _ _ _ at.inv.1 (tested found).loop-test.taken (omega arith) (step c) c.crowded.ensures.1)
+    let at = (turn found).loop-i in
+    (simp length-set at.invariant.0, collected_more _ _ _ _ _ _ at.invariant.1 (tested found).loop-i-test.true (omega arith) (step c) c.crowded-at.ensures.1)
 
-same_length : tie.Need-same-length invariant-loop decreases-loop
-same_length c = c.before.loop.invariant.0
+same_length : tie.Need-shape_of-out invariant-loop decreases-loop
+same_length c = c.loop-i.invariant.0
 
 returns : tie.Need-returns invariant-loop decreases-loop
 unfolding suspects_of
-returns c = collected_all _ _ _ _ _ c.before.loop.invariant.1 c.loop-test.false
+returns c = collected_all _ _ _ _ _ c.loop-i.invariant.1 c.loop-i-test.false
 
-pub collect-spec : {M : Type 1} → statement M
-collect-spec =
+pub collect_spec : {M : Type 1} → statement M
+collect_spec =
     tie.close
-    (tie.spec
-    invariant-loop
-    decreases-loop
-    loop-holds
-    mul-slot
-    shared-slice-read-slot
-    slot-requires
-    mul-out
-    shared-slice-read-out
-    mul-out-2
-    slice-write-out
-    mul-crowded
-    shared-slice-read-crowded
-    crowded-requires
-    add_at
-    add-i
-    loop-less
-    loop-again
-    same_length
-    returns)
+    (tie.spec invariant-loop decreases-loop loop-holds mul-slot shared-slice-read-slot slot-requires mul-out shared-slice-read-out mul-out-2 slice-write-out mul-crowded shared-slice-read-crowded crowded-requires add_at add-i loop-less loop-again same_length returns)

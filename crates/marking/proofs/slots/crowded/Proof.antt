@@ -4,11 +4,11 @@ use borrow.Author.Tests.{lt-ltb, le-ltb}
 use Rattle.marking.proofs.slots.crowded.Statement.{statement}
 use Rattle.marking.proofs.slots.crowded.Tie as tie
 
-returns : tie.Need-returns
-returns c = rw (lt-ltb _ _ c.if1.true) (omega arith)
+returns : tie.Need-returns-then-limit-count
+returns c = rw (lt-ltb _ _ c.if-limit-count.true) (omega arith)
 
-returns-2 : tie.Need-returns-2
-returns-2 c = rw (le-ltb _ _ c.if1.false) (omega arith)
+returns-2 : tie.Need-returns-else-limit-count
+returns-2 c = rw (le-ltb _ _ c.if-limit-count.false) (omega arith)
 
-pub crowded-spec : {M : Type 1} → statement M
-crowded-spec = tie.close (tie.spec returns returns-2)
+pub crowded_spec : {M : Type 1} → statement M
+crowded_spec = tie.close (tie.spec returns returns-2)

@@ -11,5 +11,5 @@ returns : tie.Need-returns
 unfolding zeros
 returns c = (sym (length-replicate {A = ℕ} slot_count 0), refl)
 
-pub slot-zeros-spec : {M : Type 1} → statement M
-slot-zeros-spec = tie.close (tie.spec returns)
+pub slot_zeros_spec : {M : Type 1} → statement M
+slot_zeros_spec = tie.close (tie.spec returns)

@@ -4,7 +4,7 @@ use native.Mathlib.Omega.{arith}
 use mathlib.Core.Path.{◌≡◌, sym, ap, ◌∙◌}
 use mathlib.Core.Bool.{true}
 use borrow.Author.Rules.{rules}
-use borrow.Author.Tests.{not_true, not-false}
+use borrow.Author.Tests.{not-true, not-false}
 use Rattle.session_cells.specs.Passing.{Update, fits}
 use Rattle.session_cells.proofs.Fitting.{fits_says, fits_past, cell_fits, cell_none}
 use Rattle.session_cells.proofs.cells.pass_one.Statement.{statement}
@@ -45,7 +45,7 @@ returns-2 c =
     let d = c.before.before in
     let args = (entry d).args in
     let e = sym (cell_none args.line args.row args.m args.highest args.part.now
-    (sym d.fits2.ensures ∙ not_true _ c.before.if2.true)) in
+    (sym d.fits2.ensures ∙ not-true _ c.before.if2.true)) in
     (c.none-passed2.ensures ∙ ap (λ (u : Update). u.answer) e, ap (λ (u : Update). u.part) e)
 
 pass-row-fraction-requires : tie.Need-pass-row-fraction-requires

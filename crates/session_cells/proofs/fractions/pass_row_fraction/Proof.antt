@@ -2,7 +2,7 @@
 use Prim.Native.Nat.{ℕ}
 use mathlib.Core.Path.{◌≡◌, refl, sym, ap, ◌∙◌}
 use borrow.Author.Rules.{rules}
-use borrow.Author.Tests.{not_true, not-false}
+use borrow.Author.Tests.{not-true, not-false}
 use lib.ListN.{get_or}
 use Rattle.session_cells.specs.Passing.{line_score, in_reach, Update}
 use Rattle.session_cells.proofs.Passing.{AtCell, greater_of, entered_of, pass_low, pass_last}
@@ -71,7 +71,7 @@ matters-fraction-requires c κs = search rules
 returns : tie.Need-returns
 returns c =
     let t = c.before in
-    let e = sym (pass_low _ _ _ _ _ _ _ _ _ (at_cell t.before _ refl) 0 (sym t.matters-fraction.ensures ∙ not_true _ c.if1.true)) in
+    let e = sym (pass_low _ _ _ _ _ _ _ _ _ (at_cell t.before _ refl) 0 (sym t.matters-fraction.ensures ∙ not-true _ c.if1.true)) in
     (ap (λ (u : Update). u.answer) e, ap (λ (u : Update). u.part) e)
 
 score-word-requires : tie.Need-score-word-requires

@@ -10,7 +10,7 @@ use lib.Dec.{eqb}
 use lib.ListN.{length, drop, get_or, drop_of_length-le}
 use lib.Seq.{drop-cons}
 use borrow.Author.Rules.{rules}
-use borrow.Author.Tests.{eq-eqb, ne_eqb, not_true, not-false}
+use borrow.Author.Tests.{eq-eqb, ne_eqb, not-true, not-false}
 use Rattle.base.specs.Replies.{refused}
 use Rattle.base.proofs.Lists.{and_right}
 use Rattle.store.specs.Words.{kind, content, is_position, is_code_word, is_position_word}
@@ -150,7 +150,7 @@ returns-2 c =
     let l = d.before.loop in
     let x = get_or a.words.now l.index 0 in
     let other : eqb (kind x) 3 ≡ false = ap (λ (t : ℕ). eqb t 3) (sym e.before.kind.ensures) ∙ ne_eqb e.before.kind.result 3 e.if1.false in
-    let no_code : is_code_word a.k x ≡ false = sym (code-test c.before) ∙ not_true c.before.is-code-word.result c.if2.true in
+    let no_code : is_code_word a.k x ≡ false = sym (code-test c.before) ∙ not-true c.before.is-code-word.result c.if2.true in
     turn d (judge_first a.k l.index l.n l.low x (drop (suc l.index) a.words.now) other no_code)
 
 add-next : tie.Need-overflow-add-next invariant-loop decreases-loop
@@ -186,7 +186,7 @@ returns-4 c =
     let ws = a.words.now in
     let y = get_or ws (suc l.index) 0 in
     let no-position : is_position_word l.low y ≡ false =
-    sym (position-test c.before) ∙ not_true c.before.is-position-word.result c.if4.true
+    sym (position-test c.before) ∙ not-true c.before.is-position-word.result c.if4.true
     in
     ap (λ (i : ℕ). refused 13 (i ∷ [])) (add-one l.index)
     ∙ turn₂ f

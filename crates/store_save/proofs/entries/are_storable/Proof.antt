@@ -7,7 +7,7 @@ use mathlib.Core.Path.{◌≡◌, refl, sym, ◌∙◌}
 use lib.ListN.{length, drop, get_or, drop_of_length-le}
 use lib.Dec.{ltb}
 use borrow.Author.Rules.{rules}
-use borrow.Author.Tests.{lt-ltb, le-ltb, not_true, not-false}
+use borrow.Author.Tests.{lt-ltb, le-ltb, not-true, not-false}
 use Rattle.kmers.specs.Kmers.{entries}
 use Rattle.store.specs.Words.{is_code}
 use Rattle.store.specs.Save.{storable}
@@ -87,7 +87,7 @@ returns-2 c =
       code-test d,
       lt-ltb _ _ e.if1.false,
       ← c.before.is-position.ensures,
-      not_true c.before.is-position.result c.if2.true,
+      not-true c.before.is-position.result c.if2.true,
     )
 
 add_low : tie.Need-overflow-add-low invariant-loop decreases-loop
