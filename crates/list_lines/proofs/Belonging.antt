@@ -35,7 +35,7 @@ module _ (task : Task) (before places : List ℕ) (k size : ℕ) (strand : Stran
         let fits : Fitting task places k size mapping =
         subst (Fitting task places k size) (sym f.1) (fitting_final task places k size limits.limited belongs f.0 f.2) in
         let held : is_held places k size mapping.a mapping.b mapping.m ≡ true =
-        held_true places k size mapping.a mapping.b mapping.m fits.holds fits.in-length fits.in_size in
+        held_true places k size mapping.a mapping.b mapping.m fits.holds fits.in_length fits.in_size in
         let c : r.found + q < found + q' = stuck.counted in
         let among : q' ≤ total task = piece.among in
         let few : total task ≤ cell_limit = few_cells (hit_count task) limits.few_hits in

@@ -437,7 +437,7 @@ pub session_left : (task : Task) (before : List ℕ) (q : ℕ) (work : List ℕ)
     → cells_left work ≡ suc (total task - q)
 unfolding cells_left
 session_left task before q work a l e =
-    let s = in-session task before q work a e in
+    let s = in_session task before q work a e in
     rw (
       s.held.held.h_word,
       s.held.passed_word,

@@ -92,10 +92,10 @@ pub per_mille_is : (m a b from to size : ℕ) → from ≡ a → to ≡ b → a 
     → m ≤ size
     → per_mille_number m (to - from + 1) size ≡ pos (per_mille m (length_of a b) size)
 unfolding per_mille_number is_refused length_of
-per_mille_is m a b from to size ea eb ordered short small in-length in_size =
+per_mille_is m a b from to size ea eb ordered short small in_length in_size =
     let len : to - from + 1 ≡ suc b - a = omega arith in
     let some : eqb (suc b - a) 0 ≡ false = ne_eqb (suc b - a) 0 (λ z. omega arith) in
-    rw (len, le-ltb (suc b - a) m in-length, le-ltb size m in_size, le-ltb text_limit (suc b - a) (omega arith), le-ltb pattern_limit size small, some)
+    rw (len, le-ltb (suc b - a) m in_length, le-ltb size m in_size, le-ltb text_limit (suc b - a) (omega arith), le-ltb pattern_limit size small, some)
 
 -- a signed answer, as the code tests and casts it
 module _ (z : ℤ) (fits : SFits w32 z) where

@@ -103,7 +103,7 @@ module _ (task : Task) where
     -- the numbers of a found mapping's line hold it
     pub record Fitting (mapping : Mapping) : Type 0 where
       pub holds : Holds places k size mapping.a mapping.b
-      pub in-length : mapping.m ≤ length_of mapping.a mapping.b
+      pub in_length : mapping.m ≤ length_of mapping.a mapping.b
       pub in_size : mapping.m ≤ size
 
     pub fitting_final : Limited task → Belongs task places k size → (cell : Cell) → is_final_cell task cell ≡ true → Fitting (mapping_of task cell)
@@ -121,6 +121,6 @@ module _ (task : Task) where
             some = omega (arith, belongs.k_some);
             last_small = belongs.last_small (right_end task cell) f.within;
           };
-          in-length = shared_le_len task (left_end task cell) (right_end task cell) f.within;
+          in_length = shared_le_len task (left_end task cell) (right_end task cell) f.within;
           in_size = omega (arith, belongs.size_is, shared_le_size task (left_end task cell) (right_end task cell));
         }

@@ -49,7 +49,7 @@ module _ (k w : ℕ) (letters codes₀ places₀ codes₁ places₁ : List ℕ) 
     held = sketch_held k w letters line_limit line_limit m sketch_accepts
 
     pub sketch_inside : m ≤ line_limit
-    sketch_inside = held.in-codes
+    sketch_inside = held.in_codes
 
     pub codes_front : take m codes₁ ≡ codes (sketch k w letters)
     unfolding sketch_codes

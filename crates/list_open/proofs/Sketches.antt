@@ -65,7 +65,7 @@ module _ (deciding cs ps : List ℕ) (c : ℕ) (codes₀ places₀ : List ℕ) (
 
     -- the entries kept lie within their buffer
     pub strike_inside : m ≤ line_limit
-    strike_inside = held.in-codes
+    strike_inside = held.in_codes
 
     pub strike_front : take m codes₁ ≡ codes (strike deciding c (entries cs ps))
     unfolding strike_codes

@@ -54,7 +54,7 @@ module _ {task : Task} {places : List ℕ} {k size : ℕ} {work : List ℕ} {q :
   left_in_hand = session_left task h.before q work h.accepts h.among h.words
 
   passed_in_hand : get_or work passed_at 0 ≡ q
-  passed_in_hand = (in-session task h.before q work h.accepts h.words).held.passed_word
+  passed_in_hand = (in_session task h.before q work h.accepts h.words).held.passed_word
 
 -- no cell remains, and so no mapping
 none_after : (task : Task) (q : ℕ) → q ≡ total task → finals_after task q ≡ []
@@ -65,7 +65,7 @@ none_after task q e = ap (finals_after task) e ∙ all_passed task
 -- it comes to q₁ cells; what was printed and what is left make up what was left before
 record Moved (task : Task) (places : List ℕ) (k size : ℕ) (strand : Strand) (q found other : ℕ) (r : Filled) (work' out' : List ℕ) : Type 0 where
   q₁ : ℕ
-  in-hand : InHand task places k size work' q₁
+  in_hand : InHand task places k size work' q₁
   further : q < q₁
   grown : r.found + q ≤ found + q₁
   left_is : r.left ≡ suc (total task - q₁) + other
@@ -82,7 +82,7 @@ moved {task} {places = places} {k} {size} {strand} {q} {found} {other = other} {
     let grown : made.part.found + q ≤ found + q₁ = step.1.counted in
     record {
       q₁ = q₁;
-      in-hand = record { before = h.before; accepts = h.accepts; belongs = h.belongs; among = step.1.among; words = step.1.words };
+      in_hand = record { before = h.before; accepts = h.accepts; belongs = h.belongs; among = step.1.among; words = step.1.words };
       further = w.further;
       grown = omega (arith, made.found_is);
       left_is =
@@ -146,14 +146,14 @@ module _ {bytes places forward reverse : List ℕ} {k size size' found left : �
       let lines' : List ℕ = lines_after task' places k size' Reverse q' in
       let count : r.found + length (finals_after task m.q₁) + length (finals_after task' q')
       ≡ found + length (finals_after task q) + length (finals_after task' q') = omega (arith, m.tally) in (
-        omega (arith, p.remaining, m.left_is, reverse_left, m.further, m.in-hand.among),
+        omega (arith, p.remaining, m.left_is, reverse_left, m.further, m.in_hand.among),
         inr
             (record {
               task = task;
               task' = task';
               q = m.q₁;
               q' = q';
-              ahead = m.in-hand;
+              ahead = m.in_hand;
               behind = stays p.behind made.1;
               counted = omega (arith, m.grown, p.counted);
               remaining = m.left_is ∙ ap (λ (n : ℕ). suc (total task - m.q₁) + n) reverse_left;
@@ -179,7 +179,7 @@ module _ {bytes places forward reverse : List ℕ} {k size size' found left : �
       let count : r.found + length (finals_after task q) + length (finals_after task' m.q₁)
       ≡ found + length (finals_after task q) + length (finals_after task' q') = omega (arith, m.tally) in
       let now : r.left ≡ suc (total task - q) + suc (total task' - m.q₁) = omega (arith, m.left_is, forward_left) in (
-        omega (arith, p.remaining, m.further, m.in-hand.among),
+        omega (arith, p.remaining, m.further, m.in_hand.among),
         inr
             (record {
               task = task;
@@ -187,7 +187,7 @@ module _ {bytes places forward reverse : List ℕ} {k size size' found left : �
               q = q;
               q' = m.q₁;
               ahead = stays p.ahead made.1;
-              behind = m.in-hand;
+              behind = m.in_hand;
               counted = omega (arith, m.grown, p.counted);
               remaining = now;
               rest =

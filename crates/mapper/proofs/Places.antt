@@ -24,16 +24,16 @@ shifted h q columns row l p = record {
 }
 
 -- the first column that is passed
-in-first : (k i : ℕ) → i ≤ k → PlaceIs (suc k) (place (suc k) i k) (suc k) i
+in_first : (k i : ℕ) → i ≤ k → PlaceIs (suc k) (place (suc k) i k) (suc k) i
 unfolding place
-in-first k i a =
+in_first k i a =
     let e : cell_count (suc k) - cell_count (suc k) + i ≡ i = omega arith in
     rw e (record { columns_are = rw (lt-ltb i (suc k) (omega arith)); row_is = rw (lt-ltb i (suc k) (omega arith)) })
 
 -- a cell of a later column has the first column's cells before it
-in-later : (k i j : ℕ) → i ≤ j → j < k → (suc k ≤ place (suc k) i j) × (place (suc k) i j - suc k ≡ place k i j)
+in_later : (k i j : ℕ) → i ≤ j → j < k → (suc k ≤ place (suc k) i j) × (place (suc k) i j - suc k ≡ place k i j)
 unfolding place
-in-later k i j a b =
+in_later k i j a b =
     let e : cell_count (suc k) ≡ suc k + cell_count k = cell_count_suc k in
     let m : cell_count (suc j) ≤ cell_count k = cell_count_mono (suc j) k b in
     (omega arith, omega arith)
@@ -43,10 +43,10 @@ at_cell zero i j a b = absurd (not-suc-le-zero b)
 at_cell (suc k) i j a b = go (λ l. at_cell k i j a l) (eq_or_ne j k)
   where
     go : (j < k → PlaceIs k (place k i j) (suc j) i) → (j ≡ k) ⊎ (j ≡ k → ⊥) → PlaceIs (suc k) (place (suc k) i j) (suc j) i
-    go rec (inl e) = subst (λ (n : ℕ). PlaceIs (suc k) (place (suc k) i n) (suc n) i) (sym e) (in-first k i (omega arith))
+    go rec (inl e) = subst (λ (n : ℕ). PlaceIs (suc k) (place (suc k) i n) (suc n) i) (sym e) (in_first k i (omega arith))
     go rec (inr n) =
         let l : j < k = omega arith in
-        let at = in-later k i j a l in
+        let at = in_later k i j a l in
         shifted k (place (suc k) i j) (suc j) i at.0 (rw at.1 (rec l))
 
 pub at_end : (h : ℕ) → PlaceIs h (cell_count h) 0 0

@@ -46,17 +46,17 @@ module _ (task : Task) (small : hit_count task ≤ hit_limit) (before : List ℕ
     part_fits : index_from + part_length ≤ length work
     part_fits = omega (arith, many_of q (suc j) work h)
 
-    in-part : (b i : ℕ) → b + i < part_length → get_or (part_of work) (b + i) 0 ≡ get_or work (index_from + b + i) 0
-    in-part b i l = middle_word index_from part_length work work part_fits (b + i) l ∙ moved work b i
+    in_part : (b i : ℕ) → b + i < part_length → get_or (part_of work) (b + i) 0 ≡ get_or work (index_from + b + i) 0
+    in_part b i l = middle_word index_from part_length work work part_fits (b + i) l ∙ moved work b i
 
     pub tables_part : PartHolds task j q (part_of work)
     tables_part = record {
       number = middle_number index_from part_length work work part_fits;
       index_word = λ i l. middle_word index_from part_length work work part_fits i (omega arith) ∙ h.index_word i l;
-      reach_word = λ i l. in-part (reach_at 0) i (omega arith) ∙ h.reach_word i l;
-      best_word = λ i l. in-part (best_at 0) i (omega arith) ∙ h.best_word i l;
-      top_word = λ b l. in-part (top_at 0) b (omega arith) ∙ h.tops_word b l;
-      start_word = λ b l. in-part (start_at 0) b (omega arith) ∙ h.starts_word b l;
+      reach_word = λ i l. in_part (reach_at 0) i (omega arith) ∙ h.reach_word i l;
+      best_word = λ i l. in_part (best_at 0) i (omega arith) ∙ h.best_word i l;
+      top_word = λ b l. in_part (top_at 0) b (omega arith) ∙ h.tops_word b l;
+      start_word = λ b l. in_part (start_at 0) b (omega arith) ∙ h.starts_word b l;
     }
 
     module _ (q' : ℕ) (part : List ℕ) (p : PartHolds task j q' part) (same : SameOutside task (part_of work) part) where

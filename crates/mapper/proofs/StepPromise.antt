@@ -43,9 +43,9 @@ pub record InSession (task : Task) (before : List ℕ) (q : ℕ) (work : List �
   pub held : Holds task before q work
   pub number : work_words ≤ length work
 
-pub in-session : (task : Task) (before : List ℕ) (q : ℕ) (work : List ℕ) → Accepts task before → work ≡ session_words task before q
+pub in_session : (task : Task) (before : List ℕ) (q : ℕ) (work : List ℕ) → Accepts task before → work ≡ session_words task before q
     → InSession task before q work
-in-session task before q work a e =
+in_session task before q work a e =
     let l = admitted task (length before) (hit_count task ∷ []) a.accepts in
     let h = words_hold task before q l.few_hits l.many_words in
     record {
@@ -128,7 +128,7 @@ module _ (work : List ℕ) (budget : ℕ) where
   few_promise l = record {
     few = λ e. (refl, refl);
     bad = λ e f. clash (lt-ltb (length work) work_words l) e;
-    session = λ task before q a k e. absurd (let s = in-session task before q work a e in omega (arith, s.number));
+    session = λ task before q a k e. absurd (let s = in_session task before q work a e in omega (arith, s.number));
     number = refl;
     beyond = refl;
   }
@@ -139,7 +139,7 @@ module _ (work : List ℕ) (budget : ℕ) where
     bad_promise b = record {
       few = λ e. clash e (le-ltb (length work) work_words l);
       bad = λ e f. (refl, refl);
-      session = λ task before q a k e. clash b (good_session task before q work (in-session task before q work a e) k);
+      session = λ task before q a k e. clash b (good_session task before q work (in_session task before q work a e) k);
       number = refl;
       beyond = refl;
     }
@@ -151,7 +151,7 @@ module _ (work : List ℕ) (budget : ℕ) where
       lost_promise out = record {
         few = λ e. clash e (le-ltb (length work) work_words l);
         bad = λ e f. clash f good;
-        session = λ task before q a k e. absurd (lost task before q (in-session task before q work a e) out);
+        session = λ task before q a k e. absurd (lost task before q (in_session task before q work a e) out);
         number = refl;
         beyond = refl;
       }
@@ -175,7 +175,7 @@ module _ (work : List ℕ) (budget : ℕ) where
       by_rule walk kept rule = record {
         few = λ e. clash e (le-ltb (length work) work_words l);
         bad = λ e f. clash f good;
-        session = λ task before q a k e. ruled task before q a k (in-session task before q work a e);
+        session = λ task before q a k e. ruled task before q a k (in_session task before q work a e);
         number = kept.number;
         beyond = kept.beyond;
       }

@@ -299,8 +299,8 @@ module _ (task : Task) (limited : Limited task) (threshold_fits : ThresholdFits 
       abbrev h : HoldsTables task before q (suc j) work
       h = s.tables
 
-      abbrev in-column : j < hit_count task
-      in-column = s.at.0
+      abbrev in_column : j < hit_count task
+      in_column = s.at.0
 
       starts_at : At task j row q m highest (part_of work)
       starts_at = record {
@@ -314,15 +314,15 @@ module _ (task : Task) (limited : Limited task) (threshold_fits : ThresholdFits 
       column_chunk left =
           let n = min left (suc j - row) in
           let e : row + min left (suc j - row) - row ≡ min left (suc j - row) = omega arith in
-          rw (line_is q (suc j) j work in-column h)
-          (rw e at (blocks_chunk task limited threshold_fits small j in-column n (row + n) row q m highest (part_of work) (omega arith)
+          rw (line_is q (suc j) j work in_column h)
+          (rw e at (blocks_chunk task limited threshold_fits small j in_column n (row + n) row q m highest (part_of work) (omega arith)
           (omega (arith, s.at.1)) (omega arith) starts_at))
 
       cell_chunk : Chunk task j row 1 q (part_of work) (cell_update (terms_of task) j row m highest work)
       unfolding cell_update
       cell_chunk =
-          rw (line_is q (suc j) j work in-column h)
-          (rows_chunk task limited threshold_fits small j in-column 1 row q m highest (part_of work) (omega (arith, s.at.1)) starts_at)
+          rw (line_is q (suc j) j work in_column h)
+          (rows_chunk task limited threshold_fits small j in_column 1 row q m highest (part_of work) (omega (arith, s.at.1)) starts_at)
 
     -- ---- a walk
 

@@ -88,11 +88,11 @@ module _ (task : Task) (limited : Limited task) where
           rw z (right_end 0 0 l (le_refl 0) 0 e)
       go (suc j) l true t =
           let a = b * block_rows in
-          let in-column : b * block_rows ≤ suc j = leb-true (b * block_rows) (suc j) t in
+          let in_column : b * block_rows ≤ suc j = leb-true (b * block_rows) (suc j) t in
           let k = code_in (suc j) l in
           let e : shared p (interval g (b * block_rows) (suc j)) ≡ bit (leb (back p g (suc j)) (b * block_rows)) + shared p (interval g (b * block_rows) j) =
-          shared_right_end p g (b * block_rows) j in-column k ∙ rw (← back_test p g (hit_codes_in task) (b * block_rows) (suc j) in-column k) in
-          right_end (suc j) (b * block_rows) l in-column (shared p (interval g (b * block_rows) j)) e
+          shared_right_end p g (b * block_rows) j in_column k ∙ rw (← back_test p g (hit_codes_in task) (b * block_rows) (suc j) in_column k) in
+          right_end (suc j) (b * block_rows) l in_column (shared p (interval g (b * block_rows) j)) e
       go zero l false t = behind 0 (b * block_rows) (leb-false (b * block_rows) 0 t)
       go (suc j) l false t =
           let c : suc j < b * block_rows = leb-false (b * block_rows) (suc j) t in

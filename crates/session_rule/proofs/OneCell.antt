@@ -67,8 +67,8 @@ module _ (task : Task) (limited : Limited task) (threshold_fits : ThresholdFits 
   row_in : i < hit_count task
   row_in = omega arith
 
-  in-best : i < length (best_after task q)
-  in-best = subst (λ (n : ℕ). i < n) (sym (length_best_after task q)) row_in
+  in_best : i < length (best_after task q)
+  in_best = subst (λ (n : ℕ). i < n) (sym (length_best_after task q)) row_in
 
   abbrev score : ℕ
   score = score_in task j i m highest part
@@ -90,7 +90,7 @@ module _ (task : Task) (limited : Limited task) (threshold_fits : ThresholdFits 
   score_at_lem = rw ((at.known a).0, at.holds.index_word i row_in) (score_is task limited small i j a l)
 
   seen_at_lem : seen ≡ top
-  seen_at_lem = rw ((at.known a).1, at.holds.best_word i row_in) (sym (before_suc (order_of task) (task_order task) (least task) (best_after task q) i in-best))
+  seen_at_lem = rw ((at.known a).1, at.holds.best_word i row_in) (sym (before_suc (order_of task) (task_order task) (least task) (best_after task q) i in_best))
 
   matter_at_lem : matter ≡ order_of task top (score_at task i j)
   matter_at_lem = rw (seen_at_lem, (at.known a).0, at.holds.index_word i row_in) (matters_is task limited i j top a l)
@@ -134,7 +134,7 @@ module _ (task : Task) (limited : Limited task) (threshold_fits : ThresholdFits 
       go false t =
           rw (set_best t)
           (greater_second (order_of task) (task_order task) top (score_at task i j) t
-          ∙ sym (record_own (order_of task) (task_order task) (least task) (best_after task q) i (score_at task i j) in-best t))
+          ∙ sym (record_own (order_of task) (task_order task) (least task) (best_after task q) i (score_at task i j) in_best t))
 
   -- the part with the record in it
   module _ (t : order_of task (score_at task i j) top ≡ false) where
@@ -164,7 +164,7 @@ module _ (task : Task) (limited : Limited task) (threshold_fits : ThresholdFits 
             rw e
             (get_or-set_other inner (top_at block) (best_at i) raised 0 (λ f. omega arith)
             ∙ get_or-set_same part (best_at i) (score_at task i j) 0 (rw at.holds.number (omega arith))
-            ∙ sym (get_or-set_same (best_after task q) i (score_at task i j) 0 in-best))
+            ∙ sym (get_or-set_same (best_after task q) i (score_at task i j) 0 in_best))
         go (inr n) =
             other_word (best_at r) (λ f. n (omega arith)) (λ f. omega arith)
             ∙ at.holds.best_word r k
@@ -180,7 +180,7 @@ module _ (task : Task) (limited : Limited task) (threshold_fits : ThresholdFits 
             rw e
             (get_or-set_same inner (top_at block) raised 0 long
             ∙ ap (greater (order_of task) (score_at task i j)) (at.holds.top_word block few_blocks)
-            ∙ sym (record_top (order_of task) (task_order task) (least task) (best_after task q) i (score_at task i j) in-best t block
+            ∙ sym (record_top (order_of task) (task_order task) (least task) (best_after task q) i (score_at task i j) in_best t block
             (in_block i).0 (in_block i).1))
         go (inr n) =
             other_word (top_at b) (λ f. omega arith) (λ f. n (omega arith))

@@ -90,8 +90,8 @@ module _ (task : Task) (limited : Limited task) (threshold_fits : ThresholdFits 
   -- each cell of the rest scores at most the bound
   bounded : (k : ℕ) → i ≤ k → k < end → order_of task (score_at task k j) most ≡ true
   bounded k b c =
-      let in-column : k ≤ j = omega (arith, last_in) in
-      rw (score_by task limited k j in-column l)
+      let in_column : k ≤ j = omega (arith, last_in) in
+      rw (score_by task limited k j in_column l)
       (bound-law (order_of task) (task_order task) (words_monotone task.scoring (length task.pattern)) (λ (r : ℕ). shared_at task r j)
       (λ (r : ℕ). get_or (hits task) r 0) (get_or (hits task) j 0) i k (end - 1)
       (λ r s p o. shared_falls task limited r s j p (omega (arith, last_in)) l)

@@ -21,8 +21,8 @@ use Rattle.sketch.specs.Replies.{checked_letters, room_for, sketch_reply, sketch
 -- the entries answered are those needed, and both buffers hold them
 pub record Held (n codeRoom positionRoom m : ℕ) : Type 0 where
   pub number : m ≡ n
-  pub in-codes : m ≤ codeRoom
-  pub in-positions : m ≤ positionRoom
+  pub in_codes : m ≤ codeRoom
+  pub in_positions : m ≤ positionRoom
 
 pub room_held : (n a b m : ℕ) → room_for n a b ≡ accepted (m ∷ []) → Held n a b m
 unfolding room_for
@@ -33,8 +33,8 @@ room_held n a b m e =
     let short = or_neither (ltb a n) (ltb b n) p.0 in
     record {
       number = same;
-      in-codes = rw same (ltb-false a n short.0);
-      in-positions = rw same (ltb-false b n short.1);
+      in_codes = rw same (ltb-false a n short.0);
+      in_positions = rw same (ltb-false b n short.1);
     }
 
 pub sketch_held : (k w : ℕ) (letters : List ℕ) (a b m : ℕ) → sketch_reply k w letters a b ≡ accepted (m ∷ [])

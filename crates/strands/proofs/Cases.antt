@@ -30,7 +30,7 @@ pub record ComplementExamples : Type 0 where
   pub forward : read_on Forward (65 ∷ 99 ∷ []) ≡ 65 ∷ 99 ∷ []
   pub reverse : read_on Reverse (65 ∷ 99 ∷ []) ≡ 71 ∷ 84 ∷ []
   -- what the laws speak of: acgtNn in upper case, and the run ACC on the other strand, GGT
-  pub in-upper-case : map upper (97 ∷ 99 ∷ 103 ∷ 116 ∷ 78 ∷ 110 ∷ []) ≡ 65 ∷ 67 ∷ 71 ∷ 84 ∷ 78 ∷ 110 ∷ []
+  pub in_upper_case : map upper (97 ∷ 99 ∷ 103 ∷ 116 ∷ 78 ∷ 110 ∷ []) ≡ 65 ∷ 67 ∷ 71 ∷ 84 ∷ 78 ∷ 110 ∷ []
   pub run_back : opposite (0 ∷ 1 ∷ 1 ∷ []) ≡ 2 ∷ 2 ∷ 3 ∷ []
   -- ACCNG has the runs ACC and G, and its complement C and GGT
   pub run_order : runs (reverse_complement (65 ∷ 67 ∷ 67 ∷ 78 ∷ 71 ∷ [])) ≡ (1 ∷ []) ∷ (2 ∷ 2 ∷ 3 ∷ []) ∷ []
@@ -47,7 +47,7 @@ complement_examples =
       again = refl;
       forward = refl;
       reverse = refl;
-      in-upper-case = refl;
+      in_upper_case = refl;
       run_back = refl;
       run_order = refl;
     }

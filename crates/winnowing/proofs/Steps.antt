@@ -144,12 +144,12 @@ rank_small k q letters = mod-lt (code_at k letters q * 2654435761) (lit< tt)
 -- no rank is read yet
 pub scanned_none : (last base : ℕ) (letters ranks : List ℕ) (at code : ℕ) → length ranks ≡ ranks_size → base ≤ at → InHand last letters at code
     → Scanned last base letters ranks at at code
-scanned_none last base letters ranks at code sized begins in-hand = record {
+scanned_none last base letters ranks at code sized begins in_hand = record {
   sized = sized;
   reaches = omega arith;
   ranked = λ q a b. absurd (omega arith);
   small = λ q a b. absurd (omega arith);
-  in-hand = in-hand;
+  in_hand = in_hand;
 }
 
 -- what is known of the ranks from a position on is known from a later one on
@@ -160,13 +160,13 @@ scanned_later last base letters ranks first first' at code is h = record {
   reaches = omega (arith, is.reaches);
   ranked = λ q a b. is.ranked q (omega arith) b;
   small = λ q a b. is.small q (omega arith) b;
-  in-hand = is.in-hand;
+  in_hand = is.in_hand;
 }
 
 module _ (last base : ℕ) (letters ranks : List ℕ) (first at code r code' : ℕ) (is : Scanned last base letters ranks first at code)
     (begins : base ≤ at + last)
     (ends : at + last < base + block_size) (ranked : r ≡ rank_at (suc last) letters at) (small : code_at (suc last) letters at < 4 ^ k_limit)
-    (in-hand : InHand last letters (at + 1) code') where
+    (in_hand : InHand last letters (at + 1) code') where
   abbrev new : List ℕ
   new = set ranks (slot_of last base at) r
 
@@ -178,7 +178,7 @@ module _ (last base : ℕ) (letters ranks : List ℕ) (first at code r code' : �
     ranked = λ q c d. below_more (λ (x : ℕ). first ≤ x → get_or new (slot_of last base x) 0 ≡ rank_at (suc last) letters x) at old here q (omega arith) c;
     small = λ q c d.
         below_more (λ (x : ℕ). first ≤ x → code_at (suc last) letters x < 4 ^ k_limit) at (λ x l m. is.small x m l) (λ m. small) q (omega arith) c;
-    in-hand = in-hand;
+    in_hand = in_hand;
   }
     where
       old : (q : ℕ) → q < at → first ≤ q → get_or new (slot_of last base q) 0 ≡ rank_at (suc last) letters q
@@ -201,5 +201,5 @@ scanned_carried last base letters ranks ranks' first at code is carried end few 
       let there : block_size + slot_of last (at + last) q ≡ slot_of last base q = omega (arith, is.reaches) in
       carried.carried (slot_of last (at + last) q) (omega arith) ∙ ap (λ (i : ℕ). get_or ranks i 0) there ∙ is.ranked q a b;
   small = is.small;
-  in-hand = is.in-hand;
+  in_hand = is.in_hand;
 }

@@ -42,7 +42,7 @@ pub record Scanned (last base : ℕ) (letters ranks : List ℕ) (first at code :
   pub reaches : base ≤ first + last + back_size
   pub ranked : (x : ℕ) → first ≤ x → x < at → get_or ranks (slot_of last base x) 0 ≡ rank_at (suc last) letters x
   pub small : (x : ℕ) → first ≤ x → x < at → code_at (suc last) letters x < 4 ^ k_limit
-  pub in-hand : InHand last letters at code
+  pub in_hand : InHand last letters at code
 
 -- the k-mers of a run's first window are read, or all of the run where they are fewer
 pub record Filled (last base w : ℕ) (letters ranks : List ℕ) (from at code : ℕ) : Type 0 where

@@ -32,7 +32,7 @@ returns-3 c = simp (le-ltb _ _ c.if-len-m.false, le-ltb _ _ c.if-size-m.false, l
 returns-4 : tie.Need-returns-then-size-gt-PATTERN_LIMIT
 unfolding per_mille_number is_refused
 returns-4 c =
-    let first = c.before.before.before in
+    let first = c in
     simp (
       le-ltb _ _ first.if-len-m.false,
       le-ltb _ _ c.if-size-m.false,
@@ -66,7 +66,7 @@ module _ (m len size : ℕ) (in_len : m ≤ len) (in_size : m ≤ size) (len-fit
 
 returns-5 : tie.Need-returns-then-len-size-eq0
 returns-5 c =
-    let third = c.before.before in
+    let third = c in
     both_zero _ _ _ third.if-len-m.false third.if-size-m.false third.if-len-gt-TEXT_LIMIT.false c.if-size-gt-PATTERN_LIMIT.false c.if-len-size-eq0.true
 
 mul-nearest : tie.Need-overflow_mul-m
@@ -98,7 +98,7 @@ module _ (c : tie.After-nearest) where
   computed-is : (c.nearest.result < 2 ^ 31) × (to_z w32 c.nearest.result ≡ per_mille_number entry.args.m entry.args.len entry.args.size)
   computed-is =
       subst (λ (x : ℕ). (x < 2 ^ 31) × (to_z w32 x ≡ per_mille_number entry.args.m entry.args.len entry.args.size)) (sym computed)
-      (accepted _ _ _ first.if-len-m.false third.if-size-m.false third.if-len-gt-TEXT_LIMIT.false c.if-size-gt-PATTERN_LIMIT.false c.if-len-size-eq0.false)
+      (accepted _ _ _ first.if1.left third.if2.left third.if3.left c.if-size-gt-PATTERN_LIMIT.false c.if-len-size-eq0.false)
 
 cast-result : tie.Need-overflow_cast-result
 cast-result c = record { sfits = (computed-is c).0 }

@@ -8,7 +8,7 @@ use mathlib.Core.List.{List, [], ◌∷◌}
 use lib.ListN.{length, drop, get_or}
 use lib.Dec.{ltb}
 use borrow.Author.Rules.{rules}
-use borrow.Author.Tests.{lt-ltb, ltb-false, not-true, not-false}
+use borrow.Author.Tests.{lt-ltb, ltb-false, not_true, not-false}
 use Rattle.base.specs.Replies.{Reply, refused, after}
 use Rattle.base.proofs.Lists.{or_left, or_right}
 use Rattle.base.specs.Limits.{k_limit}
@@ -24,28 +24,28 @@ use Rattle.store_load.proofs.load.Statement.{statement}
 use Rattle.store_load.proofs.load.Tie as tie
 
 -- places, each named for where it leads and from where
-abbrev entry-shared-slice-known : tie.After-shared-slice-known → tie.Start
+abbrev entry-shared-slice-known : tie.After-shared_slice_known-1 → tie.Start
 entry-shared-slice-known c = c.before
 
-abbrev entry-else1 : tie.Else1 → tie.Start
-entry-else1 c = entry-shared-slice-known c.before.before.before
+abbrev entry-else1 : tie.Else-words-eq0 → tie.Start
+entry-else1 c = c.before.before.before.before
 
-abbrev entry-else2 : tie.Else2 → tie.Start
-entry-else2 c = entry-else1 c.before.before.before
+abbrev entry-else2 : tie.Else-not-is_header → tie.Start
+entry-else2 c = c.before.before.before.before.before.before.before
 
-abbrev else1-else2 : tie.Else2 → tie.Else1
+abbrev else1-else2 : tie.Else-not-is_header → tie.Else-words-eq0
 else1-else2 c = c.before.before.before
 
-abbrev entry-header-k : tie.After-header-k → tie.Start
-entry-header-k c = entry-else2 c.before
+abbrev entry-header-k : tie.After-header_k-k → tie.Start
+entry-header-k c = c.before.before.before.before.before.before.before.before
 
-abbrev entry-turn-match-keys3 : tie.At-match-keys3 → tie.Start
-entry-turn-match-keys3 c = entry-header-k c.before.before.before
+abbrev entry-turn-match-keys3 : tie.In-Good-1 → tie.Start
+entry-turn-match-keys3 c = c.before.before.before.before.before.before.before.before.before.before.before
 
-abbrev header-w-turn-match-keys3 : tie.At-match-keys3 → tie.After-header-w
+abbrev header-w-turn-match-keys3 : tie.In-Good-1 → tie.After-header_w-w
 header-w-turn-match-keys3 c = c.before.before
 
-abbrev read_codes : tie.After-codes → tie.After-read
+abbrev read_codes : tie.After-codes-1 → tie.After-read
 read_codes c = c.before
 
 module _ (ws cs ps : List ℕ) where
@@ -82,77 +82,77 @@ module _ (ws cs ps : List ℕ) where
       ap (λ (j : Judged). judged_reply (store_k ws) (store_w ws) j (length cs) (length ps)) e
       ∙ ap (λ (m : ℕ). load_room (store_k ws) (store_w ws) m (length cs) (length ps)) size
 
-returns : tie.Need-returns
+returns : tie.Need-returns-then-words-eq0
 returns c =
-    let a = (entry-shared-slice-known c.before.before.before).args in
-    judged_bad a.words.now a.codes.now a.positions.now (judge_empty a.words.now c.if1.true)
+    let a = c.args in
+    judged_bad a.words.now a.codes.now a.positions.now (judge_empty a.words.now c.if-words-eq0.true)
 
-shared-slice-read-header : tie.Need-shared-slice-read-header
+shared-slice-read-header : tie.Need-bounds-words-0
 shared-slice-read-header c = search rules
 
-is-header-requires : tie.Need-is-header-requires
+is-header-requires : tie.Need-is_header-requires
 is-header-requires c κs = search rules
 
-returns-2 : tie.Need-returns-2
+returns-2 : tie.Need-returns-then-not-is_header
 returns-2 c =
-    let a = (entry-else1 c.before.before.before).args in
+    let a = c.args in
     judged_bad a.words.now a.codes.now a.positions.now
-    (judge_no_header a.words.now (sym c.before.is-header.ensures ∙ not-true c.before.is-header.result c.if2.true))
+    (judge_no_header a.words.now (sym c.is_header.ensures ∙ not_true c.is_header.result c.if-not-is_header.true))
 
-header-k-requires : tie.Need-header-k-requires
+header-k-requires : tie.Need-header_k-k-requires
 header-k-requires c κs = search rules
 
-header-w-requires : tie.Need-header-w-requires
+header-w-requires : tie.Need-header_w-w-requires
 header-w-requires c κs = search rules
 
 -- word 0 is there, and is one
-header-good : (c : tie.Else2) → is_header (get_or (entry-else2 c).args.words.now 0 0) ≡ true
-header-good c = sym c.before.is-header.ensures ∙ not-false c.before.is-header.result c.if2.false
+header-good : (c : tie.Else-not-is_header) → is_header (get_or c.args.words.now 0 0) ≡ true
+header-good c = sym c.is_header.ensures ∙ not-false c.is_header.result c.if-not-is_header.false
 
 judge-requires : tie.Need-judge-requires
 judge-requires c κs =
     let d = c.before.before in
     let x = get_or (entry-else2 d).args.words.now 0 0 in
     let k_high : header_k x ≤ k_limit = (is_header_holds x (header-good d)).k_high in
-    (search rules, rw c.before.header-k.ensures k_high)
+    (search rules, rw c.header_k-k.ensures k_high)
 
 -- what the call of judge found is what judging all words finds
 found :
     (c : tie.After-judge) →
-    verdict_reply c.judge.result ≡ counted 0 (judge (entry-else2 c.before.before.before).args.words.now)
+    verdict_reply c.judge.result ≡ counted 0 (judge c.args.words.now)
 found c =
     let d = c.before.before.before in
     let ws = (entry-else2 d).args.words.now in
     let some : 1 ≤ length ws = search rules in
     c.judge.ensures
-    ∙ ap (counted 0) (ap (λ (k : ℕ). judge_from k 1 0 0 (drop 1 ws)) c.before.before.header-k.ensures ∙ sym (judge_header ws some (header-good d)))
+    ∙ ap (counted 0) (ap (λ (k : ℕ). judge_from k 1 0 0 (drop 1 ws)) c.header_k-k.ensures ∙ sym (judge_header ws some (header-good d)))
 
-enum-known-index : tie.Need-enum-known-index
+enum-known-index : tie.Need-enum_known-index
 enum-known-index c = search rules
 
-enum-known-index-2 : tie.Need-enum-known-index-2
+enum-known-index-2 : tie.Need-enum_known-index-in-BadEnd-1
 enum-known-index-2 c = search rules
 
-enum-known-entries : tie.Need-enum-known-entries
+enum-known-entries : tie.Need-enum_known-entries
 enum-known-entries c = search rules
 
 -- the entries that the call of judge found
 loads :
-    (c : tie.After-known-told3) →
-    let es = entries_of (judge (entry-turn-match-keys3 c.before.before).args.words.now) in
-    (judge (entry-turn-match-keys3 c.before.before).args.words.now ≡ good es)
-    × (length es ≡ c.before.entries.given.0.0)
-loads c = counted_good _ (sym (ap verdict_reply c.before.entries.given.1) ∙ found c.before.before.before)
+    (c : tie.In-Good) →
+    let es = entries_of (judge c.args.words.now) in
+    (judge c.args.words.now ≡ good es)
+    × (length es ≡ c.in-Good.is.0.0)
+loads c = counted_good _ (sym (ap verdict_reply c.in-Good.is.1) ∙ found c.before.before.before)
 
-returns-3 : tie.Need-returns-3
+returns-3 : tie.Need-returns-then-codes-entries
 unfolding load_room
 returns-3 c =
     let d = c.before in
     let a = (entry-turn-match-keys3 d.before.before).args in
-    let n = d.before.entries.given.0.0 in
+    let n = d.in-Good.is.0.0 in
     let loaded = loads d in
     let short : (ltb (length a.codes.now) n || ltb (length a.positions.now) n) ≡ true =
-    ⊎_elim (λ w. or_left _ (lt-ltb _ _ w.taken)) (λ w. or_right (ltb (length a.codes.now) n) w.1.taken) c.if3.branch
+    ⊎_elim (λ w. or_left _ (lt-ltb _ _ w.true)) (λ w. or_right (ltb (length a.codes.now) n) w.1.true) c.then-codes-entries.branch
     in
     refusal a.words.now a.codes.now a.positions.now
     (judged_good a.words.now a.codes.now a.positions.now n loaded.0 loaded.1 ∙ rw short)
@@ -161,29 +161,29 @@ read-requires : tie.Need-read-requires
 read-requires c κs =
     let e = c.before.before in
     let loaded = loads e.before.before in
-    (loaded.0, (loaded.1, (e.before.if3.false, ltb-false _ _ e.if4.false)))
+    (loaded.0, (loaded.1, (e.then-codes-entries.false, ltb-false _ _ e.if-positions-entries.false)))
 
-returns-4 : tie.Need-returns-4
+returns-4 : tie.Need-returns-in-BadWord
 returns-4 c =
     let d = c.before.before.before in
     let a = (entry-else2 d.before.before.before).args in
     judged_bad a.words.now a.codes.now a.positions.now
-    (counted_bad 0 (judge a.words.now) (sym (ap verdict_reply c.before.index.given.1) ∙ found d))
+    (counted_bad 0 (judge a.words.now) (sym (ap verdict_reply c.in-BadWord.is.1) ∙ found d))
 
-returns-5 : tie.Need-returns-5
+returns-5 : tie.Need-returns-in-BadEnd
 returns-5 c =
     let d = c.before.before.before in
     let a = (entry-else2 d.before.before.before).args in
     judged_bad a.words.now a.codes.now a.positions.now
-    (counted_bad 0 (judge a.words.now) (sym (ap verdict_reply c.before.index2.given.1) ∙ found d))
+    (counted_bad 0 (judge a.words.now) (sym (ap verdict_reply c.in-BadEnd.is.1) ∙ found d))
 
-same_length : tie.Need-same-length
+same_length : tie.Need-shape_of-codes
 same_length c = search rules
 
-same-length-2 : tie.Need-same-length-2
+same-length-2 : tie.Need-shape_of-positions
 same-length-2 c = search rules
 
-returns-6 : tie.Need-returns-6
+returns-6 : tie.Need-returns-else-positions-entries
 returns-6 c =
     let r = read_codes c.before.before.before in
     let e = r.before.before.before in
@@ -194,38 +194,21 @@ returns-6 c =
     let cs = s.args.codes.now in
     let ps = s.args.positions.now in
     let es = entries_of (judge ws) in
-    let some : 1 ≤ length ws = omega (arith, (else1-else2 h.before.before).if1.false) in
+    let some : 1 ≤ length ws = omega (arith, (else1-else2 h.before.before).if-words-eq0.false) in
     let found-entries = loads d in
     let loaded : Loads ws es (length cs) (length ps) = record {
       judged = found-entries.0;
-      code_enough = rw found-entries.1 e.before.if3.left;
-      position_enough = rw found-entries.1 (ltb-false _ _ e.if4.left);
+      code_enough = rw found-entries.1 e.then-codes-entries.left;
+      position_enough = rw found-entries.1 (ltb-false _ _ e.if-positions-entries.false);
     } in
     let fills = load_fills ws cs ps es loaded in (
       sym
           (load_accepts ws (length cs) (length ps) es loaded
-          ∙ rw (found-entries.1, store_k_header ws some, store_w_header ws some, ← h.before.header-k.ensures, ← h.header-w.ensures)),
+          ∙ rw (found-entries.1, store_k_header ws some, store_w_header ws some, ← h.header_k-k.ensures, ← h.header_w-w.ensures)),
       (r.read.ensures.0 ∙ sym fills.0, r.read.ensures.1 ∙ sym fills.1),
     )
 
 pub load_spec : {M : Type 1} → statement M
 load_spec =
     tie.close
-    (tie.spec
-    returns
-    shared-slice-read-header
-    is-header-requires
-    returns-2
-    header-k-requires
-    header-w-requires
-    judge-requires
-    enum-known-index
-    enum-known-index-2
-    enum-known-entries
-    returns-3
-    read-requires
-    returns-4
-    returns-5
-    same_length
-    same-length-2
-    returns-6)
+    (tie.spec returns shared-slice-read-header is-header-requires returns-2 header-k-requires header-w-requires judge-requires enum-known-index enum-known-index-2 enum-known-entries returns-3 read-requires returns-4 returns-5 same_length same-length-2 returns-6)

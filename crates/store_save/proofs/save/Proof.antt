@@ -6,7 +6,7 @@ use mathlib.Core.List.{List, [], ◌∷◌}
 use lib.ListN.{length}
 use lib.Dec.{eqb}
 use borrow.Author.Rules.{rules}
-use borrow.Author.Tests.{lt-ltb, eq-eqb, ne_eqb, not-true, not-false}
+use borrow.Author.Tests.{lt-ltb, eq-eqb, ne_eqb, not_true, not-false}
 use Rattle.base.specs.Replies.{Reply, accepted, refused, after}
 use Rattle.base.specs.Limits.{k_limit, w_limit, outside}
 use Rattle.kmers.specs.Kmers.{entries}
@@ -18,16 +18,16 @@ use Rattle.store_save.proofs.save.Statement.{statement}
 use Rattle.store_save.proofs.save.Tie as tie
 
 -- places, each named for where it leads and from where
-abbrev entry-shared-slice-known2 : tie.After-shared-slice-known2 → tie.Start
+abbrev entry-shared-slice-known2 : tie.After-shared_slice_known-2-1 → tie.Start
 entry-shared-slice-known2 c = c.before.before
 
-abbrev entry-else1 : tie.Else1 → tie.Start
-entry-else1 c = entry-shared-slice-known2 c.before.before.before
+abbrev entry-else1 : tie.Else-outside → tie.Start
+entry-else1 c = c.before.before.before.before.before
 
-abbrev entry-else2 : tie.Else2 → tie.Start
-entry-else2 c = entry-else1 c.before.before
+abbrev entry-else2 : tie.Else-outside-2 → tie.Start
+entry-else2 c = c.before.before.before.before.before.before.before
 
-abbrev else5-write-arg : tie.After-write-arg → tie.Else5
+abbrev else5-write-arg : tie.After-write-arg-1 → tie.Else-words-needed
 else5-write-arg c = c.before
 
 -- a refusal changes nothing
@@ -41,77 +41,77 @@ refusal k w cs ps ws e = (sym e, sym (ap (λ (r : Reply). after r (stored k w (e
 outside-requires : tie.Need-outside-requires
 outside-requires c κs = search rules
 
-returns : tie.Need-returns
+returns : tie.Need-returns-then-outside
 unfolding save_reply
 returns c =
-    let a = (entry-shared-slice-known2 c.before.before.before).args in
-    refusal a.k a.w a.codes.now a.positions.now a.words.now (rw (sym c.before.outside.ensures ∙ c.if1.true))
+    let a = c.args in
+    refusal a.k a.w a.codes.now a.positions.now a.words.now (rw (sym c.outside.ensures ∙ c.if-outside.true))
 
 outside-requires-2 : tie.Need-outside-requires-2
 outside-requires-2 c κs = search rules
 
-k_inside : (c : tie.Else1) → outside 1 k_limit (entry-else1 c).args.k ≡ false
-k_inside c = sym c.before.outside.ensures ∙ c.if1.false
+k_inside : (c : tie.Else-outside) → outside 1 k_limit c.args.k ≡ false
+k_inside c = sym c.outside.ensures ∙ c.if-outside.false
 
-returns-2 : tie.Need-returns-2
+returns-2 : tie.Need-returns-then-outside-2
 unfolding save_reply
 returns-2 c =
     let d = c.before.before in
     let a = (entry-else1 d).args in
-    refusal a.k a.w a.codes.now a.positions.now a.words.now (rw (k_inside d, sym c.before.outside2.ensures ∙ c.if2.true))
+    refusal a.k a.w a.codes.now a.positions.now a.words.now (rw (k_inside d, sym c.outside-2.ensures ∙ c.if-outside-2.true))
 
-w_inside : (c : tie.Else2) → outside 1 w_limit (entry-else1 c.before.before).args.w ≡ false
-w_inside c = sym c.before.outside2.ensures ∙ c.if2.false
+w_inside : (c : tie.Else-outside-2) → outside 1 w_limit c.args.w ≡ false
+w_inside c = sym c.outside-2.ensures ∙ c.if-outside-2.false
 
-returns-3 : tie.Need-returns-3
+returns-3 : tie.Need-returns-then-codes-positions
 unfolding save_reply
 returns-3 c =
     let d = c.before.before.before in
     let a = (entry-else1 d).args in
     refusal a.k a.w a.codes.now a.positions.now a.words.now
-    (rw (k_inside d, w_inside c.before, ne_eqb (length a.codes.now) (length a.positions.now) c.if3.true))
+    (rw (k_inside d, w_inside c.before, ne_eqb (length a.codes.now) (length a.positions.now) c.if-codes-positions.true))
 
-are-storable-requires : tie.Need-are-storable-requires
+are-storable-requires : tie.Need-are_storable-requires
 are-storable-requires c κs =
     let d = c.before.before.before in
-    ((inside_range 1 k_limit (entry-else1 d).args.k (k_inside d)).1, c.if3.false)
+    ((inside_range 1 k_limit (entry-else1 d).args.k (k_inside d)).1, c.if-codes-positions.false)
 
-same_size : (c : tie.Else3) → let a = (entry-else1 c.before.before.before).args in eqb (length a.codes.now) (length a.positions.now) ≡ true
-same_size c = eq-eqb _ _ c.if3.false
+same_size : (c : tie.Else-codes-positions) → let a = c.args in eqb (length a.codes.now) (length a.positions.now) ≡ true
+same_size c = eq-eqb _ _ c.if-codes-positions.false
 
-returns-4 : tie.Need-returns-4
+returns-4 : tie.Need-returns-then-not-are_storable
 unfolding save_reply
 returns-4 c =
     let e = c.before.before in
     let d = e.before.before.before in
     let a = (entry-else1 d).args in
     let no-good : storable a.k 0 (entries a.codes.now a.positions.now) ≡ false =
-    sym c.before.are-storable.ensures ∙ not-true c.before.are-storable.result c.if4.true
+    sym c.are_storable.ensures ∙ not_true c.are_storable.result c.if-not-are_storable.true
     in
     refusal a.k a.w a.codes.now a.positions.now a.words.now (rw (k_inside d, w_inside e.before, same_size e, no-good))
 
-mul-needed : tie.Need-overflow-mul-needed
+mul-needed : tie.Need-overflow_mul-needed
 mul-needed c = search rules
 
-add-needed : tie.Need-overflow-add-needed
+add-needed : tie.Need-overflow_add-needed
 add-needed c = search rules
 
 entries_good :
-    (c : tie.Else4) →
-    let a = (entry-else2 c.before.before.before).args in
+    (c : tie.Else-not-are_storable) →
+    let a = c.args in
     storable a.k 0 (entries a.codes.now a.positions.now) ≡ true
-entries_good c = sym c.before.are-storable.ensures ∙ not-false c.before.are-storable.result c.if4.false
+entries_good c = sym c.are_storable.ensures ∙ not-false c.are_storable.result c.if-not-are_storable.false
 
 size :
-    (c : tie.Else3) →
-    let a = (entry-else1 c.before.before.before).args in
+    (c : tie.Else-codes-positions) →
+    let a = c.args in
     length (stored a.k a.w (entries a.codes.now a.positions.now)) ≡ 2 * length a.codes.now + 2
 size c =
-    let a = (entry-else1 c.before.before.before).args in
+    let a = c.args in
     length_stored a.k a.w (entries a.codes.now a.positions.now)
-    ∙ ap (λ (n : ℕ). 2 * n + 2) (length_entries a.codes.now a.positions.now c.if3.false)
+    ∙ ap (λ (n : ℕ). 2 * n + 2) (length_entries a.codes.now a.positions.now c.if-codes-positions.false)
 
-returns-5 : tie.Need-returns-5
+returns-5 : tie.Need-returns-then-words-needed
 unfolding save_reply
 returns-5 c =
     let f = c.before in
@@ -125,7 +125,7 @@ returns-5 c =
       same_size e,
       entries_good f,
       size e,
-      lt-ltb (length a.words.now) (2 * length a.codes.now + 2) c.if5.true,
+      lt-ltb (length a.words.now) (2 * length a.codes.now + 2) c.if-words-needed.true,
     ))
 
 write-requires : tie.Need-write-requires
@@ -136,18 +136,18 @@ write-requires c κs =
     let a = (entry-else1 d).args in (
       ((inside_range 1 k_limit a.k (k_inside d)).1, (inside_range 1 w_limit a.w (w_inside e.before)).1),
       (
-        e.if3.false,
+        e.if-codes-positions.false,
         (
           entries_good f,
-          c.before.if5.false,
+          c.if-words-needed.false,
         ),
       ),
     )
 
-same_length : tie.Need-same-length
+same_length : tie.Need-shape_of-words
 same_length c = search rules
 
-returns-6 : tie.Need-returns-6
+returns-6 : tie.Need-returns
 returns-6 c =
     let g = else5-write-arg c.before.before.before in
     let f = g.before in
@@ -157,29 +157,16 @@ returns-6 c =
     let savable : Savable a.k a.w a.codes.now a.positions.now (length a.words.now) = record {
       k_inside = k_inside d;
       w_inside = w_inside e.before;
-      paired = e.if3.left;
+      paired = e.if-codes-positions.false;
       entries_good = entries_good f;
-      enough = rw (size e) g.if5.left;
+      enough = rw (size e) g.if-words-needed.false;
     } in (
       sym (save_accepts a.k a.w a.codes.now a.positions.now (length a.words.now) savable
           ∙ ap (λ (n : ℕ). accepted (n ∷ [])) (size e)),
-      c.before.before.write.ensures ∙ sym (save_fills a.k a.w a.codes.now a.positions.now a.words.now savable),
+      c.write.ensures ∙ sym (save_fills a.k a.w a.codes.now a.positions.now a.words.now savable),
     )
 
-pub save-spec : {M : Type 1} → statement M
-save-spec =
+pub save_spec : {M : Type 1} → statement M
+save_spec =
     tie.close
-    (tie.spec
-    outside-requires
-    returns
-    outside-requires-2
-    returns-2
-    returns-3
-    are-storable-requires
-    returns-4
-    mul-needed
-    add-needed
-    returns-5
-    write-requires
-    same_length
-    returns-6)
+    (tie.spec outside-requires returns outside-requires-2 returns-2 returns-3 are-storable-requires returns-4 mul-needed add-needed returns-5 write-requires same_length returns-6)

@@ -9,61 +9,55 @@ use Rattle.winnowing.proofs.is_beyond.Statement.{statement}
 use Rattle.winnowing.proofs.is_beyond.Tie as tie
 
 -- places, each named for where it leads and from where
-abbrev entry-else1 : tie.Else1 → tie.Start
-entry-else1 c = c.before.before
-
-abbrev entry-else2 : tie.Else2 → tie.Start
-entry-else2 c = entry-else1 c.before.before
-
 outside-requires : tie.Need-outside-requires
 outside-requires c κs = search rules
 
-returns : tie.Need-returns
+returns : tie.Need-returns-then-outside
 unfolding is_beyond
-returns c = rw (sym c.before.outside.ensures ∙ c.if1.true)
+returns c = rw (sym c.outside.ensures ∙ c.if-outside.true)
 
 outside-requires-2 : tie.Need-outside-requires-2
 outside-requires-2 c κs = search rules
 
-returns-2 : tie.Need-returns-2
+returns-2 : tie.Need-returns-then-outside-2
 unfolding is_beyond
-returns-2 c = rw (sym c.before.before.before.outside.ensures ∙ c.before.before.if1.false, sym c.before.outside2.ensures ∙ c.if2.true)
+returns-2 c = rw (sym c.outside.ensures ∙ c.if-outside.false, sym c.outside-2.ensures ∙ c.if-outside-2.true)
 
 -- k and w are within
-k-within : (c : tie.Else2) → outside 1 k_limit (entry-else2 c).args.k ≡ false
-k-within c = sym c.before.before.before.outside.ensures ∙ c.before.before.if1.false
+k-within : (c : tie.Else-outside-2) → outside 1 k_limit c.args.k ≡ false
+k-within c = sym c.outside.ensures ∙ c.if-outside.false
 
-w-within : (c : tie.Else2) → outside 1 w_limit (entry-else2 c).args.w ≡ false
-w-within c = sym c.before.outside2.ensures ∙ c.if2.false
+w-within : (c : tie.Else-outside-2) → outside 1 w_limit c.args.w ≡ false
+w-within c = sym c.outside-2.ensures ∙ c.if-outside-2.false
 
-returns-3 : tie.Need-returns-3
+returns-3 : tie.Need-returns-then-letters-gt-LETTER_LIMIT
 unfolding is_beyond
 returns-3 c =
-    let args = (entry-else2 c.before).args in
-    rw (k-within c.before, w-within c.before, lt-ltb letter_limit args.letters c.if3.true)
+    let args = c.args in
+    rw (k-within c.before, w-within c.before, lt-ltb letter_limit args.letters c.if-letters-gt-LETTER_LIMIT.true)
 
-returns-4 : tie.Need-returns-4
+returns-4 : tie.Need-returns-then-codes-room
 unfolding is_beyond
 returns-4 c =
-    let args = (entry-else2 c.before.before).args in
+    let args = c.args in
     rw (
       k-within c.before.before,
       w-within c.before.before,
-      le-ltb letter_limit args.letters c.before.if3.false,
-      lt-ltb args.codes args.room c.if4.true,
+      le-ltb letter_limit args.letters c.if-letters-gt-LETTER_LIMIT.false,
+      lt-ltb args.codes args.room c.if-codes-room.true,
     )
 
-returns-5 : tie.Need-returns-5
+returns-5 : tie.Need-returns-else-codes-room
 unfolding is_beyond
 returns-5 c =
-    let args = (entry-else2 c.before.before).args in
+    let args = c.args in
     rw (
       k-within c.before.before,
       w-within c.before.before,
-      le-ltb letter_limit args.letters c.before.if3.false,
-      le-ltb args.codes args.room c.if4.false,
+      le-ltb letter_limit args.letters c.if-letters-gt-LETTER_LIMIT.false,
+      le-ltb args.codes args.room c.if-codes-room.false,
     )
 
-pub is-beyond-spec : {M : Type 1} → statement M
-is-beyond-spec =
+pub is_beyond_spec : {M : Type 1} → statement M
+is_beyond_spec =
     tie.close (tie.spec outside-requires returns outside-requires-2 returns-2 returns-3 returns-4 returns-5)

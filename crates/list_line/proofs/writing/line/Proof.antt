@@ -4,14 +4,14 @@ use borrow.Author.Rules.{rules}
 use Rattle.list_line.proofs.writing.line.Statement.{statement}
 use Rattle.list_line.proofs.writing.line.Tie as tie
 
-write-line-requires : tie.Need-write-line-requires
+write-line-requires : tie.Need-write_line-n-requires
 write-line-requires c κs = search rules
 
-slice-aggregate-result : tie.Need-slice-aggregate-result
-slice-aggregate-result c = line_count c.before.before.before.write-line.ensures
+slice-aggregate-result : tie.Need-slice_bounds-result-end
+slice-aggregate-result c = line_count c.write_line-n.ensures
 
 returns : tie.Need-returns
-returns c = line_part c.before.before.before.write-line.ensures
+returns c = line_part c.write_line-n.ensures
 
-pub line-spec : {M : Type 1} → statement M
-line-spec = tie.close (tie.spec write-line-requires slice-aggregate-result returns)
+pub line_spec : {M : Type 1} → statement M
+line_spec = tie.close (tie.spec write-line-requires slice-aggregate-result returns)

@@ -12,10 +12,10 @@ use Rattle.list_line.proofs.Buffers.{kept_behind, kept_short, wrote}
 use Rattle.list_line.proofs.writing.put_bytes.Statement.{statement}
 use Rattle.list_line.proofs.writing.put_bytes.Tie as tie
 
-abbrev invariant-loop : tie.invariant-loop
+abbrev invariant-loop : tie.invariant-loop-j
 invariant-loop out₀ at bytes j₀ out j = (j ≤ length bytes) × (length out ≡ length out₀) × (out ≡ paste out₀ at bytes j)
 
-abbrev decreases-loop : tie.decreases-loop
+abbrev decreases-loop : tie.decreases-loop-j
 decreases-loop out₀ at bytes j₀ out j = length bytes - j
 
 -- one byte more
@@ -36,75 +36,60 @@ whole old bytes new at j e room end =
     ∙ ap (λ (l : List ℕ). take at old ++ l ++ drop (at + length bytes) old) (take-length bytes) in
     record { index = ap (λ (n : ℕ). at + n) end ∙ w.index; buffer = d ∙ w.buffer }
 
-returns : tie.Need-returns invariant-loop decreases-loop
-returns c = kept_behind _ _ _ (le_of_lt c.if1.true)
+returns : tie.Need-returns-then-out-at invariant-loop decreases-loop
+returns c = kept_behind _ _ _ (le_of_lt c.if-out-at.true)
 
-sub-if2 : tie.Need-overflow-sub-if2 invariant-loop decreases-loop
+sub-if2 : tie.Need-overflow_sub-out invariant-loop decreases-loop
 sub-if2 c = omega arith
 
-returns-2 : tie.Need-returns-2 invariant-loop decreases-loop
-returns-2 c = kept_short _ _ _ c.if2.true
+returns-2 : tie.Need-returns-then-out-at-2 invariant-loop decreases-loop
+returns-2 c = kept_short _ _ _ c.if-out-at-2.true
 
-loop-holds : tie.Need-loop-init invariant-loop decreases-loop
-loop-holds c = (omega arith, refl, paste-zero c.before.before.args.out.now c.before.before.args.at c.before.before.args.bytes.now)
+loop-holds : tie.Need-loop-j-init invariant-loop decreases-loop
+loop-holds c = (omega arith, refl, paste-zero c.args.out.now c.args.at c.args.bytes.now)
 
-shared-slice-read-out : tie.Need-shared-slice-read-out invariant-loop decreases-loop
+shared-slice-read-out : tie.Need-bounds-bytes-j invariant-loop decreases-loop
 shared-slice-read-out c = omega arith
 
-add-out : tie.Need-overflow-add-out invariant-loop decreases-loop
+add-out : tie.Need-overflow_add-out invariant-loop decreases-loop
 add-out c = omega arith
 
-slice-write-out : tie.Need-slice-write-out invariant-loop decreases-loop
+slice-write-out : tie.Need-bounds-out-at invariant-loop decreases-loop
 slice-write-out c = omega arith
 
-add-j : tie.Need-overflow-add-j invariant-loop decreases-loop
+add-j : tie.Need-overflow_add-j invariant-loop decreases-loop
 add-j c = omega arith
 
-loop-less : tie.Need-loop-smaller invariant-loop decreases-loop
+loop-less : tie.Need-loop-j-smaller invariant-loop decreases-loop
 loop-less c = omega arith
 
-loop-again : tie.Need-loop-preserved invariant-loop decreases-loop
+loop-again : tie.Need-loop-j-preserved invariant-loop decreases-loop
 loop-again c =
     let at-loop = c.before.before in
     let at-start = at-loop.before.before.before in (
       omega arith,
-      simp length-set at-loop.loop.invariant.1,
+      simp length-set at-loop.loop-j.invariant.1,
       copied
           at-start.args.out.now
           at-start.args.bytes.now
-          at-loop.loop.out
+          at-loop.loop-j.out
           at-start.args.at
-          at-loop.loop.j
-          at-loop.loop.invariant.2
+          at-loop.loop-j.j
+          at-loop.loop-j.invariant.2
           (omega arith)
-          c.before.loop-test.true,
+          c.loop-j-test.true,
     )
 
-add-result : tie.Need-overflow-add-result invariant-loop decreases-loop
+add-result : tie.Need-overflow_add-result invariant-loop decreases-loop
 add-result c = omega arith
 
-same_length : tie.Need-same-length invariant-loop decreases-loop
-same_length c = c.before.loop.invariant.1
+same_length : tie.Need-shape_of-out invariant-loop decreases-loop
+same_length c = c.loop-j.invariant.1
 
-returns-3 : tie.Need-returns-3 invariant-loop decreases-loop
-returns-3 c = whole _ _ _ _ _ c.before.loop.invariant.2 (omega arith) (omega arith)
+returns-3 : tie.Need-returns invariant-loop decreases-loop
+returns-3 c = whole _ _ _ _ _ c.loop-j.invariant.2 (omega arith) (omega arith)
 
-pub put-bytes-spec : {M : Type 1} → statement M
-put-bytes-spec =
+pub put_bytes_spec : {M : Type 1} → statement M
+put_bytes_spec =
     tie.close
-    (tie.spec
-    invariant-loop
-    decreases-loop
-    returns
-    sub-if2
-    returns-2
-    loop-holds
-    shared-slice-read-out
-    add-out
-    slice-write-out
-    add-j
-    loop-less
-    loop-again
-    add-result
-    same_length
-    returns-3)
+    (tie.spec invariant-loop decreases-loop returns sub-if2 returns-2 loop-holds shared-slice-read-out add-out slice-write-out add-j loop-less loop-again add-result same_length returns-3)

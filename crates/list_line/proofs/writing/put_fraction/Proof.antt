@@ -15,15 +15,15 @@ use Rattle.list_line.proofs.writing.put_fraction.Statement.{statement}
 use Rattle.list_line.proofs.writing.put_fraction.Tie as tie
 
 -- places, each named for where it leads and from where
-abbrev put-decimal2-text6 : tie.After-text6 → tie.After-put-decimal2
+abbrev put-decimal2-text6 : tie.After-text-6-1 → tie.After-put_decimal-end-2
 put-decimal2-text6 c = c.before
 
 -- the calls, from the last to the first
-module _ (c : tie.After-put-decimal2) where
-  abbrev c2 : tie.After-put-byte
+module _ (c : tie.After-put_decimal-end-2) where
+  abbrev c2 : tie.After-put_byte-end
   c2 = c.before.before.before
 
-  abbrev c1 : tie.After-put-decimal
+  abbrev c1 : tie.After-put_decimal-end
   c1 = c2.before.before.before
 
   abbrev entry : tie.Start
@@ -33,71 +33,60 @@ module _ (c : tie.After-put-decimal2) where
   printed = decimal entry.args.m ++ slash ∷ decimal entry.args.divisor
 
   -- the fraction in the local bytes
-  text-is : Written printed 0 (replicate 21 0) c.put-decimal2.new.0 c.put-decimal2.result
+  text-is : Written printed 0 (replicate 21 0) c.put_decimal-end-2.new.out c.put_decimal-end-2.result
   text-is =
       let a : length (decimal entry.args.m) ≤ 10 = length_decimal entry.args.m in
       let b : length (decimal entry.args.divisor) ≤ 10 = length_decimal entry.args.divisor in
-      joined_by c1.put-decimal.ensures c2.put_byte.ensures c.put-decimal2.ensures (omega arith)
+      joined_by c1.put_decimal.ensures c2.put_byte.ensures c.put_decimal-end-2.ensures (omega arith)
 
   short : length printed ≤ 21
   short = length_fraction entry.args.m entry.args.divisor
 
-  inside : c.put-decimal2.result ≤ length c.put-decimal2.new.0
+  inside : c.put_decimal-end-2.result ≤ length c.put_decimal-end-2.new.out
   inside =
-      let e : c.put-decimal2.result ≡ length printed = start_index text-is short in
-      let l : length c.put-decimal2.new.0 ≡ 21 = start_length text-is short in
+      let e : c.put_decimal-end-2.result ≡ length printed = start_index text-is short in
+      let l : length c.put_decimal-end-2.new.out ≡ 21 = start_length text-is short in
       let h : length printed ≤ 21 = short in
       omega arith
 
-slice-aggregate-put-decimal : tie.Need-slice-aggregate-put-decimal
+slice-aggregate-put-decimal : tie.Need-slice_bounds-put_decimal-end
 slice-aggregate-put-decimal c = search rules
 
-put-decimal-requires : tie.Need-put-decimal-requires
+put-decimal-requires : tie.Need-put_decimal-end-requires
 put-decimal-requires c κs = search rules
 
-slice-aggregate-put-byte : tie.Need-slice-aggregate-put-byte
+slice-aggregate-put-byte : tie.Need-slice_bounds-put_byte-end
 slice-aggregate-put-byte c = search rules
 
-put-byte-requires : tie.Need-put-byte-requires
+put-byte-requires : tie.Need-put_byte-end-requires
 put-byte-requires c κs = search rules
 
-slice-aggregate-put-decimal-2 : tie.Need-slice-aggregate-put-decimal-2
+slice-aggregate-put-decimal-2 : tie.Need-slice_bounds-put_decimal-end-2
 slice-aggregate-put-decimal-2 c = search rules
 
-put-decimal-requires-2 : tie.Need-put-decimal-requires-2
+put-decimal-requires-2 : tie.Need-put_decimal-end-requires-2
 put-decimal-requires-2 c κs = search rules
 
-array-share-prefix-text : tie.Need-array-share-prefix-text
+array-share-prefix-text : tie.Need-slice_bounds-text-end
 array-share-prefix-text c = inside c.before.before
 
-slice-aggregate-put-bytes : tie.Need-slice-aggregate-put-bytes
+slice-aggregate-put-bytes : tie.Need-slice_bounds-put_bytes-end
 slice-aggregate-put-bytes c = let at_end =
-    c.before.before.before in sym (length-take-le at_end.put-decimal2.result at_end.put-decimal2.last.0 (inside at_end))
+    c.before.before.before in sym (length-take-le at_end.put_decimal-end-2.result at_end.put_decimal-end-2.new.out (inside at_end))
 
-put-bytes-requires : tie.Need-put-bytes-requires
+put-bytes-requires : tie.Need-put_bytes-requires
 put-bytes-requires c κs = search rules
 
-same_length : tie.Need-same-length
+same_length : tie.Need-shape_of-out
 same_length c = search rules
 
 returns : tie.Need-returns
 returns c =
     let wrote = c.before.before in
     let at_end = put-decimal2-text6 wrote.before.before.before in
-    same_bytes (start_part (text-is at_end) (short at_end)) wrote.put-bytes.ensures
+    same_bytes (start_part (text-is at_end) (short at_end)) wrote.put_bytes.ensures
 
-pub put-fraction-spec : {M : Type 1} → statement M
-put-fraction-spec =
+pub put_fraction_spec : {M : Type 1} → statement M
+put_fraction_spec =
     tie.close
-    (tie.spec
-    slice-aggregate-put-decimal
-    put-decimal-requires
-    slice-aggregate-put-byte
-    put-byte-requires
-    slice-aggregate-put-decimal-2
-    put-decimal-requires-2
-    array-share-prefix-text
-    slice-aggregate-put-bytes
-    put-bytes-requires
-    same_length
-    returns)
+    (tie.spec slice-aggregate-put-decimal put-decimal-requires slice-aggregate-put-byte put-byte-requires slice-aggregate-put-decimal-2 put-decimal-requires-2 array-share-prefix-text slice-aggregate-put-bytes put-bytes-requires same_length returns)

@@ -8,53 +8,45 @@ use Rattle.list_line.proofs.writing.put_score.Statement.{statement}
 use Rattle.list_line.proofs.writing.put_score.Tie as tie
 
 -- places, each named for where it leads and from where
-abbrev told-put-signed : tie.After-put-signed → tie.After-known-told
+abbrev told-put-signed : tie.After-put_signed → tie.In-Number
 told-put-signed c = c.before.before
 
-abbrev score2-put-fraction : tie.After-put-fraction → tie.After-score2
+abbrev score2-put-fraction : tie.After-put_fraction → tie.In-Fraction-2
 score2-put-fraction c = c.before.before.before
 
-enum-known-score : tie.Need-enum-known-score
+enum-known-score : tie.Need-enum_known-score
 enum-known-score c = search rules
 
-put-signed-requires : tie.Need-put-signed-requires
+put-signed-requires : tie.Need-put_signed-requires
 put-signed-requires c κs = search rules
 
-enum-known-score-2 : tie.Need-enum-known-score-2
+enum-known-score-2 : tie.Need-enum_known-score-in-Fraction-1
 enum-known-score-2 c = search rules
 
-put-fraction-requires : tie.Need-put-fraction-requires
+put-fraction-requires : tie.Need-put_fraction-requires
 put-fraction-requires c κs = search rules
 
-same_length : tie.Need-same-length
+same_length : tie.Need-shape_of-out-in-Number
 same_length c = search rules
 
-returns : tie.Need-returns
+returns : tie.Need-returns-in-Number
 unfolding shown_score
 returns c =
     let wrote = c.before.before in
     let told = told-put-signed wrote in
-    same_bytes (ap signed (to_z-of_z (sfits_of told.known-told.given.0.1)) ∙ sym (ap shown_score told.before.score.given.1))
-    wrote.put-signed.ensures
+    same_bytes (ap signed (to_z-of_z (sfits_of told.known_told-1.given.0.1)) ∙ sym (ap shown_score told.in-Number.is.1))
+    wrote.put_signed.ensures
 
-same-length-2 : tie.Need-same-length-2
+same-length-2 : tie.Need-shape_of-out-in-Fraction
 same-length-2 c = search rules
 
-returns-2 : tie.Need-returns-2
+returns-2 : tie.Need-returns-in-Fraction
 unfolding shown_score
 returns-2 c =
     let wrote = c.before.before in
-    same_bytes (sym (ap shown_score (score2-put-fraction wrote).score2.given.1)) wrote.put-fraction.ensures
+    same_bytes (sym (ap shown_score (score2-put-fraction wrote).in-Fraction.is.1)) wrote.put_fraction.ensures
 
-pub put-score-spec : {M : Type 1} → statement M
-put-score-spec =
+pub put_score_spec : {M : Type 1} → statement M
+put_score_spec =
     tie.close
-    (tie.spec
-    enum-known-score
-    put-signed-requires
-    enum-known-score-2
-    put-fraction-requires
-    same_length
-    returns
-    same-length-2
-    returns-2)
+    (tie.spec enum-known-score put-signed-requires enum-known-score-2 put-fraction-requires same_length returns same-length-2 returns-2)

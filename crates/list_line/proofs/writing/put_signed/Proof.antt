@@ -20,20 +20,20 @@ use Rattle.list_line.proofs.writing.put_signed.Statement.{statement}
 use Rattle.list_line.proofs.writing.put_signed.Tie as tie
 
 -- places, each named for where it leads and from where
-abbrev entry-else1 : tie.Else1 → tie.Start
+abbrev entry-else1 : tie.Else-z-ge0 → tie.Start
 entry-else1 c = c.before.before
 
-abbrev entry-put-decimal-arg : tie.After-put-decimal-arg → tie.Start
+abbrev entry-put-decimal-arg : tie.After-put_decimal-arg-1 → tie.Start
 entry-put-decimal-arg c = c.before.before.before
 
-abbrev then1-put-decimal-arg : tie.After-put-decimal-arg → tie.Then1
+abbrev then1-put-decimal-arg : tie.After-put_decimal-arg-1 → tie.Then-z-ge0
 then1-put-decimal-arg c = c.before
 
-abbrev write-digits-digits2 : tie.After-digits2 → tie.After-write-digits
+abbrev write-digits-digits2 : tie.After-digits-2-1 → tie.After-write_digits-from
 write-digits-digits2 c = c.before
 
-abbrev write-digits-put-bytes-arg2 : tie.After-put-bytes-arg2 → tie.After-write-digits
-write-digits-put-bytes-arg2 c = write-digits-digits2 c.before.before.before
+abbrev write-digits-put-bytes-arg2 : tie.After-put_bytes-arg-2-1 → tie.After-write_digits-from
+write-digits-put-bytes-arg2 c = c.before.before.before
 
 -- a number from 0 on
 module _ (z : ℤ) (fits : SFits w32 z) (above : le_z (pos 0) (to_z w32 (of_z w32 z)) ≡ true) where
@@ -76,22 +76,22 @@ module _ (z : ℤ) (fits : SFits w32 z) (below : le_z (pos 0) (to_z w32 (of_z w3
 sized : (d : List ℕ) (from b : ℕ) → length d ≡ 10 → 11 ≤ length (set (0 ∷ (d ++ [])) from b)
 sized d from b long = let longer : length (d ++ []) ≡ 10 = ap length (append-nil d) ∙ long in simp length-set (omega arith)
 
-cast-put-decimal : tie.Need-overflow-cast-put-decimal
-cast-put-decimal c = let at-start = c.before.before.before in cast_fits at-start.args.z at-start.ranges.z c.before.if1.true
+cast-put-decimal : tie.Need-overflow_cast-z
+cast-put-decimal c = let at-start = c.before.before.before in cast_fits at-start.args.z at-start.ranges.z c.if-z-ge0.true
 
-put-decimal-requires : tie.Need-put-decimal-requires
+put-decimal-requires : tie.Need-put_decimal-requires
 put-decimal-requires c κs = search rules
 
-same_length : tie.Need-same-length
+same_length : tie.Need-shape_of-out-then-z-ge0
 same_length c = search rules
 
-returns : tie.Need-returns
+returns : tie.Need-returns-then-z-ge0
 returns c =
     let at-start = entry-put-decimal-arg c.before.before.before in
-    same_bytes (digits_are at-start.args.z at-start.fits.z (then1-put-decimal-arg c.before.before.before).if1.true)
-    c.before.before.put-decimal.ensures
+    same_bytes (digits_are at-start.args.z at-start.fits.z c.if-z-ge0.true)
+    c.put_decimal.ensures
 
-sub-write-digits : tie.Need-overflow-sub-write-digits
+sub-write-digits : tie.Need-slice_bounds-write_digits-count
 sub-write-digits c = search rules
 
 part-digits-start : tie.Need-slice-bounds-digits-start
@@ -103,13 +103,13 @@ part-digits-end c = search rules
 magnitude-requires : tie.Need-magnitude-requires
 magnitude-requires c κs = search rules
 
-write-digits-requires : tie.Need-write-digits-requires
+write-digits-requires : tie.Need-write_digits-from-requires
 write-digits-requires c κs = search rules
 
-array-write-digits : tie.Need-array-write-digits
+array-write-digits : tie.Need-bounds-digits-from
 array-write-digits c = search rules
 
-sub-put-bytes : tie.Need-overflow-sub-put-bytes
+sub-put-bytes : tie.Need-slice_bounds-put_bytes-count
 sub-put-bytes c = search rules
 
 part-put-bytes-start : tie.Need-slice-bounds-put-bytes-start
@@ -117,15 +117,15 @@ part-put-bytes-start c = search rules
 
 part-put-bytes-end : tie.Need-slice-bounds-put-bytes-end
 part-put-bytes-end c = let at-digits =
-    c.before.before.before in sized at-digits.write-digits.last.0 at-digits.write-digits.result _ at-digits.write-digits.kept.0
+    c.before.before.before in sized at-digits.write_digits-from.new.digits at-digits.write_digits-from.result _ at-digits.write_digits-from.auto.digits
 
-put-bytes-requires : tie.Need-put-bytes-requires
+put-bytes-requires : tie.Need-put_bytes-requires
 put-bytes-requires c κs = search rules
 
-same-length-2 : tie.Need-same-length-2
+same-length-2 : tie.Need-shape_of-out
 same-length-2 c = search rules
 
-returns-2 : tie.Need-returns-2
+returns-2 : tie.Need-returns
 returns-2 c =
     let at-digits = write-digits-put-bytes-arg2 c.before.before.before in
     let at-start = entry-else1 at-digits.before.before.before in
@@ -133,31 +133,27 @@ returns-2 c =
     (all_are
     at-start.args.z
     at-start.fits.z
-    at-digits.before.before.before.if1.left
-    at-digits.write-digits.last.0
-    at-digits.write-digits.result
-    at-digits.write-digits.kept.0
-    at-digits.write-digits.ensures.0
-    (at-digits.write-digits.ensures.1 ∙ ap decimal at-digits.before.magnitude.ensures))
-    c.before.before.put-bytes.ensures
+    at-digits.if-z-ge0.false
+    at-digits.write_digits-from.new.digits
+    at-digits.write_digits-from.result
+    at-digits.write_digits-from.auto.digits
+    at-digits.write_digits-from.ensures.0
+    (at-digits.write_digits-from.ensures.1 ∙ ap decimal at-digits.magnitude.ensures))
+    c.put_bytes.ensures
 
-pub put-signed-spec : {M : Type 1} → statement M
-put-signed-spec =
+auto-slice_bounds-digits-start : tie.Need-slice_bounds-digits-start
+auto-slice_bounds-digits-start c = search rules
+
+auto-slice_bounds-digits-end : tie.Need-slice_bounds-digits-end
+auto-slice_bounds-digits-end c = search rules
+
+auto-slice_bounds-put_bytes-start : tie.Need-slice_bounds-put_bytes-start
+auto-slice_bounds-put_bytes-start c = search rules
+
+auto-slice_bounds-put_bytes-end : tie.Need-slice_bounds-put_bytes-end
+auto-slice_bounds-put_bytes-end c = search rules
+
+pub put_signed_spec : {M : Type 1} → statement M
+put_signed_spec =
     tie.close
-    (tie.spec
-    cast-put-decimal
-    put-decimal-requires
-    same_length
-    returns
-    sub-write-digits
-    part-digits-start
-    part-digits-end
-    magnitude-requires
-    write-digits-requires
-    array-write-digits
-    sub-put-bytes
-    part-put-bytes-start
-    part-put-bytes-end
-    put-bytes-requires
-    same-length-2
-    returns-2)
+    (tie.spec cast-put-decimal put-decimal-requires same_length returns sub-write-digits auto-slice_bounds-digits-start auto-slice_bounds-digits-end magnitude-requires write-digits-requires array-write-digits sub-put-bytes auto-slice_bounds-put_bytes-start auto-slice_bounds-put_bytes-end put-bytes-requires same-length-2 returns-2)

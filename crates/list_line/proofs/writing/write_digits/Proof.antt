@@ -44,71 +44,56 @@ last digits n rest (suc i) long small held =
     subst (λ (j : ℕ). drop j (set digits j (48 + rest)) ≡ decimal n) (sym e)
     (drop_set digits i (48 + rest) (omega arith) ∙ sym (digits_last i rest (drop (suc i) digits) small) ∙ held.3)
 
-abbrev invariant-loop : tie.invariant-loop
+abbrev invariant-loop : tie.invariant-loop-rest
 invariant-loop digits₀ n rest₀ i₀ digits rest i = (length digits ≡ 10) × Left digits n rest i
 
-abbrev decreases-loop : tie.decreases-loop
+abbrev decreases-loop : tie.decreases-loop-rest
 decreases-loop digits₀ n rest₀ i₀ digits rest i = rest
 
-loop-holds : tie.Need-loop-init invariant-loop decreases-loop
+loop-holds : tie.Need-loop-rest-init invariant-loop decreases-loop
 loop-holds c = (c.requires, (omega arith, omega arith, omega arith, none c.args.digits.now c.args.n c.requires))
 
-sub-i : tie.Need-overflow-sub-i invariant-loop decreases-loop
+sub-i : tie.Need-overflow_sub-i invariant-loop decreases-loop
 sub-i c = omega arith
 
-cast-digits : tie.Need-overflow-cast-digits invariant-loop decreases-loop
+cast-digits : tie.Need-overflow_cast-digits invariant-loop decreases-loop
 cast-digits c = omega arith
 
-add-digits : tie.Need-overflow-add-digits invariant-loop decreases-loop
+add-digits : tie.Need-overflow_add-digits invariant-loop decreases-loop
 add-digits c = omega arith
 
-slice-write-digits : tie.Need-slice-write-digits invariant-loop decreases-loop
+slice-write-digits : tie.Need-bounds-digits-i invariant-loop decreases-loop
 slice-write-digits c = omega arith
 
-loop-less : tie.Need-loop-smaller invariant-loop decreases-loop
+loop-less : tie.Need-loop-rest-smaller invariant-loop decreases-loop
 loop-less c = omega arith
 
-loop-again : tie.Need-loop-preserved invariant-loop decreases-loop
+loop-again : tie.Need-loop-rest-preserved invariant-loop decreases-loop
 loop-again c =
-    (simp length-set c.before.loop.invariant.0, more c.before.loop.digits _ _ _ c.before.loop.invariant.0 c.loop-test.true c.before.loop.invariant.1)
+    (simp length-set c.loop-rest.invariant.0, more c.loop-rest.digits _ _ _ c.loop-rest.invariant.0 c.loop-rest-test.true c.loop-rest.invariant.1)
 
-sub-i-2 : tie.Need-overflow-sub-i-2 invariant-loop decreases-loop
+sub-i-2 : tie.Need-overflow_sub-i-2 invariant-loop decreases-loop
 sub-i-2 c = omega arith
 
-cast-digits-2 : tie.Need-overflow-cast-digits-2 invariant-loop decreases-loop
+cast-digits-2 : tie.Need-overflow_cast-digits-2 invariant-loop decreases-loop
 cast-digits-2 c = omega arith
 
-add-digits-2 : tie.Need-overflow-add-digits-2 invariant-loop decreases-loop
+add-digits-2 : tie.Need-overflow_add-digits-2 invariant-loop decreases-loop
 add-digits-2 c = omega arith
 
-slice-write-digits-2 : tie.Need-slice-write-digits-2 invariant-loop decreases-loop
+slice-write-digits-2 : tie.Need-bounds-digits-i-2 invariant-loop decreases-loop
 slice-write-digits-2 c = omega arith
 
-same_length : tie.Need-same-length invariant-loop decreases-loop
-same_length c = simp length-set (c.before.loop.invariant.0 ∙ sym c.before.before.requires)
+same_length : tie.Need-shape_of-digits invariant-loop decreases-loop
+same_length c = simp length-set (c.loop-rest.invariant.0 ∙ sym c.requires)
 
 returns : tie.Need-returns invariant-loop decreases-loop
 returns c = (
   omega arith,
-  last c.before.loop.digits _ c.before.loop.rest c.before.loop.i c.before.loop.invariant.0 c.loop-test.false c.before.loop.invariant.1,
+  last c.loop-rest.digits _ c.loop-rest.rest c.loop-rest.i c.loop-rest.invariant.0 c.loop-rest-test.false c.loop-rest.invariant.1,
 )
 
-pub write-digits-spec : {M : Type 1} → statement M
-write-digits-spec =
+pub write_digits_spec : {M : Type 1} → statement M
+write_digits_spec =
     tie.close
-    (tie.spec
-    invariant-loop
-    decreases-loop
-    loop-holds
-    sub-i
-    cast-digits
-    add-digits
-    slice-write-digits
-    loop-less
-    loop-again
-    sub-i-2
-    cast-digits-2
-    add-digits-2
-    slice-write-digits-2
-    same_length
-    returns)
+    (tie.spec invariant-loop decreases-loop loop-holds sub-i cast-digits add-digits slice-write-digits loop-less loop-again sub-i-2 cast-digits-2 add-digits-2 slice-write-digits-2 same_length returns)

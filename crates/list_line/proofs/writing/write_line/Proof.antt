@@ -17,7 +17,7 @@ use Rattle.list_line.proofs.writing.write_line.Statement.{statement}
 use Rattle.list_line.proofs.writing.write_line.Tie as tie
 
 -- places, each named for where it leads and from where
-abbrev put-byte7-text24 : tie.After-text24 → tie.After-put-byte7
+abbrev put-byte7-text24 : tie.After-text-24-1 → tie.After-put_byte-at-7
 put-byte7-text24 c = c.before
 
 module _ (first last : ℕ) (score : Score) (m per_mille : ℕ) (strand : Strand) {t0 t1 t2 t3 t4 t5 t6 t7 t8 t9 t10 t11 t12 : List ℕ}
@@ -45,51 +45,51 @@ module _ (first last : ℕ) (score : Score) (m per_mille : ℕ) (strand : Strand
       same_bytes (append_assoc numbers (space ∷ sign strand ∷ []) (line_feed ∷ [])) (joined x11 w12 (simp length-append (omega arith)))
 
 -- the calls, from the last to the first
-module _ (c : tie.After-put-byte7) where
-  abbrev c11 : tie.After-put-byte6
+module _ (c : tie.After-put_byte-at-7) where
+  abbrev c11 : tie.After-put_byte-at-6
   c11 = c.before.before.before
 
   abbrev signed_by : tie.After-sign
   signed_by = c11.before
 
-  abbrev c10 : tie.After-put-byte5
+  abbrev c10 : tie.After-put_byte-at-5
   c10 = signed_by.before.before.before
 
-  abbrev c9 : tie.After-put-decimal4
+  abbrev c9 : tie.After-put_decimal-at-4
   c9 = c10.before.before.before
 
-  abbrev c8 : tie.After-put-byte4
+  abbrev c8 : tie.After-put_byte-at-4
   c8 = c9.before.before.before
 
-  abbrev c7 : tie.After-put-decimal3
+  abbrev c7 : tie.After-put_decimal-at-3
   c7 = c8.before.before.before
 
-  abbrev c6 : tie.After-put-byte3
+  abbrev c6 : tie.After-put_byte-at-3
   c6 = c7.before.before.before
 
-  abbrev c5 : tie.After-put-score
+  abbrev c5 : tie.After-put_score-at
   c5 = c6.before.before.before
 
-  abbrev c4 : tie.After-put-byte2
+  abbrev c4 : tie.After-put_byte-at-2
   c4 = c5.before.before.before
 
-  abbrev c3 : tie.After-put-decimal2
+  abbrev c3 : tie.After-put_decimal-at-2
   c3 = c4.before.before.before
 
-  abbrev c2 : tie.After-put-byte
+  abbrev c2 : tie.After-put_byte-at
   c2 = c3.before.before.before
 
-  abbrev c1 : tie.After-put-decimal
+  abbrev c1 : tie.After-put_decimal-at
   c1 = c2.before.before.before
 
   abbrev entry : tie.Start
   entry = c1.before.before.before
 
   abbrev printed : List ℕ
-  printed = let args = entry.args in line args.first args.last args.score args.m args.per-mille args.strand
+  printed = let args = entry.args in line args.first args.last args.score args.m args.per_mille args.strand
 
   -- the line in the local bytes
-  text-is : Written printed 0 (replicate 68 0) c.put-byte7.new.0 c.put-byte7.result
+  text-is : Written printed 0 (replicate 68 0) c.put_byte-at-7.new.out c.put_byte-at-7.result
   text-is =
       let args = entry.args in
       pieces
@@ -97,157 +97,127 @@ module _ (c : tie.After-put-byte7) where
       args.last
       args.score
       args.m
-      args.per-mille
+      args.per_mille
       args.strand
       refl
-      c1.put-decimal.ensures
+      c1.put_decimal.ensures
       c2.put_byte.ensures
       c3.put-decimal2.ensures
       c4.put-byte2.ensures
-      c5.put-score.ensures
+      c5.put_score.ensures
       c6.put-byte3.ensures
       c7.put-decimal3.ensures
       c8.put-byte4.ensures
       c9.put-decimal4.ensures
       c10.put-byte5.ensures
       (same_bytes (ap (λ (b : ℕ). b ∷ []) signed_by.sign.ensures) c11.put-byte6.ensures)
-      c.put-byte7.ensures
+      c.put_byte-at-7.ensures
 
   short : length printed ≤ 68
-  short = let args = entry.args in length_line args.first args.last args.score args.m args.per-mille args.strand
+  short = let args = entry.args in length_line args.first args.last args.score args.m args.per_mille args.strand
 
-  inside : c.put-byte7.result ≤ length c.put-byte7.new.0
+  inside : c.put_byte-at-7.result ≤ length c.put_byte-at-7.new.out
   inside =
-      let e : c.put-byte7.result ≡ length printed = start_index text-is short in
-      let l : length c.put-byte7.new.0 ≡ 68 = start_length text-is short in
+      let e : c.put_byte-at-7.result ≡ length printed = start_index text-is short in
+      let l : length c.put_byte-at-7.new.out ≡ 68 = start_length text-is short in
       let h : length printed ≤ 68 = short in
       omega arith
 
-slice-aggregate-put-decimal : tie.Need-slice-aggregate-put-decimal
+slice-aggregate-put-decimal : tie.Need-slice_bounds-put_decimal-end
 slice-aggregate-put-decimal c = search rules
 
-put-decimal-requires : tie.Need-put-decimal-requires
+put-decimal-requires : tie.Need-put_decimal-at-requires
 put-decimal-requires c κs = search rules
 
-slice-aggregate-put-byte : tie.Need-slice-aggregate-put-byte
+slice-aggregate-put-byte : tie.Need-slice_bounds-put_byte-end
 slice-aggregate-put-byte c = search rules
 
-put-byte-requires : tie.Need-put-byte-requires
+put-byte-requires : tie.Need-put_byte-at-requires
 put-byte-requires c κs = search rules
 
-slice-aggregate-put-decimal-2 : tie.Need-slice-aggregate-put-decimal-2
+slice-aggregate-put-decimal-2 : tie.Need-slice_bounds-put_decimal-end-2
 slice-aggregate-put-decimal-2 c = search rules
 
-put-decimal-requires-2 : tie.Need-put-decimal-requires-2
+put-decimal-requires-2 : tie.Need-put_decimal-at-requires-2
 put-decimal-requires-2 c κs = search rules
 
-slice-aggregate-put-byte-2 : tie.Need-slice-aggregate-put-byte-2
+slice-aggregate-put-byte-2 : tie.Need-slice_bounds-put_byte-end-2
 slice-aggregate-put-byte-2 c = search rules
 
-put-byte-requires-2 : tie.Need-put-byte-requires-2
+put-byte-requires-2 : tie.Need-put_byte-at-requires-2
 put-byte-requires-2 c κs = search rules
 
-slice-aggregate-put-score : tie.Need-slice-aggregate-put-score
+slice-aggregate-put-score : tie.Need-slice_bounds-put_score-end
 slice-aggregate-put-score c = search rules
 
-put-score-requires : tie.Need-put-score-requires
+put-score-requires : tie.Need-put_score-at-requires
 put-score-requires c κs = search rules
 
-slice-aggregate-put-byte-3 : tie.Need-slice-aggregate-put-byte-3
+slice-aggregate-put-byte-3 : tie.Need-slice_bounds-put_byte-end-3
 slice-aggregate-put-byte-3 c = search rules
 
-put-byte-requires-3 : tie.Need-put-byte-requires-3
+put-byte-requires-3 : tie.Need-put_byte-at-requires-3
 put-byte-requires-3 c κs = search rules
 
-slice-aggregate-put-decimal-3 : tie.Need-slice-aggregate-put-decimal-3
+slice-aggregate-put-decimal-3 : tie.Need-slice_bounds-put_decimal-end-3
 slice-aggregate-put-decimal-3 c = search rules
 
-put-decimal-requires-3 : tie.Need-put-decimal-requires-3
+put-decimal-requires-3 : tie.Need-put_decimal-at-requires-3
 put-decimal-requires-3 c κs = search rules
 
-slice-aggregate-put-byte-4 : tie.Need-slice-aggregate-put-byte-4
+slice-aggregate-put-byte-4 : tie.Need-slice_bounds-put_byte-end-4
 slice-aggregate-put-byte-4 c = search rules
 
-put-byte-requires-4 : tie.Need-put-byte-requires-4
+put-byte-requires-4 : tie.Need-put_byte-at-requires-4
 put-byte-requires-4 c κs = search rules
 
-slice-aggregate-put-decimal-4 : tie.Need-slice-aggregate-put-decimal-4
+slice-aggregate-put-decimal-4 : tie.Need-slice_bounds-put_decimal-end-4
 slice-aggregate-put-decimal-4 c = search rules
 
-put-decimal-requires-4 : tie.Need-put-decimal-requires-4
+put-decimal-requires-4 : tie.Need-put_decimal-at-requires-4
 put-decimal-requires-4 c κs = search rules
 
-slice-aggregate-put-byte-5 : tie.Need-slice-aggregate-put-byte-5
+slice-aggregate-put-byte-5 : tie.Need-slice_bounds-put_byte-end-5
 slice-aggregate-put-byte-5 c = search rules
 
-put-byte-requires-5 : tie.Need-put-byte-requires-5
+put-byte-requires-5 : tie.Need-put_byte-at-requires-5
 put-byte-requires-5 c κs = search rules
 
-slice-aggregate-put-byte-6 : tie.Need-slice-aggregate-put-byte-6
+slice-aggregate-put-byte-6 : tie.Need-slice_bounds-put_byte-end-6
 slice-aggregate-put-byte-6 c = search rules
 
 sign-requires : tie.Need-sign-requires
 sign-requires c κs = search rules
 
-put-byte-requires-6 : tie.Need-put-byte-requires-6
+put-byte-requires-6 : tie.Need-put_byte-at-requires-6
 put-byte-requires-6 c κs = search rules
 
-slice-aggregate-put-byte-7 : tie.Need-slice-aggregate-put-byte-7
+slice-aggregate-put-byte-7 : tie.Need-slice_bounds-put_byte-end-7
 slice-aggregate-put-byte-7 c = search rules
 
-put-byte-requires-7 : tie.Need-put-byte-requires-7
+put-byte-requires-7 : tie.Need-put_byte-at-requires-7
 put-byte-requires-7 c κs = search rules
 
-array-share-prefix-text : tie.Need-array-share-prefix-text
+array-share-prefix-text : tie.Need-slice_bounds-text-end
 array-share-prefix-text c = inside c.before.before
 
-slice-aggregate-put-bytes : tie.Need-slice-aggregate-put-bytes
+slice-aggregate-put-bytes : tie.Need-slice_bounds-put_bytes-end
 slice-aggregate-put-bytes c = let at-line =
-    c.before.before.before in sym (length-take-le at-line.put-byte7.result at-line.put-byte7.last.0 (inside at-line))
+    c.before.before.before in sym (length-take-le at-line.put_byte-at-7.result at-line.put_byte-at-7.new.out (inside at-line))
 
-put-bytes-requires : tie.Need-put-bytes-requires
+put-bytes-requires : tie.Need-put_bytes-requires
 put-bytes-requires c κs = search rules
 
-same_length : tie.Need-same-length
+same_length : tie.Need-shape_of-out
 same_length c = search rules
 
 returns : tie.Need-returns
 returns c =
     let wrote = c.before.before in
     let at-line = put-byte7-text24 wrote.before.before.before in
-    from_start (same_bytes (start_part (text-is at-line) (short at-line)) wrote.put-bytes.ensures)
+    from_start (same_bytes (start_part (text-is at-line) (short at-line)) wrote.put_bytes.ensures)
 
-pub write-line-spec : {M : Type 1} → statement M
-write-line-spec =
+pub write_line_spec : {M : Type 1} → statement M
+write_line_spec =
     tie.close
-    (tie.spec
-    slice-aggregate-put-decimal
-    put-decimal-requires
-    slice-aggregate-put-byte
-    put-byte-requires
-    slice-aggregate-put-decimal-2
-    put-decimal-requires-2
-    slice-aggregate-put-byte-2
-    put-byte-requires-2
-    slice-aggregate-put-score
-    put-score-requires
-    slice-aggregate-put-byte-3
-    put-byte-requires-3
-    slice-aggregate-put-decimal-3
-    put-decimal-requires-3
-    slice-aggregate-put-byte-4
-    put-byte-requires-4
-    slice-aggregate-put-decimal-4
-    put-decimal-requires-4
-    slice-aggregate-put-byte-5
-    put-byte-requires-5
-    slice-aggregate-put-byte-6
-    sign-requires
-    put-byte-requires-6
-    slice-aggregate-put-byte-7
-    put-byte-requires-7
-    array-share-prefix-text
-    slice-aggregate-put-bytes
-    put-bytes-requires
-    same_length
-    returns)
+    (tie.spec slice-aggregate-put-decimal put-decimal-requires slice-aggregate-put-byte put-byte-requires slice-aggregate-put-decimal-2 put-decimal-requires-2 slice-aggregate-put-byte-2 put-byte-requires-2 slice-aggregate-put-score put-score-requires slice-aggregate-put-byte-3 put-byte-requires-3 slice-aggregate-put-decimal-3 put-decimal-requires-3 slice-aggregate-put-byte-4 put-byte-requires-4 slice-aggregate-put-decimal-4 put-decimal-requires-4 slice-aggregate-put-byte-5 put-byte-requires-5 slice-aggregate-put-byte-6 sign-requires put-byte-requires-6 slice-aggregate-put-byte-7 put-byte-requires-7 array-share-prefix-text slice-aggregate-put-bytes put-bytes-requires same_length returns)

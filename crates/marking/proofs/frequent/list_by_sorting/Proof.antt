@@ -13,11 +13,11 @@ use Rattle.marking.proofs.frequent.list_by_sorting.Statement.{statement}
 use Rattle.marking.proofs.frequent.list_by_sorting.Tie as tie
 
 -- the places back from the list to the sort, and the entry of the function
-abbrev known : tie.After-list-runs-arg2 → tie.After-sorted-1
-known c = c.before.before.before
+abbrev known : tie.After-list_runs-arg-1 → tie.After-sorted-1
+known c = c.before.before
 
-abbrev sorted : tie.After-list-runs-arg2 → tie.After-sort_through
-sorted c = (known c).before.before.before
+abbrev sorted : tie.After-list_runs-arg-1 → tie.After-sort_through
+sorted c = c.before.before.before.before.before
 
 abbrev lent : tie.After-sort_through → tie.After-slice_known-2-1
 lent c = c.before.before.before
@@ -27,7 +27,7 @@ entry c = c.before.before.before.before.before
 
 -- the words to sort, and what the sort leaves
 abbrev words : tie.After-sort_through → List ℕ
-words c = take c.args.n c.args.list-1.now
+words c = take c.args.n c.args.list.now
 
 in_order : (c : tie.After-sort_through) → c.sort_through.new.sorted ≡ sorted_words (words c)
 in_order c =

@@ -63,8 +63,8 @@ loop-again c =
     let at = c.loop-i in
     let start = entry (turn c.before) in
     let inside = c.loop-i-test.true in
-    let put = listed_put start.args.sorted.now start.requires.0 start.args.limit at.i at.n at.list-1 at.invariant.1 inside in
-    let pass = listed_pass start.args.sorted.now start.requires.0 start.args.limit at.i at.n at.list-1 at.invariant.1 inside in
+    let put = listed_put start.args.sorted.now start.requires.0 start.args.limit at.i at.n at.list at.invariant.1 inside in
+    let pass = listed_pass start.args.sorted.now start.requires.0 start.args.limit at.i at.n at.list at.invariant.1 inside in
     ⊎_elim (λ w. rw (w.6, w.7) (w.3.kept.1.1.0 ∙ at.invariant.0, put w.0.true _ _ w.3.ensures.0 w.3.ensures.1))
     (λ w. rw (w.1, w.2) (at.invariant.0, pass w.0.left)) c.if-sorted-i.branch
 

@@ -7,36 +7,36 @@ use Rattle.session_cells.specs.Passing.{fits}
 use Rattle.session_cells.proofs.cells.fits.Statement.{statement}
 use Rattle.session_cells.proofs.cells.fits.Tie as tie
 
-abbrev entry : tie.Else2 → tie.Start
+abbrev entry : tie.Else-to-gt-HIT_LIMIT → tie.Start
 entry d = d.before.before.before
 
-returns : tie.Need-returns
+returns : tie.Need-returns-then-part-ne-PART_LENGTH
 unfolding fits
-returns c = simp (ne_eqb _ _ c.if1.true)
+returns c = simp (ne_eqb _ _ c.if-part-ne-PART_LENGTH.true)
 
-returns-2 : tie.Need-returns-2
+returns-2 : tie.Need-returns-then-to-gt-HIT_LIMIT
 unfolding fits
-returns-2 c = simp (eq-eqb _ _ c.before.if1.false, lt-leb _ _ c.if2.true)
+returns-2 c = simp (eq-eqb _ _ c.if-part-ne-PART_LENGTH.false, lt-leb _ _ c.if-to-gt-HIT_LIMIT.true)
 
 wide-requires : tie.Need-wide-requires
 wide-requires c κs = search rules
 
-add-if3 : tie.Need-overflow-add-if3
+add-if3 : tie.Need-overflow_add-wide
 add-if3 c = search rules
 
-returns-3 : tie.Need-returns-3
+returns-3 : tie.Need-returns-then-wide-to
 unfolding fits
 returns-3 c =
     let d = c.before.before in
     let past : (entry d).args.line.column + 1 < (entry d).args.to = omega arith in
-    simp (eq-eqb _ _ d.before.if1.false, le-leb _ _ d.if2.false, lt-leb _ _ past)
+    simp (eq-eqb _ _ d.if-part-ne-PART_LENGTH.false, le-leb _ _ d.if-to-gt-HIT_LIMIT.false, lt-leb _ _ past)
 
-returns-4 : tie.Need-returns-4
+returns-4 : tie.Need-returns
 unfolding fits
 returns-4 c =
     let d = c.before.before in
     let within : (entry d).args.to ≤ (entry d).args.line.column + 1 = omega arith in
-    simp (eq-eqb _ _ d.before.if1.false, le-leb _ _ d.if2.false, le-leb _ _ within)
+    simp (eq-eqb _ _ d.if-part-ne-PART_LENGTH.false, le-leb _ _ d.if-to-gt-HIT_LIMIT.false, le-leb _ _ within)
 
-pub fits-spec : {M : Type 1} → statement M
-fits-spec = tie.close (tie.spec returns returns-2 wide-requires add-if3 returns-3 returns-4)
+pub fits_spec : {M : Type 1} → statement M
+fits_spec = tie.close (tie.spec returns returns-2 wide-requires add-if3 returns-3 returns-4)

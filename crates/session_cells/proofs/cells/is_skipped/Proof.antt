@@ -28,55 +28,46 @@ by-bound : (line : Line) (to row m highest end : ℕ) (part : List ℕ) → end 
 unfolding skips
 by-bound line to row m highest end part e l = rw (← e, le-leb end to l)
 
-rest-end-requires : tie.Need-rest-end-requires
+rest-end-requires : tie.Need-rest_end-end-requires
 rest-end-requires c κs = search rules
 
-returns : tie.Need-returns
+returns : tie.Need-returns-then-to-end
 unfolding skips
-returns c = simp (← c.before.rest-end.ensures, lt-leb _ _ c.if1.true)
+returns c = simp (← c.rest_end-end.ensures, lt-leb _ _ c.if-to-end.true)
 
-sub-x : tie.Need-overflow-sub-x
+sub-x : tie.Need-overflow_sub-x
 unfolding rest_end
-sub-x c = omega (arith, c.before.rest-end.ensures)
+sub-x c = omega (arith, c.rest_end-end.ensures)
 
-mul-x : tie.Need-overflow-mul-x
+mul-x : tie.Need-offset_bounds-part-end
 mul-x c = search rules
 
-shared-slice-read-x : tie.Need-shared-slice-read-x
+shared-slice-read-x : tie.Need-bounds-part-end
 shared-slice-read-x c = search rules
 
-matters-fraction-requires : tie.Need-matters-fraction-requires
+matters-fraction-requires : tie.Need-matters_fraction-requires
 matters-fraction-requires c κs = search rules
 
-returns-2 : tie.Need-returns-2
+returns-2 : tie.Need-returns-then-line
 returns-2 c =
     let d = c.before.before.before in
-    let args = d.before.before.before.args in
-    ap not c.matters-fraction.ensures
-    ∙ by-bound args.line args.to args.row args.m args.highest _ args.part.now d.before.rest-end.ensures d.if1.false
+    let args = d.args in
+    ap not c.matters_fraction.ensures
+    ∙ by-bound args.line args.to args.row args.m args.highest _ args.part.now d.rest_end-end.ensures d.if-to-end.false
 
-score-word-requires : tie.Need-score-word-requires
+score-word-requires : tie.Need-score_word-requires
 score-word-requires c κs = search rules
 
-returns-3 : tie.Need-returns-3
+returns-3 : tie.Need-returns
 unfolding line_score
 returns-3 c =
     let d = c.before.before.before in
-    let args = d.before.before.before.args in
-    not-at-most c.score-word.result args.highest
-    ∙ ap not (sym (number_matters args.line args.highest args.m _ c.before.if2.false _ c.score-word.ensures refl))
-    ∙ by-bound args.line args.to args.row args.m args.highest _ args.part.now d.before.rest-end.ensures d.if1.false
+    let args = d.args in
+    not-at-most c.score_word.result args.highest
+    ∙ ap not (sym (number_matters args.line args.highest args.m _ c.if-line.false _ c.score_word.ensures refl))
+    ∙ by-bound args.line args.to args.row args.m args.highest _ args.part.now d.rest_end-end.ensures d.if-to-end.false
 
-pub is-skipped-spec : {M : Type 1} → statement M
-is-skipped-spec =
+pub is_skipped_spec : {M : Type 1} → statement M
+is_skipped_spec =
     tie.close
-    (tie.spec
-    rest-end-requires
-    returns
-    sub-x
-    mul-x
-    shared-slice-read-x
-    matters-fraction-requires
-    returns-2
-    score-word-requires
-    returns-3)
+    (tie.spec rest-end-requires returns sub-x mul-x shared-slice-read-x matters-fraction-requires returns-2 score-word-requires returns-3)

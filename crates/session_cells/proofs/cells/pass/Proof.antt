@@ -14,45 +14,38 @@ fits-requires : tie.Need-fits-requires
 fits-requires c κs = search rules
 
 -- `fits` has said so
-fitting : (d : tie.Then1) → (let args = (entry d.before).args in fits args.line args.part.now args.from args.to ≡ true)
-fitting d = sym d.before.fits2.ensures ∙ d.if1.true
+fitting : (d : tie.Then-fits) → (let args = (entry d.before).args in fits args.line args.part.now args.from args.to ≡ true)
+fitting d = sym d.fits2.ensures ∙ d.if1.true
 
-pass-blocks-requires : tie.Need-pass-blocks-requires
+pass-blocks-requires : tie.Need-pass_blocks-requires
 pass-blocks-requires c κs = fits_says _ _ _ _ (fitting c.before)
 
-same_length : tie.Need-same-length
+same_length : tie.Need-shape_of-part-then-fits
 same_length c = search rules
 
-returns : tie.Need-returns
+returns : tie.Need-returns-then-fits
 returns c =
     let passed = c.before.before in
     let d = passed.before.before in
     let args = (entry d.before).args in
     let e = sym (pass_fits args.line args.from args.to args.m args.highest args.part.now (fitting d)) in
-    (passed.pass-blocks.ensures.0 ∙ ap (λ (u : Update). u.answer) e, passed.pass-blocks.ensures.1 ∙ ap (λ (u : Update). u.part) e)
+    (passed.pass_blocks.ensures.0 ∙ ap (λ (u : Update). u.answer) e, passed.pass_blocks.ensures.1 ∙ ap (λ (u : Update). u.part) e)
 
-none-passed-requires : tie.Need-none-passed-requires
+none-passed-requires : tie.Need-none_passed-requires
 none-passed-requires c κs = search rules
 
-same-length-2 : tie.Need-same-length-2
+same-length-2 : tie.Need-shape_of-part
 same-length-2 c = search rules
 
-returns-2 : tie.Need-returns-2
+returns-2 : tie.Need-returns
 returns-2 c =
     let d = c.before.before in
     let args = (entry d).args in
     let e = sym (pass_none args.line args.from args.to args.m args.highest args.part.now
-    (sym d.fits2.ensures ∙ c.before.if1.false)) in
+    (sym d.fits2.ensures ∙ c.if-fits.false)) in
     (c.none_passed.ensures ∙ ap (λ (u : Update). u.answer) e, ap (λ (u : Update). u.part) e)
 
 pub pass_spec : {M : Type 1} → statement M
 pass_spec =
     tie.close
-    (tie.spec
-    fits-requires
-    pass-blocks-requires
-    same_length
-    returns
-    none-passed-requires
-    same-length-2
-    returns-2)
+    (tie.spec fits-requires pass-blocks-requires same_length returns none-passed-requires same-length-2 returns-2)

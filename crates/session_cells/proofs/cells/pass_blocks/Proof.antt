@@ -12,19 +12,19 @@ use Rattle.session_cells.proofs.Passing.{rest_within, rest_moved, blocks_stop, b
 use Rattle.session_cells.proofs.cells.pass_blocks.Statement.{statement}
 use Rattle.session_cells.proofs.cells.pass_blocks.Tie as tie
 
-abbrev invariant-loop : tie.invariant-loop
+abbrev invariant-loop : tie.invariant-loop-i
 invariant-loop part₀ line from to m0 highest0 i₀ m₀ highest₀ part i m highest =
     (i ≤ to) × (length part ≡ part_length) × (pass_blocks line (to - i) to i m highest part ≡ pass_blocks line (to - from) to from m0 highest0 part₀)
 
-abbrev decreases-loop : tie.decreases-loop
+abbrev decreases-loop : tie.decreases-loop-i
 decreases-loop part₀ line from to m0 highest0 i₀ m₀ highest₀ part i m highest = to - i
 
 -- a turn that has passed the rest of a block: its test, its head, and the entry of the function
-module _ (d : tie.After-pass-rest invariant-loop decreases-loop) where
-  abbrev tested : tie.In-loop invariant-loop decreases-loop
+module _ (d : tie.After-pass_rest-p invariant-loop decreases-loop) where
+  abbrev tested : tie.In-loop-i invariant-loop decreases-loop
   tested = d.before.before
 
-  abbrev turn : tie.At-loop invariant-loop decreases-loop
+  abbrev turn : tie.At-loop-i invariant-loop decreases-loop
   turn = tested.before
 
   abbrev entry : tie.Start invariant-loop decreases-loop
@@ -35,80 +35,69 @@ module _ (d : tie.After-pass-rest invariant-loop decreases-loop) where
   rest = pass_rest entry.args.line entry.args.to turn.loop.i turn.loop.m turn.loop.highest turn.loop.part
 
   abbrev update : Update
-  update = record { answer = d.pass-rest.result; part = d.pass-rest.last.0 }
+  update = record { answer = d.pass_rest.result; part = d.pass_rest.last.0 }
 
   is-rest : update ≡ rest
-  is-rest = λ j. record { answer = d.pass-rest.ensures.0 j; part = d.pass-rest.ensures.1 j }
+  is-rest = λ j. record { answer = d.pass_rest.ensures.0 j; part = d.pass_rest.ensures.1 j }
 
-  finds : {t : Bool} → d.pass-rest.result.found ≡ t → rest.answer.found ≡ t
+  finds : {t : Bool} → d.pass_rest.result.found ≡ t → rest.answer.found ≡ t
   finds e = sym (ap (λ (u : Update). u.answer.found) is-rest) ∙ e
 
-  bounds : (suc turn.loop.i ≤ d.pass-rest.result.row) × (d.pass-rest.result.row ≤ entry.args.to)
+  bounds : (suc turn.loop.i ≤ d.pass_rest.result.row) × (d.pass_rest.result.row ≤ entry.args.to)
   bounds =
-      let h = tested.loop-test.taken in
-      let b = entry.pre.3 in
+      let h = tested.loop-test.true in
+      let b = entry.requires.3 in
       subst (λ (u : Update). (suc turn.loop.i ≤ u.answer.row) × (u.answer.row ≤ entry.args.to)) (sym is-rest)
       (rest_moved _ _ _ _ _ _ h b, rest_within _ _ _ _ _ _ h b)
 
 -- the call, once what it left is known
-abbrev passed : tie.After-slice-known2 invariant-loop decreases-loop → tie.After-pass-rest invariant-loop decreases-loop
+abbrev passed : tie.After-slice_known-in-loop-i-1 invariant-loop decreases-loop → tie.After-pass_rest-p invariant-loop decreases-loop
 passed c = c.before.before
 
-loop-holds : tie.Need-loop-init invariant-loop decreases-loop
+loop-holds : tie.Need-loop-i-init invariant-loop decreases-loop
 loop-holds c = (search rules, search rules, refl)
 
-pass-rest-requires : tie.Need-pass-rest-requires invariant-loop decreases-loop
+pass-rest-requires : tie.Need-pass_rest-p-requires invariant-loop decreases-loop
 pass-rest-requires c κs = search rules
 
-same_length : tie.Need-same-length invariant-loop decreases-loop
+same_length : tie.Need-shape_of-part-then-p invariant-loop decreases-loop
 same_length c = search rules
 
-returns : tie.Need-returns invariant-loop decreases-loop
+returns : tie.Need-returns-then-p invariant-loop decreases-loop
 returns c =
     let d = passed c.before in
-    let e = is-rest d ∙ sym (blocks_stop _ _ _ _ _ _ (tested d).loop-test.taken (entry d).pre.3 (finds d c.if1.true)) ∙ (turn d).loop.inv.2 in
+    let e = is-rest d ∙ sym (blocks_stop _ _ _ _ _ _ (tested d).loop-test.true (entry d).requires.3 (finds d c.if-p.true)) ∙ (turn d).loop.invariant.2 in
     (ap (λ (u : Update). u.answer) e, ap (λ (u : Update). u.part) e)
 
-loop-less : tie.Need-loop-smaller invariant-loop decreases-loop
+loop-less : tie.Need-loop-i-smaller invariant-loop decreases-loop
 loop-less c =
     let b = bounds (passed c.before) in
     omega arith
 
-loop-again : tie.Need-loop-preserved invariant-loop decreases-loop
+loop-again : tie.Need-loop-i-preserved invariant-loop decreases-loop
 loop-again c =
     let d = passed c.before in
     let args = (entry d).args in
     let e = ap (λ (u : Update). pass_blocks args.line (args.to - u.answer.row) args.to u.answer.row u.answer.m u.answer.highest u.part)
     (is-rest d)
-    ∙ sym (blocks_on _ _ _ _ _ _ (tested d).loop-test.taken (entry d).pre.3 (finds d c.if1.false))
-    ∙ (turn d).loop.inv.2 in
-    ((bounds d).1, d.pass-rest.kept.0 ∙ (turn d).loop.inv.1, e)
+    ∙ sym (blocks_on _ _ _ _ _ _ (tested d).loop-test.true (entry d).requires.3 (finds d c.if-p.false))
+    ∙ (turn d).loop.invariant.2 in
+    ((bounds d).1, d.pass_rest-p.auto.part ∙ (turn d).loop.invariant.1, e)
 
-none-passed-requires : tie.Need-none-passed-requires invariant-loop decreases-loop
+none-passed-requires : tie.Need-none_passed-requires invariant-loop decreases-loop
 none-passed-requires c κs = search rules
 
-same-length-2 : tie.Need-same-length-2 invariant-loop decreases-loop
+same-length-2 : tie.Need-shape_of-part invariant-loop decreases-loop
 same-length-2 c = search rules
 
-returns-2 : tie.Need-returns-2 invariant-loop decreases-loop
+returns-2 : tie.Need-returns invariant-loop decreases-loop
 returns-2 c =
     let t = c.before.before in
-    let n : t.before.before.args.to - t.loop.i ≡ 0 = omega arith in
-    let e = rw n at t.loop.invariant.2 in
+    let n : t.args.to - t.loop-i.i ≡ 0 = omega arith in
+    let e = rw n at t.loop-i.invariant.2 in
     (c.none_passed.ensures ∙ ap (λ (u : Update). u.answer) e, ap (λ (u : Update). u.part) e)
 
-pub pass-blocks-spec : {M : Type 1} → statement M
-pass-blocks-spec =
+pub pass_blocks_spec : {M : Type 1} → statement M
+pass_blocks_spec =
     tie.close
-    (tie.spec
-    invariant-loop
-    decreases-loop
-    loop-holds
-    pass-rest-requires
-    same_length
-    returns
-    loop-less
-    loop-again
-    none-passed-requires
-    same-length-2
-    returns-2)
+    (tie.spec invariant-loop decreases-loop loop-holds pass-rest-requires same_length returns loop-less loop-again none-passed-requires same-length-2 returns-2)

@@ -9,96 +9,84 @@ use Rattle.session_cells.proofs.Passing.{rest_moves, rest_skip, rest_rows}
 use Rattle.session_cells.proofs.cells.pass_rest.Statement.{statement}
 use Rattle.session_cells.proofs.cells.pass_rest.Tie as tie
 
-abbrev entry : tie.After-is-skipped → tie.Start
+abbrev entry : tie.After-is_skipped → tie.Start
 entry d = d.before.before.before
 
-abbrev tested : tie.After-smaller → tie.Else1
+abbrev tested : tie.After-smaller-end → tie.Else-is_skipped
 tested c = c.before.before
 
 -- row by row it goes up to the end that the definition names
-module _ (c : tie.After-smaller) where
+module _ (c : tie.After-smaller-end) where
   abbrev began : tie.Start
   began = entry (tested c).before
 
-  ends : c.smaller.result ≡ min (rest_end began.args.line began.args.row) began.args.to
-  ends = c.smaller.ensures ∙ ap (λ (n : ℕ). min n began.args.to) c.before.rest-end.ensures
+  ends : c.smaller-end.result ≡ min (rest_end began.args.line began.args.row) began.args.to
+  ends = c.smaller-end.ensures ∙ ap (λ (n : ℕ). min n began.args.to) c.rest_end.ensures
 
-  rows_fit : (began.args.row ≤ c.smaller.result) × (c.smaller.result ≤ hit_limit)
+  rows_fit : (began.args.row ≤ c.smaller-end.result) × (c.smaller-end.result ≤ hit_limit)
   rows_fit =
-      let moves = rest_moves began.args.line began.args.row (omega (arith, began.pre)) in
-      (omega (arith, ends, began.pre), omega (arith, ends, began.pre))
+      let moves = rest_moves began.args.line began.args.row (omega (arith, began.requires)) in
+      (omega (arith, ends, began.requires), omega (arith, ends, began.requires))
 
-  is-rest : (let a = began.args in pass_rows a.line (c.smaller.result - a.row) a.row a.m a.highest a.part.now
+  is-rest : (let a = began.args in pass_rows a.line (c.smaller-end.result - a.row) a.row a.m a.highest a.part.now
       ≡ pass_rest a.line a.to a.row a.m a.highest a.part.now)
   is-rest =
       let a = began.args in
       ap (λ (n : ℕ). pass_rows a.line (n - a.row) a.row a.m a.highest a.part.now) ends
-      ∙ sym (rest_rows a.line a.to a.row a.m a.highest a.part.now (sym (tested c).before.is-skipped.ensures ∙ (tested c).if1.false))
+      ∙ sym (rest_rows a.line a.to a.row a.m a.highest a.part.now (sym (tested c).is_skipped.ensures ∙ (tested c).if-is_skipped.false))
 
-is-skipped-requires : tie.Need-is-skipped-requires
+is-skipped-requires : tie.Need-is_skipped-requires
 is-skipped-requires c κs = search rules
 
 skip-requires : tie.Need-skip-requires
 skip-requires c κs = search rules
 
-same_length : tie.Need-same-length
+same_length : tie.Need-shape_of-part-then-is_skipped
 same_length c = search rules
 
-returns : tie.Need-returns
+returns : tie.Need-returns-then-is_skipped
 returns c =
     let d = c.before.before in
     let args = (entry d.before).args in
     let e = sym (rest_skip args.line args.to args.row args.m args.highest args.part.now
-    (sym d.before.is-skipped.ensures ∙ d.if1.true)) in
+    (sym d.is_skipped.ensures ∙ d.if-is_skipped.true)) in
     (c.skip.ensures ∙ ap (λ (u : Update). u.answer) e, ap (λ (u : Update). u.part) e)
 
-rest-end-requires : tie.Need-rest-end-requires
+rest-end-requires : tie.Need-rest_end-requires
 rest-end-requires c κs = search rules
 
-smaller-requires : tie.Need-smaller-requires
+smaller-requires : tie.Need-smaller-end-requires
 smaller-requires c κs = search rules
 
-pass-rows-fractions-requires : tie.Need-pass-rows-fractions-requires
+pass-rows-fractions-requires : tie.Need-pass_rows_fractions-requires
 pass-rows-fractions-requires c κs =
     let d = c.before.before in
-    ((began d).requires.0, (rows_fit d).0, (rows_fit d).1, c.before.if2.true)
+    ((began d).requires.0, (rows_fit d).0, (rows_fit d).1, c.if-line.true)
 
-same-length-2 : tie.Need-same-length-2
+same-length-2 : tie.Need-shape_of-part-then-line
 same-length-2 c = search rules
 
-returns-2 : tie.Need-returns-2
+returns-2 : tie.Need-returns-then-line
 returns-2 c =
     let passed = c.before.before in
     let e = is-rest passed.before.before.before in
-    (passed.pass-rows-fractions.ensures.0 ∙ ap (λ (u : Update). u.answer) e, passed.pass-rows-fractions.ensures.1 ∙ ap (λ (u : Update). u.part) e)
+    (passed.pass_rows_fractions.ensures.0 ∙ ap (λ (u : Update). u.answer) e, passed.pass_rows_fractions.ensures.1 ∙ ap (λ (u : Update). u.part) e)
 
-pass-rows-requires : tie.Need-pass-rows-requires
+pass-rows-requires : tie.Need-pass_rows-requires
 pass-rows-requires c κs =
     let d = c.before.before in
-    ((began d).requires.0, (rows_fit d).0, (rows_fit d).1, c.before.if2.false)
+    ((began d).requires.0, (rows_fit d).0, (rows_fit d).1, c.if-line.false)
 
-same-length-3 : tie.Need-same-length-3
+same-length-3 : tie.Need-shape_of-part
 same-length-3 c = search rules
 
-returns-3 : tie.Need-returns-3
+returns-3 : tie.Need-returns
 returns-3 c =
     let passed = c.before.before in
     let e = is-rest passed.before.before.before in
-    (passed.pass-rows.ensures.0 ∙ ap (λ (u : Update). u.answer) e, passed.pass-rows.ensures.1 ∙ ap (λ (u : Update). u.part) e)
+    (passed.pass_rows.ensures.0 ∙ ap (λ (u : Update). u.answer) e, passed.pass_rows.ensures.1 ∙ ap (λ (u : Update). u.part) e)
 
-pub pass-rest-spec : {M : Type 1} → statement M
-pass-rest-spec =
+pub pass_rest_spec : {M : Type 1} → statement M
+pass_rest_spec =
     tie.close
-    (tie.spec
-    is-skipped-requires
-    skip-requires
-    same_length
-    returns
-    rest-end-requires
-    smaller-requires
-    pass-rows-fractions-requires
-    same-length-2
-    returns-2
-    pass-rows-requires
-    same-length-3
-    returns-3)
+    (tie.spec is-skipped-requires skip-requires same_length returns rest-end-requires smaller-requires pass-rows-fractions-requires same-length-2 returns-2 pass-rows-requires same-length-3 returns-3)

@@ -5,16 +5,16 @@ use Rattle.session_cells.specs.Passing.{rest_end}
 use Rattle.session_cells.proofs.cells.rest_end.Statement.{statement}
 use Rattle.session_cells.proofs.cells.rest_end.Tie as tie
 
-add-smaller : tie.Need-add-smaller
+add-smaller : tie.Need-overflow_add-row
 add-smaller c = search rules
 
-mul-smaller : tie.Need-mul-smaller
+mul-smaller : tie.Need-overflow_mul-row
 mul-smaller c = search rules
 
 wide-requires : tie.Need-wide-requires
 wide-requires c κs = search rules
 
-add-smaller-2 : tie.Need-add-smaller-2
+add-smaller-2 : tie.Need-overflow_add-wide
 add-smaller-2 c = search rules
 
 smaller-requires : tie.Need-smaller-requires
@@ -22,9 +22,9 @@ smaller-requires c κs = search rules
 
 returns : tie.Need-returns
 unfolding rest_end
-returns c = c.smaller.ensures ∙ rw c.before.wide.ensures.0
+returns c = c.smaller.ensures ∙ rw c.wide.ensures.0
 
-pub rest-end-spec : {M : Type 1} → statement M
-rest-end-spec =
+pub rest_end_spec : {M : Type 1} → statement M
+rest_end_spec =
     tie.close
     (tie.spec add-smaller mul-smaller wide-requires add-smaller-2 smaller-requires returns)

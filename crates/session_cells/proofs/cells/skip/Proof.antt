@@ -10,54 +10,43 @@ use Rattle.session_cells.proofs.cells.skip.Tie as tie
 next_start : (block : ℕ) → start_at block + 1 ≡ start_at (block + 1)
 next_start block = omega arith
 
-rest-end-requires : tie.Need-rest-end-requires
+rest-end-requires : tie.Need-rest_end-requires
 rest-end-requires c κs = search rules
 
-add-none-passed : tie.Need-overflow-add-none-passed
+add-none-passed : tie.Need-overflow_add-block
 add-none-passed c = search rules
 
-add-none-passed-2 : tie.Need-overflow-add-none-passed-2
+add-none-passed-2 : tie.Need-overflow_add-block-2
 add-none-passed-2 c = search rules
 
-mul-none-passed : tie.Need-overflow-mul-none-passed
+mul-none-passed : tie.Need-offset_bounds-part-block
 mul-none-passed c = search rules
 
-shared-slice-read-none-passed : tie.Need-shared-slice-read-none-passed
+shared-slice-read-none-passed : tie.Need-bounds-part-block
 shared-slice-read-none-passed c = search rules
 
-add-greater : tie.Need-overflow-add-greater
+add-greater : tie.Need-overflow_add-block-3
 add-greater c = search rules
 
-mul-greater : tie.Need-overflow-mul-greater
+mul-greater : tie.Need-offset_bounds-part-block-2
 mul-greater c = search rules
 
-shared-slice-read-greater : tie.Need-shared-slice-read-greater
+shared-slice-read-greater : tie.Need-bounds-part-block-2
 shared-slice-read-greater c = search rules
 
 greater-requires : tie.Need-greater-requires
 greater-requires c κs = search rules
 
-none-passed-requires : tie.Need-none-passed-requires
+none-passed-requires : tie.Need-none_passed-requires
 none-passed-requires c κs = search rules
 
 returns : tie.Need-returns
 unfolding skipped
 returns c =
     let d = c.before in
-    c.none_passed.ensures ∙ rw (d.before.before.before.rest-end.ensures, d.greater.ensures, next_start)
+    c.none_passed.ensures ∙ rw (d.rest_end.ensures, d.greater.ensures, next_start)
 
-pub skip-spec : {M : Type 1} → statement M
-skip-spec =
+pub skip_spec : {M : Type 1} → statement M
+skip_spec =
     tie.close
-    (tie.spec
-    rest-end-requires
-    add-none-passed
-    add-none-passed-2
-    mul-none-passed
-    shared-slice-read-none-passed
-    add-greater
-    mul-greater
-    shared-slice-read-greater
-    greater-requires
-    none-passed-requires
-    returns)
+    (tie.spec rest-end-requires add-none-passed add-none-passed-2 mul-none-passed shared-slice-read-none-passed add-greater mul-greater shared-slice-read-greater greater-requires none-passed-requires returns)

@@ -13,20 +13,20 @@ in-64-bits a b k l =
     let h : a * b ≤ (word_limit - 1) * divisor_span = mul-le-mul k' l in
     (omega arith, omega arith)
 
-mul-result : tie.Need-overflow-mul-result
+mul-result : tie.Need-overflow_mul-result
 mul-result c =
     let began = c.before in
     let l : began.args.top.m ≤ divisor_span = omega (arith, began.requires.2) in
     record { fits = (in-64-bits _ _ began.ranges.d.fits l).1 }
 
-mul-result-2 : tie.Need-overflow-mul-result-2
+mul-result-2 : tie.Need-overflow_mul-result-2
 mul-result-2 c =
     let began = c.before.before in
     let l : began.args.top.divisor ≤ divisor_span = omega (arith, began.requires.3) in
     record { fits = (in-64-bits _ _ began.ranges.m.fits l).0 }
 
 returns : tie.Need-returns
-returns c = let apart = c.before.before.requires in rw (apart.0, apart.1)
+returns c = let apart = c.requires in rw (apart.0, apart.1)
 
-pub is-at-most-spec : {M : Type 1} → statement M
-is-at-most-spec = tie.close (tie.spec mul-result mul-result-2 returns)
+pub is_at_most_spec : {M : Type 1} → statement M
+is_at_most_spec = tie.close (tie.spec mul-result mul-result-2 returns)

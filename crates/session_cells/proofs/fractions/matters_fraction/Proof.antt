@@ -15,7 +15,7 @@ apart-requires c κs = search rules
 divisor-requires : tie.Need-divisor-requires
 divisor-requires c κs = search rules
 
-is-at-most-requires : tie.Need-is-at-most-requires
+is-at-most-requires : tie.Need-is_at_most-requires
 is-at-most-requires c κs = search rules
 
 returns : tie.Need-returns
@@ -25,8 +25,8 @@ returns c =
     let began = d.before.before in
     let n = d.divisor.result in
     let m = began.args.m in
-    let e = c.is-at-most.ensures ∙ ap (λ (w : ℕ). leb (numerator w * n) (m * denominator w)) d.before.apart.ensures.0 in
+    let e = c.is_at_most.ensures ∙ ap (λ (w : ℕ). leb (numerator w * n) (m * denominator w)) d.apart.ensures.0 in
     sym (fraction_matters began.args.line _ _ _ began.requires n d.divisor.ensures (sym e))
 
-pub matters-fraction-spec : {M : Type 1} → statement M
-matters-fraction-spec = tie.close (tie.spec apart-requires divisor-requires is-at-most-requires returns)
+pub matters_fraction_spec : {M : Type 1} → statement M
+matters_fraction_spec = tie.close (tie.spec apart-requires divisor-requires is-at-most-requires returns)

@@ -2,7 +2,7 @@
 use Prim.Native.Nat.{ℕ}
 use mathlib.Core.Path.{◌≡◌, refl, sym, ap, ◌∙◌}
 use borrow.Author.Rules.{rules}
-use borrow.Author.Tests.{not-true, not-false}
+use borrow.Author.Tests.{not_true, not-false}
 use lib.ListN.{get_or}
 use Rattle.session_cells.specs.Passing.{line_score, in_reach, Update}
 use Rattle.session_cells.proofs.Passing.{AtCell, greater_of, entered_of, pass_low, pass_last}
@@ -10,86 +10,86 @@ use Rattle.session_cells.proofs.fractions.pass_row_fraction.Statement.{statement
 use Rattle.session_cells.proofs.fractions.pass_row_fraction.Tie as tie
 
 -- the calls at the cell once it is passed, and the entry of the function
-abbrev compared : tie.After-lowered → tie.After-below
+abbrev compared : tie.After-lowered-rest → tie.After-below-one
 compared d = d.before.before.before
 
-abbrev entry : tie.After-lowered → tie.Start
+abbrev entry : tie.After-lowered-rest → tie.Start
 entry d = let read = (compared d).before.before in read.before.before
 
 -- what is known at the cell before it is tested, with its score word
-at_cell : (d : tie.After-lowered) (s : ℕ)
+at_cell : (d : tie.After-lowered-rest) (s : ℕ)
     → s ≡ line_score (entry d).args.line (entry d).args.m (get_or (entry d).args.part.now (entry d).args.row 0)
     → AtCell (entry d).args.line (entry d).args.row (entry d).args.m (entry d).args.highest (entry d).args.part.now
-    s (compared d).below.result d.before.greater-fraction.result d.lowered.result
+    s (compared d).below.result d.greater_fraction.result d.lowered.result
 unfolding in_reach
 at_cell d s e = record {
   score = e;
   reach = (compared d).below.ensures;
-  known = greater_of (entry d).args.line _ (entry d).requires.2 _ _ d.before.greater-fraction.ensures;
+  known = greater_of (entry d).args.line _ (entry d).requires.2 _ _ d.greater_fraction.ensures;
   lower = d.lowered.ensures;
 }
 
-mul-x : tie.Need-overflow-mul-x
+mul-x : tie.Need-offset_bounds-part-row
 mul-x c = search rules
 
-slice-read-x : tie.Need-slice-read-x
+slice-read-x : tie.Need-bounds-part-row
 slice-read-x c = search rules
 
-add-below : tie.Need-overflow-add-below
+add-below : tie.Need-overflow_add-row
 add-below c = search rules
 
-mul-below : tie.Need-overflow-mul-below
+mul-below : tie.Need-offset_bounds-part-row-2
 mul-below c = search rules
 
-slice-read-below : tie.Need-slice-read-below
+slice-read-below : tie.Need-bounds-part-row-2
 slice-read-below c = search rules
 
-below-requires : tie.Need-below-requires
+below-requires : tie.Need-below-one-requires
 below-requires c κs = search rules
 
-add-greater-fraction : tie.Need-overflow-add-greater-fraction
+add-greater-fraction : tie.Need-overflow_add-row-2
 add-greater-fraction c = search rules
 
-mul-greater-fraction : tie.Need-overflow-mul-greater-fraction
+mul-greater-fraction : tie.Need-offset_bounds-part-row-3
 mul-greater-fraction c = search rules
 
-slice-read-greater-fraction : tie.Need-slice-read-greater-fraction
+slice-read-greater-fraction : tie.Need-bounds-part-row-3
 slice-read-greater-fraction c = search rules
 
-greater-fraction-requires : tie.Need-greater-fraction-requires
+greater-fraction-requires : tie.Need-greater_fraction-seen-requires
 greater-fraction-requires c κs = search rules
 
-lowered-requires : tie.Need-lowered-requires
+lowered-requires : tie.Need-lowered-rest-requires
 lowered-requires c κs = search rules
 
-add-next : tie.Need-overflow-add-next
+add-next : tie.Need-overflow_add-next
 add-next c = search rules
 
-matters-fraction-requires : tie.Need-matters-fraction-requires
+matters-fraction-requires : tie.Need-matters_fraction-requires
 matters-fraction-requires c κs = search rules
 
-returns : tie.Need-returns
+returns : tie.Need-returns-then-not-matters_fraction
 returns c =
     let t = c.before in
-    let e = sym (pass_low _ _ _ _ _ _ _ _ _ (at_cell t.before _ refl) 0 (sym t.matters-fraction.ensures ∙ not-true _ c.if1.true)) in
+    let e = sym (pass_low _ _ _ _ _ _ _ _ _ (at_cell t.before _ refl) 0 (sym t.matters_fraction.ensures ∙ not_true _ c.if-not-matters_fraction.true)) in
     (ap (λ (u : Update). u.answer) e, ap (λ (u : Update). u.part) e)
 
-score-word-requires : tie.Need-score-word-requires
+score-word-requires : tie.Need-score_word-s-requires
 score-word-requires c κs = search rules
 
-enter-fraction-requires : tie.Need-enter-fraction-requires
+enter-fraction-requires : tie.Need-enter_fraction-requires
 enter-fraction-requires c κs = search rules
 
-is-reasonable-requires : tie.Need-is-reasonable-requires
+is-reasonable-requires : tie.Need-is_reasonable-requires
 is-reasonable-requires c κs = search rules
 
-greater-fraction-requires-2 : tie.Need-greater-fraction-requires-2
+greater-fraction-requires-2 : tie.Need-greater_fraction-requires
 greater-fraction-requires-2 c κs = search rules
 
-same_length : tie.Need-same-length
+same_length : tie.Need-shape_of-part
 same_length c = search rules
 
-returns-2 : tie.Need-returns-2
+returns-2 : tie.Need-returns
 unfolding line_score
 returns-2 c =
     let j = c.before in
@@ -100,33 +100,13 @@ returns-2 c =
     let d = t.before in
     let line = (entry d).args.line in
     let kind = (entry d).requires.2 in
-    let e = sym (pass_last _ _ _ _ _ _ _ _ _ (at_cell d scored.score-word.result scored.score-word.ensures)
-    recorded.enter-fraction.new.0 c.greater-fraction2.result (sym t.matters-fraction.ensures ∙ not-false _ tested.if1.false)
-    (entered_of line _ kind _ _ _ _ recorded.enter-fraction.ensures) (greater_of line _ kind _ _ c.greater-fraction2.ensures)
-    j.is-reasonable.result j.is-reasonable.ensures) in
+    let e = sym (pass_last _ _ _ _ _ _ _ _ _ (at_cell d scored.score_word-s.result scored.score_word-s.ensures)
+    recorded.enter_fraction.new.part c.greater_fraction.result (sym t.matters_fraction.ensures ∙ not-false _ tested.if-not-matters_fraction.false)
+    (entered_of line _ kind _ _ _ _ recorded.enter_fraction.ensures) (greater_of line _ kind _ _ c.greater_fraction.ensures)
+    j.is_reasonable.result j.is_reasonable.ensures) in
     (ap (λ (u : Update). u.answer) e, ap (λ (u : Update). u.part) e)
 
-pub pass-row-fraction-spec : {M : Type 1} → statement M
-pass-row-fraction-spec =
+pub pass_row_fraction_spec : {M : Type 1} → statement M
+pass_row_fraction_spec =
     tie.close
-    (tie.spec
-    mul-x
-    slice-read-x
-    add-below
-    mul-below
-    slice-read-below
-    below-requires
-    add-greater-fraction
-    mul-greater-fraction
-    slice-read-greater-fraction
-    greater-fraction-requires
-    lowered-requires
-    add-next
-    matters-fraction-requires
-    returns
-    score-word-requires
-    enter-fraction-requires
-    is-reasonable-requires
-    greater-fraction-requires-2
-    same_length
-    returns-2)
+    (tie.spec mul-x slice-read-x add-below mul-below slice-read-below below-requires add-greater-fraction mul-greater-fraction slice-read-greater-fraction greater-fraction-requires lowered-requires add-next matters-fraction-requires returns score-word-requires enter-fraction-requires is-reasonable-requires greater-fraction-requires-2 same_length returns-2)

@@ -12,127 +12,111 @@ use Rattle.session_cells.proofs.Pausing.{pace, pause_stop, pause_on}
 use Rattle.session_cells.proofs.fractions.pass_rows_fractions.Statement.{statement}
 use Rattle.session_cells.proofs.fractions.pass_rows_fractions.Tie as tie
 
-abbrev invariant-loop : tie.invariant-loop
+abbrev invariant-loop : tie.invariant-loop-i
 invariant-loop part₀ line from to m0 highest0 m₀ highest₀ i₀ part m highest i =
     (i ≤ to) × (length part ≡ part_length) × (pass_rows line (to - i) i m highest part ≡ pass_rows line (to - from) from m0 highest0 part₀)
 
-abbrev decreases-loop : tie.decreases-loop
+abbrev decreases-loop : tie.decreases-loop-i
 decreases-loop part₀ line from to m0 highest0 m₀ highest₀ i₀ part m highest i = to - i
 
 -- a turn that `quiet_fractions` has been called in: its head, and the entry of the function
-abbrev turn : tie.After-quiet-fractions invariant-loop decreases-loop → tie.At-loop invariant-loop decreases-loop
+abbrev turn : tie.After-quiet_fractions-q invariant-loop decreases-loop → tie.At-loop-i invariant-loop decreases-loop
 turn d = d.before.before.before
 
-abbrev entry : tie.After-quiet-fractions invariant-loop decreases-loop → tie.Start invariant-loop decreases-loop
+abbrev entry : tie.After-quiet_fractions-q invariant-loop decreases-loop → tie.Start invariant-loop decreases-loop
 entry d = (turn d).before.before
 
 -- the pause is behind a row, within the rows that are asked for
-paced : (d : tie.After-quiet-fractions invariant-loop decreases-loop)
-    → ((turn d).loop.i < d.quiet-fractions.result.row) × (d.quiet-fractions.result.row ≤ (entry d).args.to)
+paced : (d : tie.After-quiet_fractions-q invariant-loop decreases-loop)
+    → ((turn d).loop.i < d.quiet_fractions.result.row) × (d.quiet_fractions.result.row ≤ (entry d).args.to)
 paced d =
     let t = (turn d).loop in
-    let q = d.quiet-fractions in
-    let p = pace (entry d).args.line (entry d).args.to t.i t.m t.highest t.part q.result t.inv.0 q.ensures in
-    let l = d.before.before.loop-test.true in
-    (omega (arith, p.moved), omega (arith, p.to, t.inv.0))
+    let q = d.quiet_fractions in
+    let p = pace (entry d).args.line (entry d).args.to t.i t.m t.highest t.part q.result t.invariant.0 q.ensures in
+    let l = d.loop-test.true in
+    (omega (arith, p.moved), omega (arith, p.to, t.invariant.0))
 
 -- the calls of a turn, from the one before its test back to `quiet_fractions`
 module _ (b : tie.After-below invariant-loop decreases-loop) where
-  abbrev raised : tie.After-greater-fraction invariant-loop decreases-loop
+  abbrev raised : tie.After-greater_fraction-highest invariant-loop decreases-loop
   raised = b.before
 
-  abbrev recorded : tie.After-enter-fraction invariant-loop decreases-loop
+  abbrev recorded : tie.After-enter_fraction invariant-loop decreases-loop
   recorded = raised.before.before.before
 
-  abbrev paused : tie.After-quiet-fractions invariant-loop decreases-loop
+  abbrev paused : tie.After-quiet_fractions-q invariant-loop decreases-loop
   paused = recorded.before.before
 
-loop-holds : tie.Need-loop-init invariant-loop decreases-loop
+loop-holds : tie.Need-loop-i-init invariant-loop decreases-loop
 loop-holds c = (search rules, search rules, refl)
 
-quiet-fractions-requires : tie.Need-quiet-fractions-requires invariant-loop decreases-loop
+quiet-fractions-requires : tie.Need-quiet_fractions-q-requires invariant-loop decreases-loop
 quiet-fractions-requires c κs = search rules
 
-sub-enter-fraction : tie.Need-overflow-sub-enter-fraction invariant-loop decreases-loop
+sub-enter-fraction : tie.Need-overflow_sub-i invariant-loop decreases-loop
 sub-enter-fraction c = omega (arith, (paced c.before).0)
 
-enter-fraction-requires : tie.Need-enter-fraction-requires invariant-loop decreases-loop
+enter-fraction-requires : tie.Need-enter_fraction-requires invariant-loop decreases-loop
 enter-fraction-requires c κs =
     let d = c.before in
-    ((turn d).loop.invariant.1, omega (arith, (paced d).0, (paced d).1, (entry d).requires.2))
+    ((turn d).loop-i.invariant.1, omega (arith, (paced d).0, (paced d).1, (entry d).requires.2))
 
-greater-fraction-requires : tie.Need-greater-fraction-requires invariant-loop decreases-loop
+greater-fraction-requires : tie.Need-greater_fraction-highest-requires invariant-loop decreases-loop
 greater-fraction-requires c κs = search rules
 
 below-requires : tie.Need-below-requires invariant-loop decreases-loop
 below-requires c κs = search rules
 
-sub-is-reasonable : tie.Need-overflow-sub-is-reasonable invariant-loop decreases-loop
+sub-is-reasonable : tie.Need-overflow_sub-i-in-loop-i invariant-loop decreases-loop
 sub-is-reasonable c = omega (arith, (paced (paused c)).0)
 
-is-reasonable-requires : tie.Need-is-reasonable-requires invariant-loop decreases-loop
+is-reasonable-requires : tie.Need-is_reasonable-requires invariant-loop decreases-loop
 is-reasonable-requires c κs = search rules
 
-same_length : tie.Need-same-length invariant-loop decreases-loop
+same_length : tie.Need-shape_of-part-then-is_reasonable invariant-loop decreases-loop
 same_length c =
     let b = c.before.before in
-    (recorded b).enter-fraction.auto.0 ∙ (turn (paused b)).loop.inv.1 ∙ sym (entry (paused b)).pre.0
+    (recorded b).enter_fraction.auto.0 ∙ (turn (paused b)).loop.invariant.1 ∙ sym (entry (paused b)).requires.0
 
-returns : tie.Need-returns invariant-loop decreases-loop
+returns : tie.Need-returns-then-is_reasonable invariant-loop decreases-loop
 returns c =
     let j = c.before in
     let b = j.before in
     let d = paused b in
     let line = (entry d).args.line in
-    let kind = (entry d).pre.3 in
-    let e = sym (pause_stop _ _ _ _ _ _ _ (turn d).loop.inv.0 d.quiet-fractions.ensures _ _ _ b.below.ensures
-    (greater_of line _ kind _ _ (raised b).greater-fraction.ensures)
-    (entered_of line _ kind _ _ _ _ (recorded b).enter-fraction.ensures) (sym j.is-reasonable.ensures ∙ c.if1.true)) ∙ (turn d).loop.inv.2 in
+    let kind = (entry d).requires.3 in
+    let e = sym (pause_stop _ _ _ _ _ _ _ (turn d).loop.invariant.0 d.quiet_fractions.ensures _ _ _ b.below.ensures
+    (greater_of line _ kind _ _ (raised b).greater_fraction.ensures)
+    (entered_of line _ kind _ _ _ _ (recorded b).enter_fraction.ensures) (sym j.is_reasonable.ensures ∙ c.if-is_reasonable.true)) ∙ (turn d).loop.invariant.2 in
     (ap (λ (u : Update). u.answer) e, ap (λ (u : Update). u.part) e)
 
-loop-less : tie.Need-loop-smaller invariant-loop decreases-loop
+loop-less : tie.Need-loop-i-smaller invariant-loop decreases-loop
 loop-less c =
     let d = paused c.before.before in
     omega (arith, (paced d).0, (paced d).1)
 
-loop-again : tie.Need-loop-preserved invariant-loop decreases-loop
+loop-again : tie.Need-loop-i-preserved invariant-loop decreases-loop
 loop-again c =
     let j = c.before in
     let b = j.before in
     let d = paused b in
     let line = (entry d).args.line in
-    let kind = (entry d).pre.3 in
-    let e = sym (pause_on _ _ _ _ _ _ _ (turn d).loop.inv.0 d.quiet-fractions.ensures _ _ _ b.below.ensures
-    (greater_of line _ kind _ _ (raised b).greater-fraction.ensures)
-    (entered_of line _ kind _ _ _ _ (recorded b).enter-fraction.ensures) (sym j.is-reasonable.ensures ∙ c.if1.false)) ∙ (turn d).loop.inv.2 in
-    ((paced d).1, (recorded b).enter-fraction.auto.0 ∙ (turn d).loop.inv.1, e)
+    let kind = (entry d).requires.3 in
+    let e = sym (pause_on _ _ _ _ _ _ _ (turn d).loop.invariant.0 d.quiet_fractions.ensures _ _ _ b.below.ensures
+    (greater_of line _ kind _ _ (raised b).greater_fraction.ensures)
+    (entered_of line _ kind _ _ _ _ (recorded b).enter_fraction.ensures) (sym j.is_reasonable.ensures ∙ c.if-is_reasonable.false)) ∙ (turn d).loop.invariant.2 in
+    ((paced d).1, (recorded b).enter_fraction.auto.0 ∙ (turn d).loop.invariant.1, e)
 
-same-length-2 : tie.Need-same-length-2 invariant-loop decreases-loop
+same-length-2 : tie.Need-shape_of-part invariant-loop decreases-loop
 same-length-2 c = search rules
 
-returns-2 : tie.Need-returns-2 invariant-loop decreases-loop
+returns-2 : tie.Need-returns invariant-loop decreases-loop
 returns-2 c =
-    let n : c.before.before.before.args.to - c.before.loop.i ≡ 0 = omega arith in
-    let e = rw n at c.before.loop.invariant.2 in
+    let n : c.args.to - c.loop-i.i ≡ 0 = omega arith in
+    let e = rw n at c.loop-i.invariant.2 in
     (ap (λ (u : Update). u.answer) e, ap (λ (u : Update). u.part) e)
 
-pub pass-rows-fractions-spec : {M : Type 1} → statement M
-pass-rows-fractions-spec =
+pub pass_rows_fractions_spec : {M : Type 1} → statement M
+pass_rows_fractions_spec =
     tie.close
-    (tie.spec
-    invariant-loop
-    decreases-loop
-    loop-holds
-    quiet-fractions-requires
-    sub-enter-fraction
-    enter-fraction-requires
-    greater-fraction-requires
-    below-requires
-    sub-is-reasonable
-    is-reasonable-requires
-    same_length
-    returns
-    loop-less
-    loop-again
-    same-length-2
-    returns-2)
+    (tie.spec invariant-loop decreases-loop loop-holds quiet-fractions-requires sub-enter-fraction enter-fraction-requires greater-fraction-requires below-requires sub-is-reasonable is-reasonable-requires same_length returns loop-less loop-again same-length-2 returns-2)

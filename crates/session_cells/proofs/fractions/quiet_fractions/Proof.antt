@@ -13,27 +13,27 @@ use Rattle.session_cells.proofs.Pausing.{quiet_stop, quiet_on}
 use Rattle.session_cells.proofs.fractions.quiet_fractions.Statement.{statement}
 use Rattle.session_cells.proofs.fractions.quiet_fractions.Tie as tie
 
-abbrev invariant-loop : tie.invariant-loop
+abbrev invariant-loop : tie.invariant-loop-i
 invariant-loop part line from to m0 highest0 m₀ top₀ i₀ m top i =
     (i ≤ to) × IsApart top × (quiet_rows line (to - i) i m top.word part ≡ quiet_rows line (to - from) from m0 highest0 part)
 
-abbrev decreases-loop : tie.decreases-loop
+abbrev decreases-loop : tie.decreases-loop-i
 decreases-loop part line from to m0 highest0 m₀ top₀ i₀ m top i = to - i
 
 -- the places of a turn, from the end of the cell's calls back to the turn's head, and the entry of the function
-abbrev known : tie.After-lowered invariant-loop decreases-loop → tie.After-raised invariant-loop decreases-loop
+abbrev known : tie.After-lowered-m invariant-loop decreases-loop → tie.After-raised-top invariant-loop decreases-loop
 known d = d.before.before
 
-abbrev tested : tie.After-lowered invariant-loop decreases-loop → tie.In-loop invariant-loop decreases-loop
+abbrev tested : tie.After-lowered-m invariant-loop decreases-loop → tie.In-loop-i invariant-loop decreases-loop
 tested d = let row = (known d).before.before in row.before.before
 
-abbrev turn : tie.After-lowered invariant-loop decreases-loop → tie.At-loop invariant-loop decreases-loop
+abbrev turn : tie.After-lowered-m invariant-loop decreases-loop → tie.At-loop-i invariant-loop decreases-loop
 turn d = (tested d).before
 
-abbrev entry : tie.After-lowered invariant-loop decreases-loop → tie.Start invariant-loop decreases-loop
+abbrev entry : tie.After-lowered-m invariant-loop decreases-loop → tie.Start invariant-loop decreases-loop
 entry d = (turn d).before.before.before
 
-module _ (d : tie.After-lowered invariant-loop decreases-loop) where
+module _ (d : tie.After-lowered-m invariant-loop decreases-loop) where
   -- the index of the cell's left end
   abbrev index : ℕ
   index = get_or (entry d).args.part.now (turn d).loop.i 0
@@ -41,12 +41,12 @@ module _ (d : tie.After-lowered invariant-loop decreases-loop) where
   -- what is known at a cell before it is tested, with its score word
   at_cell : (s : ℕ) → s ≡ line_score (entry d).args.line (turn d).loop.m index
       → AtCell (entry d).args.line (turn d).loop.i (turn d).loop.m (turn d).loop.top.word (entry d).args.part.now
-      s d.before.below.result (known d).raised.result.word d.lowered.result
+      s d.below.result (known d).raised.result.word d.lowered.result
   unfolding in_reach
   at_cell s e = record {
     score = e;
-    reach = d.before.below.ensures;
-    known = greater_of (entry d).args.line _ (entry d).pre.3 _ _ (known d).raised.ensures.0;
+    reach = d.below.ensures;
+    known = greater_of (entry d).args.line _ (entry d).requires.3 _ _ (known d).raised.ensures.0;
     lower = d.lowered.ensures;
   }
 
@@ -59,121 +59,98 @@ module _ (d : tie.After-lowered invariant-loop decreases-loop) where
       ≡ quiet_rows (entry d).args.line ((entry d).args.to - (entry d).args.from) (entry d).args.from (entry d).args.m0
       (entry d).args.highest0 (entry d).args.part.now
   from-here =
-      let n : (entry d).args.to - (turn d).loop.i ≡ suc left = omega (arith, (tested d).loop-test.taken) in
-      rw n at (turn d).loop.inv.2
+      let n : (entry d).args.to - (turn d).loop.i ≡ suc left = omega (arith, (tested d).loop-test.true) in
+      rw n at (turn d).loop.invariant.2
 
 -- whether the cell matters, by the answer of the test
-told : (t : tie.After-is-at-most invariant-loop decreases-loop) {answer : Bool} → t.is-at-most.result ≡ answer
+told : (t : tie.After-is_at_most invariant-loop decreases-loop) {answer : Bool} → t.is_at_most.result ≡ answer
     → (let d = t.before.before in matters (entry d).args.line (known d).raised.result.word (turn d).loop.m (index d) ≡ answer)
 unfolding line_divisor
 told t e =
     let began = entry t.before.before in
-    fraction_matters began.args.line _ _ _ began.pre.3 t.before.divisor.result t.before.divisor.ensures
-    (sym t.is-at-most.ensures ∙ e)
+    fraction_matters began.args.line _ _ _ began.requires.3 t.divisor.result t.divisor.ensures
+    (sym t.is_at_most.ensures ∙ e)
 
-apart-requires : tie.Need-apart-requires invariant-loop decreases-loop
+apart-requires : tie.Need-apart-top-requires invariant-loop decreases-loop
 apart-requires c κs = search rules
 
-loop-holds : tie.Need-loop-init invariant-loop decreases-loop
+loop-holds : tie.Need-loop-i-init invariant-loop decreases-loop
 loop-holds c =
-    let args = c.before.before.args in (
+    let args = c.args in (
       search rules,
-      c.apart.ensures.1,
-      ap (λ (w : ℕ). quiet_rows args.line (args.to - args.from) args.from args.m0 w args.part.now) c.apart.ensures.0,
+      c.apart-top.ensures.1,
+      ap (λ (w : ℕ). quiet_rows args.line (args.to - args.from) args.from args.m0 w args.part.now) c.apart-top.ensures.0,
     )
 
-mul-x : tie.Need-overflow-mul-x invariant-loop decreases-loop
+mul-x : tie.Need-offset_bounds-part-i invariant-loop decreases-loop
 mul-x c = search rules
 
-shared-slice-read-x : tie.Need-shared-slice-read-x invariant-loop decreases-loop
+shared-slice-read-x : tie.Need-bounds-part-i invariant-loop decreases-loop
 shared-slice-read-x c = search rules
 
-add-reach : tie.Need-overflow-add-reach invariant-loop decreases-loop
+add-reach : tie.Need-overflow_add-reach invariant-loop decreases-loop
 add-reach c = search rules
 
-mul-reach : tie.Need-overflow-mul-reach invariant-loop decreases-loop
+mul-reach : tie.Need-offset_bounds-part-i-in-loop-i invariant-loop decreases-loop
 mul-reach c = search rules
 
-shared-slice-read-reach : tie.Need-shared-slice-read-reach invariant-loop decreases-loop
+shared-slice-read-reach : tie.Need-bounds-part-i-in-loop-i invariant-loop decreases-loop
 shared-slice-read-reach c = search rules
 
-add-raised : tie.Need-overflow-add-raised invariant-loop decreases-loop
+add-raised : tie.Need-overflow_add-i invariant-loop decreases-loop
 add-raised c = search rules
 
-mul-raised : tie.Need-overflow-mul-raised invariant-loop decreases-loop
+mul-raised : tie.Need-offset_bounds-part-i-in-loop-i-2 invariant-loop decreases-loop
 mul-raised c = search rules
 
-shared-slice-read-raised : tie.Need-shared-slice-read-raised invariant-loop decreases-loop
+shared-slice-read-raised : tie.Need-bounds-part-i-in-loop-i-2 invariant-loop decreases-loop
 shared-slice-read-raised c = search rules
 
-raised-requires : tie.Need-raised-requires invariant-loop decreases-loop
+raised-requires : tie.Need-raised-top-requires invariant-loop decreases-loop
 raised-requires c κs = search rules
 
 below-requires : tie.Need-below-requires invariant-loop decreases-loop
 below-requires c κs = search rules
 
-lowered-requires : tie.Need-lowered-requires invariant-loop decreases-loop
+lowered-requires : tie.Need-lowered-m-requires invariant-loop decreases-loop
 lowered-requires c κs = search rules
 
-add-i : tie.Need-overflow-add-i invariant-loop decreases-loop
+add-i : tie.Need-overflow_add-i-in-loop-i invariant-loop decreases-loop
 add-i c = search rules
 
 divisor-requires : tie.Need-divisor-requires invariant-loop decreases-loop
 divisor-requires c κs = search rules
 
-is-at-most-requires : tie.Need-is-at-most-requires invariant-loop decreases-loop
+is-at-most-requires : tie.Need-is_at_most-requires invariant-loop decreases-loop
 is-at-most-requires c κs = search rules
 
-score-word-requires : tie.Need-score-word-requires invariant-loop decreases-loop
+score-word-requires : tie.Need-score_word-requires invariant-loop decreases-loop
 score-word-requires c κs = search rules
 
-returns : tie.Need-returns invariant-loop decreases-loop
+returns : tie.Need-returns-then-is_at_most invariant-loop decreases-loop
 unfolding line_score
 returns c =
     let t = c.before.before in
     let d = t.before.before in
-    sym (quiet_stop _ _ _ _ _ _ _ _ _ (at_cell d _ c.score-word.ensures) (left d) (told t c.before.if1.true)) ∙ from-here d
+    sym (quiet_stop _ _ _ _ _ _ _ _ _ (at_cell d _ c.score_word.ensures) (left d) (told t c.if-is_at_most.true)) ∙ from-here d
 
-loop-less : tie.Need-loop-smaller invariant-loop decreases-loop
+loop-less : tie.Need-loop-i-smaller invariant-loop decreases-loop
 loop-less c = search rules
 
-loop-again : tie.Need-loop-preserved invariant-loop decreases-loop
+loop-again : tie.Need-loop-i-preserved invariant-loop decreases-loop
 loop-again c =
     let t = c.before in
     let d = t.before.before in
-    (search rules, (known d).raised.ensures.1, sym (quiet_on _ _ _ _ _ _ _ _ _ (at_cell d _ refl) (left d) (told t c.if1.false)) ∙ from-here d)
+    (search rules, (known d).raised-top.ensures.1, sym (quiet_on _ _ _ _ _ _ _ _ _ (at_cell d _ refl) (left d) (told t c.if-is_at_most.false)) ∙ from-here d)
 
-returns-2 : tie.Need-returns-2 invariant-loop decreases-loop
+returns-2 : tie.Need-returns invariant-loop decreases-loop
 returns-2 c =
     let last = c.before in
     let began = last.before.before.before in
-    let n : began.args.to - last.loop.i ≡ 0 = omega arith in
-    rw n at last.loop.invariant.2
+    let n : began.args.to - last.loop-i.i ≡ 0 = omega arith in
+    rw n at last.loop-i.invariant.2
 
-pub quiet-fractions-spec : {M : Type 1} → statement M
-quiet-fractions-spec =
+pub quiet_fractions_spec : {M : Type 1} → statement M
+quiet_fractions_spec =
     tie.close
-    (tie.spec
-    invariant-loop
-    decreases-loop
-    apart-requires
-    loop-holds
-    mul-x
-    shared-slice-read-x
-    add-reach
-    mul-reach
-    shared-slice-read-reach
-    add-raised
-    mul-raised
-    shared-slice-read-raised
-    raised-requires
-    below-requires
-    lowered-requires
-    add-i
-    divisor-requires
-    is-at-most-requires
-    score-word-requires
-    returns
-    loop-less
-    loop-again
-    returns-2)
+    (tie.spec invariant-loop decreases-loop apart-requires loop-holds mul-x shared-slice-read-x add-reach mul-reach shared-slice-read-reach add-raised mul-raised shared-slice-read-raised raised-requires below-requires lowered-requires add-i divisor-requires is-at-most-requires score-word-requires returns loop-less loop-again returns-2)

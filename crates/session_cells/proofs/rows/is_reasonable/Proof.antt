@@ -3,11 +3,11 @@ use borrow.Author.Tests.{eq-eqb, ne_eqb}
 use Rattle.session_cells.proofs.rows.is_reasonable.Statement.{statement}
 use Rattle.session_cells.proofs.rows.is_reasonable.Tie as tie
 
-returns : tie.Need-returns
-returns c = simp (ne_eqb _ _ c.if1.true)
+returns : tie.Need-returns-then-one-ne1
+returns c = simp (ne_eqb _ _ c.if-one-ne1.true)
 
-returns-2 : tie.Need-returns-2
-returns-2 c = simp (eq-eqb _ _ c.if1.false)
+returns-2 : tie.Need-returns
+returns-2 c = simp (eq-eqb _ _ c.if-one-ne1.false)
 
-pub is-reasonable-spec : {M : Type 1} → statement M
-is-reasonable-spec = tie.close (tie.spec returns returns-2)
+pub is_reasonable_spec : {M : Type 1} → statement M
+is_reasonable_spec = tie.close (tie.spec returns returns-2)

@@ -11,120 +11,101 @@ use Rattle.session_cells.proofs.rows.pass_row.Statement.{statement}
 use Rattle.session_cells.proofs.rows.pass_row.Tie as tie
 
 -- the calls at the cell once it is passed, and the entry of the function
-abbrev compared : tie.After-lowered → tie.After-below
+abbrev compared : tie.After-lowered-rest → tie.After-below-one
 compared d = d.before.before.before
 
-abbrev scored : tie.After-lowered → tie.After-score-word
+abbrev scored : tie.After-lowered-rest → tie.After-score_word-s
 scored d = (compared d).before.before
 
-abbrev entry : tie.After-lowered → tie.Start
+abbrev entry : tie.After-lowered-rest → tie.Start
 entry d = (scored d).before.before.before
 
 -- what is known at the cell before it is tested
-at_cell : (d : tie.After-lowered)
+at_cell : (d : tie.After-lowered-rest)
     → AtCell (entry d).args.line (entry d).args.row (entry d).args.m (entry d).args.highest (entry d).args.part.now
-    (scored d).score-word.result (compared d).below.result d.before.greater-number.result d.lowered.result
+    (scored d).score_word.result (compared d).below.result d.greater_number.result d.lowered.result
 unfolding line_score in_reach
 at_cell d = record {
-  score = (scored d).score-word.ensures;
+  score = (scored d).score_word.ensures;
   reach = (compared d).below.ensures;
-  known = greater_of (entry d).args.line _ (entry d).requires.2 _ _ d.before.greater-number.ensures;
+  known = greater_of (entry d).args.line _ (entry d).requires.2 _ _ d.greater_number.ensures;
   lower = d.lowered.ensures;
 }
 
 -- whether the cell matters, by the answer of the test
-told : (d : tie.After-lowered) {answer : Bool} → leb d.before.greater-number.result (scored d).score-word.result ≡ answer
-    → matters (entry d).args.line d.before.greater-number.result (entry d).args.m (get_or (entry d).args.part.now (entry d).args.row 0) ≡ answer
+told : (d : tie.After-lowered-rest) {answer : Bool} → leb d.greater_number.result (scored d).score_word.result ≡ answer
+    → matters (entry d).args.line d.greater_number.result (entry d).args.m (get_or (entry d).args.part.now (entry d).args.row 0) ≡ answer
 told d e = number_matters (entry d).args.line _ _ _ (entry d).requires.2 _ (at_cell d).score e
 
-mul-score-word : tie.Need-overflow-mul-score-word
+mul-score-word : tie.Need-offset_bounds-part-row
 mul-score-word c = search rules
 
-slice-read-score-word : tie.Need-slice-read-score-word
+slice-read-score-word : tie.Need-bounds-part-row
 slice-read-score-word c = search rules
 
-score-word-requires : tie.Need-score-word-requires
+score-word-requires : tie.Need-score_word-s-requires
 score-word-requires c κs = search rules
 
-add-below : tie.Need-overflow-add-below
+add-below : tie.Need-overflow_add-row
 add-below c = search rules
 
-mul-below : tie.Need-overflow-mul-below
+mul-below : tie.Need-offset_bounds-part-row-2
 mul-below c = search rules
 
-slice-read-below : tie.Need-slice-read-below
+slice-read-below : tie.Need-bounds-part-row-2
 slice-read-below c = search rules
 
-below-requires : tie.Need-below-requires
+below-requires : tie.Need-below-one-requires
 below-requires c κs = search rules
 
-add-greater-number : tie.Need-overflow-add-greater-number
+add-greater-number : tie.Need-overflow_add-row-2
 add-greater-number c = search rules
 
-mul-greater-number : tie.Need-overflow-mul-greater-number
+mul-greater-number : tie.Need-offset_bounds-part-row-3
 mul-greater-number c = search rules
 
-slice-read-greater-number : tie.Need-slice-read-greater-number
+slice-read-greater-number : tie.Need-bounds-part-row-3
 slice-read-greater-number c = search rules
 
-greater-number-requires : tie.Need-greater-number-requires
+greater-number-requires : tie.Need-greater_number-seen-requires
 greater-number-requires c κs = search rules
 
-lowered-requires : tie.Need-lowered-requires
+lowered-requires : tie.Need-lowered-rest-requires
 lowered-requires c κs = search rules
 
-add-next : tie.Need-overflow-add-next
+add-next : tie.Need-overflow_add-next
 add-next c = search rules
 
-returns : tie.Need-returns
+returns : tie.Need-returns-then-s-seen
 returns c =
-    let e = sym (pass_low _ _ _ _ _ _ _ _ _ (at_cell c.before) 0 (told c.before (lt-leb _ _ c.if1.true))) in
+    let e = sym (pass_low _ _ _ _ _ _ _ _ _ (at_cell c.before) 0 (told c.before (lt-leb _ _ c.if-s-seen.true))) in
     (ap (λ (u : Update). u.answer) e, ap (λ (u : Update). u.part) e)
 
 enter-requires : tie.Need-enter-requires
 enter-requires c κs = search rules
 
-is-reasonable-requires : tie.Need-is-reasonable-requires
+is-reasonable-requires : tie.Need-is_reasonable-requires
 is-reasonable-requires c κs = search rules
 
-greater-number-requires-2 : tie.Need-greater-number-requires-2
+greater-number-requires-2 : tie.Need-greater_number-requires
 greater-number-requires-2 c κs = search rules
 
-same_length : tie.Need-same-length
+same_length : tie.Need-shape_of-part
 same_length c = search rules
 
-returns-2 : tie.Need-returns-2
+returns-2 : tie.Need-returns
 returns-2 c =
     let j = c.before in
     let recorded = j.before.before.before in
     let d = recorded.before.before in
     let line = (entry d.before).args.line in
     let kind = (entry d.before).requires.2 in
-    let e = sym (pass_last _ _ _ _ _ _ _ _ _ (at_cell d.before) recorded.enter.new.0 c.greater-number2.result
-    (told d.before (le-leb _ _ d.if1.false)) (entered_of line _ kind _ _ _ _ recorded.enter.ensures)
-    (greater_of line _ kind _ _ c.greater-number2.ensures) j.is-reasonable.result j.is-reasonable.ensures) in
+    let e = sym (pass_last _ _ _ _ _ _ _ _ _ (at_cell d.before) recorded.enter.new.part c.greater_number.result
+    (told d.before (le-leb _ _ d.if-s-seen.false)) (entered_of line _ kind _ _ _ _ recorded.enter.ensures)
+    (greater_of line _ kind _ _ c.greater_number.ensures) j.is_reasonable.result j.is_reasonable.ensures) in
     (ap (λ (u : Update). u.answer) e, ap (λ (u : Update). u.part) e)
 
-pub pass-row-spec : {M : Type 1} → statement M
-pass-row-spec =
+pub pass_row_spec : {M : Type 1} → statement M
+pass_row_spec =
     tie.close
-    (tie.spec
-    mul-score-word
-    slice-read-score-word
-    score-word-requires
-    add-below
-    mul-below
-    slice-read-below
-    below-requires
-    add-greater-number
-    mul-greater-number
-    slice-read-greater-number
-    greater-number-requires
-    lowered-requires
-    add-next
-    returns
-    enter-requires
-    is-reasonable-requires
-    greater-number-requires-2
-    same_length
-    returns-2)
+    (tie.spec mul-score-word slice-read-score-word score-word-requires add-below mul-below slice-read-below below-requires add-greater-number mul-greater-number slice-read-greater-number greater-number-requires lowered-requires add-next returns enter-requires is-reasonable-requires greater-number-requires-2 same_length returns-2)

@@ -20,8 +20,8 @@ numerator-requires c κs = search rules
 denominator-requires : tie.Need-denominator-requires
 denominator-requires c κs = search rules
 
-mul-result : tie.Need-overflow-mul-result
-mul-result c = record { fits = in-word _ _ c.before.numerator.ensures.1 c.denominator.ensures.1 }
+mul-result : tie.Need-overflow_mul-result
+mul-result c = record { fits = in-word _ _ c.numerator.ensures.1 c.denominator.ensures.1 }
 
 numerator-requires-2 : tie.Need-numerator-requires-2
 numerator-requires-2 c κs = search rules
@@ -29,24 +29,17 @@ numerator-requires-2 c κs = search rules
 denominator-requires-2 : tie.Need-denominator-requires-2
 denominator-requires-2 c κs = search rules
 
-mul-result-2 : tie.Need-overflow-mul-result-2
-mul-result-2 c = record { fits = in-word _ _ c.before.numerator2.ensures.1 c.denominator2.ensures.1 }
+mul-result-2 : tie.Need-overflow_mul-result-2
+mul-result-2 c = record { fits = in-word _ _ c.numerator-2.ensures.1 c.denominator-2.ensures.1 }
 
 returns : tie.Need-returns
 unfolding at_most
 returns c =
     let second = c.before in
     let first = second.before in
-    rw (first.before.numerator.ensures.0, first.denominator.ensures.0, second.numerator2.ensures.0, c.denominator2.ensures.0)
+    rw (first.numerator.ensures.0, first.denominator.ensures.0, second.numerator-2.ensures.0, c.denominator-2.ensures.0)
 
-pub at-most-fraction-spec : {M : Type 1} → statement M
-at-most-fraction-spec =
+pub at_most_fraction_spec : {M : Type 1} → statement M
+at_most_fraction_spec =
     tie.close
-    (tie.spec
-    numerator-requires
-    denominator-requires
-    mul-result
-    numerator-requires-2
-    denominator-requires-2
-    mul-result-2
-    returns)
+    (tie.spec numerator-requires denominator-requires mul-result numerator-requires-2 denominator-requires-2 mul-result-2 returns)

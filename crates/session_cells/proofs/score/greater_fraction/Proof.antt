@@ -8,17 +8,17 @@ use Rattle.session_records.proofs.Greater.{greater_first, greater_second, greate
 use Rattle.session_cells.proofs.score.greater_fraction.Statement.{statement}
 use Rattle.session_cells.proofs.score.greater_fraction.Tie as tie
 
-returns : tie.Need-returns
-returns c = rw c.if1.true (sym (greater_none (at_most true) (word_order true) _))
+returns : tie.Need-returns-then-b-eq0
+returns c = rw c.if-b-eq0.true (sym (greater_none (at_most true) (word_order true) _))
 
-at-most-fraction-requires : tie.Need-at-most-fraction-requires
+at-most-fraction-requires : tie.Need-at_most_fraction-requires
 at-most-fraction-requires c κs = search rules
 
-returns-2 : tie.Need-returns-2
-returns-2 c = sym (greater_first (at_most true) (word_order true) _ _ (sym c.before.at-most-fraction.ensures ∙ c.if2.true))
+returns-2 : tie.Need-returns-then-at_most_fraction
+returns-2 c = sym (greater_first (at_most true) (word_order true) _ _ (sym c.at_most_fraction.ensures ∙ c.if-at_most_fraction.true))
 
-returns-3 : tie.Need-returns-3
-returns-3 c = sym (greater_second (at_most true) (word_order true) _ _ (sym c.before.at-most-fraction.ensures ∙ c.if2.false))
+returns-3 : tie.Need-returns-else-at_most_fraction
+returns-3 c = sym (greater_second (at_most true) (word_order true) _ _ (sym c.at_most_fraction.ensures ∙ c.if-at_most_fraction.false))
 
-pub greater-fraction-spec : {M : Type 1} → statement M
-greater-fraction-spec = tie.close (tie.spec returns at-most-fraction-requires returns-2 returns-3)
+pub greater_fraction_spec : {M : Type 1} → statement M
+greater_fraction_spec = tie.close (tie.spec returns at-most-fraction-requires returns-2 returns-3)

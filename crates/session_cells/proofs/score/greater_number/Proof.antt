@@ -5,13 +5,13 @@ use Rattle.session_records.specs.Records.{greater}
 use Rattle.session_cells.proofs.score.greater_number.Statement.{statement}
 use Rattle.session_cells.proofs.score.greater_number.Tie as tie
 
-returns : tie.Need-returns
+returns : tie.Need-returns-then-a-b
 unfolding greater at_most
-returns c = simp (lt-leb _ _ c.if1.true)
+returns c = simp (lt-leb _ _ c.if-a-b.true)
 
-returns-2 : tie.Need-returns-2
+returns-2 : tie.Need-returns-else-a-b
 unfolding greater at_most
-returns-2 c = simp (le-leb _ _ c.if1.false)
+returns-2 c = simp (le-leb _ _ c.if-a-b.false)
 
-pub greater-number-spec : {M : Type 1} → statement M
-greater-number-spec = tie.close (tie.spec returns returns-2)
+pub greater_number_spec : {M : Type 1} → statement M
+greater_number_spec = tie.close (tie.spec returns returns-2)

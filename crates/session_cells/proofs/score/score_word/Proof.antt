@@ -27,24 +27,24 @@ cut a b c =
     ∙ mod-add-mod b word_limit (a + c)
     ∙ ap (λ (n : ℕ). n % word_limit) third
 
-mul-shared : tie.Need-overflow-mul-shared
+mul-shared : tie.Need-overflow_mul-shared
 mul-shared c = record { fits = in-64-bits c.args.gain c.args.m c.ranges.gain.fits c.ranges.m.fits }
 
-mul-before : tie.Need-overflow-mul-before
+mul-before : tie.Need-overflow_mul-before
 mul-before c = record { fits = in-64-bits c.args.v c.args.x c.ranges.v.fits c.ranges.x.fits }
 
-add-result : tie.Need-overflow-add-result
+add-result : tie.Need-overflow_add-result
 add-result c = search rules
 
-add-result-2 : tie.Need-overflow-add-result-2
+add-result-2 : tie.Need-overflow_add-result-2
 add-result-2 c = search rules
 
-cast-result : tie.Need-overflow-cast-result
+cast-result : tie.Need-overflow_cast-result-2
 cast-result c = search rules
 
 returns : tie.Need-returns
 returns c = cut (c.args.gain * c.args.m) (c.args.v * c.args.x) c.args.base
 
-pub score-word-spec : {M : Type 1} → statement M
-score-word-spec =
+pub score_word_spec : {M : Type 1} → statement M
+score_word_spec =
     tie.close (tie.spec mul-shared mul-before add-result add-result-2 cast-result returns)

@@ -8,97 +8,80 @@ use Rattle.session_cells.proofs.Leaving.{Lowering, none_lowered, one_lowered, al
 use Rattle.session_cells.proofs.starts.leave.Statement.{statement}
 use Rattle.session_cells.proofs.starts.leave.Tie as tie
 
-abbrev invariant-loop : tie.invariant-loop
+abbrev invariant-loop : tie.invariant-loop-b
 invariant-loop starts₀ back column to b₀ starts b = (back ≤ b * block_rows) × Lowering back column b starts₀ starts
 
-abbrev decreases-loop : tie.decreases-loop
+abbrev decreases-loop : tie.decreases-loop-b
 decreases-loop starts₀ back column to b₀ starts b = to - b
 
 -- the head of a turn, and the entry of the function
-abbrev turn : tie.After-lowered invariant-loop decreases-loop → tie.At-loop invariant-loop decreases-loop
+abbrev turn : tie.After-lowered invariant-loop decreases-loop → tie.At-loop-b invariant-loop decreases-loop
 turn c = c.before.before.before
 
-abbrev bounded : tie.At-loop invariant-loop decreases-loop → tie.After-smaller invariant-loop decreases-loop
+abbrev bounded : tie.At-loop-b invariant-loop decreases-loop → tie.After-smaller-to invariant-loop decreases-loop
 bounded t = t.before.before
 
-abbrev entry : tie.At-loop invariant-loop decreases-loop → tie.Start invariant-loop decreases-loop
+abbrev entry : tie.At-loop-b invariant-loop decreases-loop → tie.Start invariant-loop decreases-loop
 entry t = (bounded t).before.before
 
-add-smaller : tie.Need-overflow-add-smaller invariant-loop decreases-loop
+add-smaller : tie.Need-overflow_add-column invariant-loop decreases-loop
 add-smaller c = search rules
 
-smaller-requires : tie.Need-smaller-requires invariant-loop decreases-loop
+smaller-requires : tie.Need-smaller-to-requires invariant-loop decreases-loop
 smaller-requires c κs = search rules
 
-smaller-requires-2 : tie.Need-smaller-requires-2 invariant-loop decreases-loop
+smaller-requires-2 : tie.Need-smaller-requires invariant-loop decreases-loop
 smaller-requires-2 c κs = search rules
 
-add-b : tie.Need-overflow-add-b invariant-loop decreases-loop
+add-b : tie.Need-overflow_add-b invariant-loop decreases-loop
 add-b c = search rules
 
-loop-holds : tie.Need-loop-init invariant-loop decreases-loop
+loop-holds : tie.Need-loop-b-init invariant-loop decreases-loop
 loop-holds c =
-    let args = c.before.before.before.args in
-    let first : (k : ℕ) → k < args.back / block_rows + c.smaller2.result → k * block_rows < args.back = λ k l. omega (arith, c.smaller2.ensures) in
-    (omega (arith, c.smaller2.ensures), none_lowered args.back args.column _ args.starts.now first)
+    let args = c.args in
+    let first : (k : ℕ) → k < args.back / block_rows + c.smaller.result → k * block_rows < args.back = λ k l. omega (arith, c.smaller.ensures) in
+    (omega (arith, c.smaller.ensures), none_lowered args.back args.column _ args.starts.now first)
 
-mul-lowered : tie.Need-overflow-mul-lowered invariant-loop decreases-loop
+mul-lowered : tie.Need-offset_bounds-starts-b invariant-loop decreases-loop
 mul-lowered c = search rules
 
-slice-read-lowered : tie.Need-slice-read-lowered invariant-loop decreases-loop
+slice-read-lowered : tie.Need-bounds-starts-b invariant-loop decreases-loop
 slice-read-lowered c = search rules
 
 lowered-requires : tie.Need-lowered-requires invariant-loop decreases-loop
 lowered-requires c κs = search rules
 
-mul-starts : tie.Need-overflow-mul-starts invariant-loop decreases-loop
+mul-starts : tie.Need-offset_bounds-starts-b-in-loop-b invariant-loop decreases-loop
 mul-starts c = search rules
 
-slice-write-starts : tie.Need-slice-write-starts invariant-loop decreases-loop
+slice-write-starts : tie.Need-bounds-starts-b-in-loop-b invariant-loop decreases-loop
 slice-write-starts c = search rules
 
-add-b-2 : tie.Need-overflow-add-b-2 invariant-loop decreases-loop
+add-b-2 : tie.Need-overflow_add-b-in-loop-b invariant-loop decreases-loop
 add-b-2 c = search rules
 
-loop-less : tie.Need-loop-smaller invariant-loop decreases-loop
+loop-less : tie.Need-loop-b-smaller invariant-loop decreases-loop
 loop-less c = search rules
 
-loop-again : tie.Need-loop-preserved invariant-loop decreases-loop
+loop-again : tie.Need-loop-b-preserved invariant-loop decreases-loop
 loop-again c =
     let t = turn c in
     let args = (entry t).args in
-    let s = one_lowered args.back args.column t.loop.b c.lowered.result args.starts.now t.loop.starts t.loop.inv.0 (omega arith)
-    (omega arith) c.lowered.ensures t.loop.inv.1 in
+    let s = one_lowered args.back args.column t.loop-b.b c.lowered.result args.starts.now t.loop-b.starts t.loop-b.invariant.0 (omega arith)
+    (omega arith) c.lowered.ensures t.loop-b.invariant.1 in
     (omega arith, s)
 
-same_length : tie.Need-same-length invariant-loop decreases-loop
+same_length : tie.Need-shape_of-starts invariant-loop decreases-loop
 same_length c = search rules
 
 returns : tie.Need-returns invariant-loop decreases-loop
 returns c =
     let t = c.before in
     let args = (entry t).args in
-    let last : (k : ℕ) → t.loop.b ≤ k → k < length args.starts.now → args.column < k * block_rows = λ k l h. omega arith in
-    all_lowered args.back args.column t.loop.b args.starts.now t.loop.starts last t.loop.invariant.1
+    let last : (k : ℕ) → t.loop-b.b ≤ k → k < length args.starts.now → args.column < k * block_rows = λ k l h. omega arith in
+    all_lowered args.back args.column t.loop-b.b args.starts.now t.loop-b.starts last t.loop-b.invariant.1
 
 pub leave_spec : {M : Type 1} → statement M
 leave_spec =
     tie.close
-    (tie.spec
-    invariant-loop
-    decreases-loop
-    add-smaller
-    smaller-requires
-    smaller-requires-2
-    add-b
-    loop-holds
-    mul-lowered
-    slice-read-lowered
-    lowered-requires
-    mul-starts
-    slice-write-starts
-    add-b-2
-    loop-less
-    loop-again
-    same_length
-    returns)
+    (tie.spec invariant-loop decreases-loop add-smaller smaller-requires smaller-requires-2 add-b loop-holds mul-lowered slice-read-lowered lowered-requires mul-starts slice-write-starts add-b-2 loop-less loop-again same_length returns)

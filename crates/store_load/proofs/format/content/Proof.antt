@@ -8,5 +8,5 @@ returns : tie.Need-returns
 unfolding content
 returns c = refl
 
-pub content-spec : {M : Type 1} → statement M
-content-spec = tie.close (tie.spec returns)
+pub content_spec : {M : Type 1} → statement M
+content_spec = tie.close (tie.spec returns)

@@ -8,5 +8,5 @@ returns : tie.Need-returns
 unfolding header_k
 returns c = refl
 
-pub header-k-spec : {M : Type 1} → statement M
-header-k-spec = tie.close (tie.spec returns)
+pub header_k_spec : {M : Type 1} → statement M
+header_k_spec = tie.close (tie.spec returns)

@@ -8,5 +8,5 @@ returns : tie.Need-returns
 unfolding header_w
 returns c = refl
 
-pub header-w-spec : {M : Type 1} → statement M
-header-w-spec = tie.close (tie.spec returns)
+pub header_w_spec : {M : Type 1} → statement M
+header_w_spec = tie.close (tie.spec returns)

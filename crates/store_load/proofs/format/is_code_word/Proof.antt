@@ -7,14 +7,14 @@ use Rattle.store_load.proofs.format.is_code_word.Tie as tie
 kind-requires : tie.Need-kind-requires
 kind-requires c κs = search rules
 
-returns : tie.Need-returns
-returns c = simp (← c.before.kind.ensures, ne_eqb _ _ c.if1.true)
+returns : tie.Need-returns-then-kind-ne1
+returns c = simp (← c.kind.ensures, ne_eqb _ _ c.if-kind-ne1.true)
 
 content-requires : tie.Need-content-requires
 content-requires c κs = search rules
 
-returns-2 : tie.Need-returns-2
-returns-2 c = simp (c.content.ensures, ← c.before.before.kind.ensures, eq-eqb _ _ c.before.if1.false)
+returns-2 : tie.Need-returns
+returns-2 c = simp (c.content.ensures, ← c.kind.ensures, eq-eqb _ _ c.if-kind-ne1.false)
 
-pub is-code-word-spec : {M : Type 1} → statement M
-is-code-word-spec = tie.close (tie.spec kind-requires returns content-requires returns-2)
+pub is_code_word_spec : {M : Type 1} → statement M
+is_code_word_spec = tie.close (tie.spec kind-requires returns content-requires returns-2)

@@ -8,5 +8,5 @@ returns : tie.Need-returns
 unfolding kind
 returns c = refl
 
-pub kind-spec : {M : Type 1} → statement M
-kind-spec = tie.close (tie.spec returns)
+pub kind_spec : {M : Type 1} → statement M
+kind_spec = tie.close (tie.spec returns)

@@ -10,7 +10,7 @@ use lib.Dec.{eqb}
 use lib.ListN.{length, drop, get_or, drop_of_length-le}
 use lib.Seq.{drop-cons}
 use borrow.Author.Rules.{rules}
-use borrow.Author.Tests.{eq-eqb, ne_eqb, not-true, not-false}
+use borrow.Author.Tests.{eq-eqb, ne_eqb, not_true, not-false}
 use Rattle.base.specs.Replies.{refused}
 use Rattle.base.proofs.Lists.{and_right}
 use Rattle.store.specs.Words.{kind, content, is_position, is_code_word, is_position_word}
@@ -22,145 +22,145 @@ use Rattle.store_load.proofs.Counted.{counted_entry}
 use Rattle.store_load.proofs.judging.judge.Statement.{statement}
 use Rattle.store_load.proofs.judging.judge.Tie as tie
 
-abbrev invariant-loop : tie.invariant-loop
+abbrev invariant-loop : tie.invariant-loop-index
 invariant-loop words k limit index₀ n₀ low₀ index n low =
     (index ≤ length words)
     × (2 * n + 1 ≡ index)
     × (counted n (judge_from k index n low (drop index words)) ≡ counted 0 (judge_from k 1 0 0 (drop 1 words)))
 
-abbrev decreases-loop : tie.decreases-loop
+abbrev decreases-loop : tie.decreases-loop-index
 decreases-loop words k limit index₀ n₀ low₀ index n low = length words - index
 
 -- places, each named for where it leads and from where
-abbrev entry-turn : tie.At-loop invariant-loop decreases-loop → tie.Start invariant-loop decreases-loop
+abbrev entry-turn : tie.At-loop-index invariant-loop decreases-loop → tie.Start invariant-loop decreases-loop
 entry-turn c = c.before.before.before
 
-abbrev in-loop-shared-slice-known2 : tie.After-shared-slice-known2 invariant-loop decreases-loop → tie.In-loop invariant-loop decreases-loop
+abbrev in-loop-shared-slice-known2 : tie.After-shared_slice_known-in-loop-index-1 invariant-loop decreases-loop → tie.In-loop-index invariant-loop decreases-loop
 in-loop-shared-slice-known2 c = c.before
 
-abbrev in-loop-else1 : tie.Else1 invariant-loop decreases-loop → tie.In-loop invariant-loop decreases-loop
+abbrev in-loop-else1 : tie.Else-kind-eq3 invariant-loop decreases-loop → tie.In-loop-index invariant-loop decreases-loop
 in-loop-else1 c = c.before.before.before
 
-abbrev in-loop-else2 : tie.Else2 invariant-loop decreases-loop → tie.In-loop invariant-loop decreases-loop
-in-loop-else2 c = in-loop-else1 c.before.before
+abbrev in-loop-else2 : tie.Else-not-is_code_word invariant-loop decreases-loop → tie.In-loop-index invariant-loop decreases-loop
+in-loop-else2 c = c.before.before.before.before.before
 
-abbrev in-loop-shared-slice-known3 : tie.After-shared-slice-known3 invariant-loop decreases-loop → tie.In-loop invariant-loop decreases-loop
-in-loop-shared-slice-known3 c = in-loop-else2 c.before.before
+abbrev in-loop-shared-slice-known3 : tie.After-shared_slice_known-in-loop-index-2-1 invariant-loop decreases-loop → tie.In-loop-index invariant-loop decreases-loop
+in-loop-shared-slice-known3 c = c.before.before.before.before.before.before.before
 
-abbrev turn-shared-slice-known3 : tie.After-shared-slice-known3 invariant-loop decreases-loop → tie.At-loop invariant-loop decreases-loop
-turn-shared-slice-known3 c = (in-loop-shared-slice-known3 c).before
+abbrev turn-shared-slice-known3 : tie.After-shared_slice_known-in-loop-index-2-1 invariant-loop decreases-loop → tie.At-loop-index invariant-loop decreases-loop
+turn-shared-slice-known3 c = c.before.before.before.before.before.before.before.before
 
-abbrev else3-shared-slice-known3 : tie.After-shared-slice-known3 invariant-loop decreases-loop → tie.Else3 invariant-loop decreases-loop
+abbrev else3-shared-slice-known3 : tie.After-shared_slice_known-in-loop-index-2-1 invariant-loop decreases-loop → tie.Else-words-next invariant-loop decreases-loop
 else3-shared-slice-known3 c = c.before
 
 -- what judging finds from this turn's first word on, it finds in all words
 turn :
-    (c : tie.In-loop invariant-loop decreases-loop) {j : Judged} →
-    let a = (entry-turn c.before).args in
-    let l = c.before.loop in
+    (c : tie.In-loop-index invariant-loop decreases-loop) {j : Judged} →
+    let a = c.args in
+    let l = c.loop-index in
     judge_from a.k l.index l.n l.low (get_or a.words.now l.index 0 ∷ drop (suc l.index) a.words.now) ≡ j →
     counted l.n j ≡ counted 0 (judge_from a.k 1 0 0 (drop 1 a.words.now))
 turn c e =
-    let a = (entry-turn c.before).args in
-    let l = c.before.loop in
-    ap (counted l.n) (sym (ap (judge_from a.k l.index l.n l.low) (drop-cons a.words.now l.index 0 c.loop-test.true) ∙ e))
+    let a = c.args in
+    let l = c.loop-index in
+    ap (counted l.n) (sym (ap (judge_from a.k l.index l.n l.low) (drop-cons a.words.now l.index 0 c.loop-index-test.true) ∙ e))
     ∙ l.invariant.2
 
 -- the test of this turn's first word, against the limit that was computed
 code-test :
-    (c : tie.After-is-code-word invariant-loop decreases-loop) →
+    (c : tie.After-is_code_word invariant-loop decreases-loop) →
     let d = in-loop-else1 c.before in
     let a = (entry-turn d.before).args in
-    c.is-code-word.result ≡ is_code_word a.k (get_or a.words.now d.before.loop.index 0)
+    c.is_code_word.result ≡ is_code_word a.k (get_or a.words.now d.loop-index.index 0)
 code-test c =
     let d = in-loop-else1 c.before in
     let s = entry-turn d.before in
-    let x = get_or s.args.words.now d.before.loop.index 0 in
-    let limit = d.before.before.code-limit in
-    c.is-code-word.ensures
-    ∙ ap (λ (b : Bool). eqb (kind x) 1 && b) (sym (is_code_limit s.args.k limit.result (content x) s.pre.1 limit.ensures))
+    let x = get_or s.args.words.now d.loop-index.index 0 in
+    let limit = d.code_limit-limit in
+    c.is_code_word.ensures
+    ∙ ap (λ (b : Bool). eqb (kind x) 1 && b) (sym (is_code_limit s.args.k limit.result (content x) s.requires.1 limit.ensures))
 
 code-word :
-    (c : tie.Else2 invariant-loop decreases-loop) →
+    (c : tie.Else-not-is_code_word invariant-loop decreases-loop) →
     let d = in-loop-else1 c.before.before in
     let a = (entry-turn d.before).args in
-    is_code_word a.k (get_or a.words.now d.before.loop.index 0) ≡ true
-code-word c = sym (code-test c.before) ∙ not-false c.before.is-code-word.result c.if2.false
+    is_code_word a.k (get_or a.words.now d.loop-index.index 0) ≡ true
+code-word c = sym (code-test c.before) ∙ not-false c.is_code_word.result c.if-not-is_code_word.false
 
 position-test :
-    (c : tie.After-is-position-word invariant-loop decreases-loop) →
+    (c : tie.After-is_position_word invariant-loop decreases-loop) →
     let d = in-loop-shared-slice-known3 c.before in
     let a = (entry-turn d.before).args in
-    c.is-position-word.result ≡ is_position_word d.before.loop.low (get_or a.words.now (suc d.before.loop.index) 0)
-position-test c = rw (add-one (turn-shared-slice-known3 c.before).loop.index) at c.is-position-word.ensures
+    c.is_position_word.result ≡ is_position_word d.loop-index.low (get_or a.words.now (suc d.loop-index.index) 0)
+position-test c = rw (add-one c.loop-index.index) at c.is_position_word.ensures
 
 -- what judging finds from this turn's two words on, it finds in all words
 turn₂ :
-    (c : tie.Else3 invariant-loop decreases-loop) {j : Judged} →
+    (c : tie.Else-words-next invariant-loop decreases-loop) {j : Judged} →
     let d = in-loop-else1 c.before.before.before in
     let a = (entry-turn d.before).args in
-    let l = d.before.loop in
+    let l = d.loop-index in
     let ws = a.words.now in
     judge_from a.k l.index l.n l.low (get_or ws l.index 0 ∷ get_or ws (suc l.index) 0 ∷ drop (suc (suc l.index)) ws) ≡ j →
     counted l.n j ≡ counted 0 (judge_from a.k 1 0 0 (drop 1 ws))
 turn₂ c e =
     let d = in-loop-else1 c.before.before.before in
     let a = (entry-turn d.before).args in
-    let l = d.before.loop in
+    let l = d.loop-index in
     let ws = a.words.now in
     let inside : suc l.index < length ws = omega arith in
     turn d
     (ap (λ (rest : List ℕ). judge_from a.k l.index l.n l.low (get_or ws l.index 0 ∷ rest)) (drop-cons ws (suc l.index) 0 inside) ∙ e)
 
-code-limit-requires : tie.Need-code-limit-requires invariant-loop decreases-loop
+code-limit-requires : tie.Need-code_limit-limit-requires invariant-loop decreases-loop
 code-limit-requires c κs = search rules
 
-loop-holds : tie.Need-loop-init invariant-loop decreases-loop
+loop-holds : tie.Need-loop-index-init invariant-loop decreases-loop
 loop-holds c = (search rules, refl, refl)
 
-mul-first : tie.Need-overflow-mul-first invariant-loop decreases-loop
+mul-first : tie.Need-offset_bounds-words-index invariant-loop decreases-loop
 mul-first c = search rules
 
-shared-slice-read-first : tie.Need-shared-slice-read-first invariant-loop decreases-loop
+shared-slice-read-first : tie.Need-bounds-words-index invariant-loop decreases-loop
 shared-slice-read-first c = search rules
 
 kind-requires : tie.Need-kind-requires invariant-loop decreases-loop
 kind-requires c κs = search rules
 
-judge-last-requires : tie.Need-judge-last-requires invariant-loop decreases-loop
+judge-last-requires : tie.Need-judge_last-requires invariant-loop decreases-loop
 judge-last-requires c κs = search rules
 
-returns : tie.Need-returns invariant-loop decreases-loop
+returns : tie.Need-returns-then-kind-eq3 invariant-loop decreases-loop
 returns c =
     let d = in-loop-shared-slice-known2 c.before.before.before in
     let a = (entry-turn d.before).args in
-    let l = d.before.loop in
+    let l = d.loop-index in
     let x = get_or a.words.now l.index 0 in
-    let third : eqb (kind x) 3 ≡ true = eq-eqb (kind x) 3 (sym c.before.before.kind.ensures ∙ c.before.if1.true) in
+    let third : eqb (kind x) 3 ≡ true = eq-eqb (kind x) 3 (sym c.kind.ensures ∙ c.if-kind-eq3.true) in
     c.judge_last_lem.ensures ∙ turn d (judge_last_lem a.k l.index l.n l.low x (drop (suc l.index) a.words.now) third)
 
-is-code-word-requires : tie.Need-is-code-word-requires invariant-loop decreases-loop
+is-code-word-requires : tie.Need-is_code_word-requires invariant-loop decreases-loop
 is-code-word-requires c κs = search rules
 
-returns-2 : tie.Need-returns-2 invariant-loop decreases-loop
+returns-2 : tie.Need-returns-then-not-is_code_word invariant-loop decreases-loop
 returns-2 c =
     let e = c.before.before in
     let d = e.before.before.before in
     let a = (entry-turn d.before).args in
-    let l = d.before.loop in
+    let l = d.loop-index in
     let x = get_or a.words.now l.index 0 in
-    let other : eqb (kind x) 3 ≡ false = ap (λ (t : ℕ). eqb t 3) (sym e.before.kind.ensures) ∙ ne_eqb e.before.kind.result 3 e.if1.false in
-    let no_code : is_code_word a.k x ≡ false = sym (code-test c.before) ∙ not-true c.before.is-code-word.result c.if2.true in
+    let other : eqb (kind x) 3 ≡ false = ap (λ (t : ℕ). eqb t 3) (sym e.kind.ensures) ∙ ne_eqb e.kind.result 3 e.if-kind-eq3.false in
+    let no_code : is_code_word a.k x ≡ false = sym (code-test c.before) ∙ not_true c.is_code_word.result c.if-not-is_code_word.true in
     turn d (judge_first a.k l.index l.n l.low x (drop (suc l.index) a.words.now) other no_code)
 
-add-next : tie.Need-overflow-add-next invariant-loop decreases-loop
+add-next : tie.Need-overflow_add-next invariant-loop decreases-loop
 add-next c = search rules
 
-returns-3 : tie.Need-returns-3 invariant-loop decreases-loop
+returns-3 : tie.Need-returns-then-words-next invariant-loop decreases-loop
 returns-3 c =
     let d = in-loop-else1 c.before.before.before in
     let a = (entry-turn d.before).args in
-    let l = d.before.loop in
+    let l = d.loop-index in
     let x = get_or a.words.now l.index 0 in
     let end : length a.words.now ≤ suc l.index = omega arith in
     ap (λ (i : ℕ). refused 14 (i ∷ [])) (add-one l.index)
@@ -168,64 +168,64 @@ returns-3 c =
     (ap (λ (rest : List ℕ). judge_from a.k l.index l.n l.low (x ∷ rest)) (drop_of_length-le a.words.now end)
     ∙ judge_half a.k l.index l.n l.low x (code-word c.before))
 
-mul-second : tie.Need-overflow-mul-second invariant-loop decreases-loop
+mul-second : tie.Need-offset_bounds-words-next invariant-loop decreases-loop
 mul-second c = search rules
 
-shared-slice-read-second : tie.Need-shared-slice-read-second invariant-loop decreases-loop
+shared-slice-read-second : tie.Need-bounds-words-next invariant-loop decreases-loop
 shared-slice-read-second c = search rules
 
-is-position-word-requires : tie.Need-is-position-word-requires invariant-loop decreases-loop
+is-position-word-requires : tie.Need-is_position_word-requires invariant-loop decreases-loop
 is-position-word-requires c κs = search rules
 
-returns-4 : tie.Need-returns-4 invariant-loop decreases-loop
+returns-4 : tie.Need-returns-then-not-is_position_word invariant-loop decreases-loop
 returns-4 c =
     let f = c.before.before.before in
     let d = in-loop-else1 f.before.before.before in
     let a = (entry-turn d.before).args in
-    let l = d.before.loop in
+    let l = d.loop-index in
     let ws = a.words.now in
     let y = get_or ws (suc l.index) 0 in
     let no-position : is_position_word l.low y ≡ false =
-    sym (position-test c.before) ∙ not-true c.before.is-position-word.result c.if4.true
+    sym (position-test c.before) ∙ not_true c.is_position_word.result c.if-not-is_position_word.true
     in
     ap (λ (i : ℕ). refused 13 (i ∷ [])) (add-one l.index)
     ∙ turn₂ f
     (judge_second a.k l.index l.n l.low (get_or ws l.index 0) y (drop (suc (suc l.index)) ws) (code-word f.before) no-position)
 
-content-requires : tie.Need-content-requires invariant-loop decreases-loop
+content-requires : tie.Need-content-low-requires invariant-loop decreases-loop
 content-requires c κs = search rules
 
 position-word :
-    (c : tie.Else4 invariant-loop decreases-loop) →
+    (c : tie.Else-not-is_position_word invariant-loop decreases-loop) →
     let d = in-loop-shared-slice-known3 c.before.before in
     let a = (entry-turn d.before).args in
-    is_position_word d.before.loop.low (get_or a.words.now (suc d.before.loop.index) 0) ≡ true
-position-word c = sym (position-test c.before) ∙ not-false c.before.is-position-word.result c.if4.false
+    is_position_word d.loop-index.low (get_or a.words.now (suc d.loop-index.index) 0) ≡ true
+position-word c = sym (position-test c.before) ∙ not-false c.is_position_word.result c.if-not-is_position_word.false
 
-add_low : tie.Need-overflow-add-low invariant-loop decreases-loop
+add_low : tie.Need-overflow_add-low invariant-loop decreases-loop
 add_low c =
     let d = in-loop-shared-slice-known3 c.before.before.before in
-    let l = d.before.loop in
+    let l = d.loop-index in
     let y = get_or (entry-turn d.before).args.words.now (suc l.index) 0 in
     let range = is_position_range l.low (content y) (and_right (eqb (kind y) 2) (is_position l.low (content y)) (position-word c.before)) in
-    let same : c.content.result ≡ content y = rw (add-one l.index) at c.content.ensures in
+    let same : c.content-low.result ≡ content y = rw (add-one l.index) at c.content-low.ensures in
     omega (arith, range.1)
 
-add-n : tie.Need-overflow-add-n invariant-loop decreases-loop
+add-n : tie.Need-overflow_add-n invariant-loop decreases-loop
 add-n c = search rules
 
-add-index : tie.Need-overflow-add-index invariant-loop decreases-loop
+add-index : tie.Need-overflow_add-index invariant-loop decreases-loop
 add-index c = search rules
 
-loop-less : tie.Need-loop-smaller invariant-loop decreases-loop
+loop-less : tie.Need-loop-index-smaller invariant-loop decreases-loop
 loop-less c = search rules
 
-loop-again : tie.Need-loop-preserved invariant-loop decreases-loop
+loop-again : tie.Need-loop-index-preserved invariant-loop decreases-loop
 loop-again c =
     let f = else3-shared-slice-known3 c.before.before.before in
     let d = in-loop-else1 f.before.before.before in
     let a = (entry-turn d.before).args in
-    let l = d.before.loop in
+    let l = d.loop-index in
     let ws = a.words.now in
     let x = get_or ws l.index 0 in
     let y = get_or ws (suc l.index) 0 in
@@ -236,42 +236,18 @@ loop-again c =
     in (
       omega arith,
       omega arith,
-      simp (c.content.ensures, add-one, add-two) (counted_entry l.n (record { code = content x; position = content y }) rest ∙ found),
+      simp (c.content-low.ensures, add-one, add-two) (counted_entry l.n (record { code = content x; position = content y }) rest ∙ found),
     )
 
-returns-5 : tie.Need-returns-5 invariant-loop decreases-loop
+returns-5 : tie.Need-returns invariant-loop decreases-loop
 unfolding judge_from
 returns-5 c =
-    let a = (entry-turn c.before).args in
-    let l = c.before.loop in
-    ap (λ (rest : List ℕ). counted l.n (judge_from a.k l.index l.n l.low rest)) (sym (drop_of_length-le a.words.now c.loop-test.false))
+    let a = c.args in
+    let l = c.loop-index in
+    ap (λ (rest : List ℕ). counted l.n (judge_from a.k l.index l.n l.low rest)) (sym (drop_of_length-le a.words.now c.loop-index-test.false))
     ∙ l.invariant.2
 
-pub judge-spec : {M : Type 1} → statement M
-judge-spec =
+pub judge_spec : {M : Type 1} → statement M
+judge_spec =
     tie.close
-    (tie.spec
-    invariant-loop
-    decreases-loop
-    code-limit-requires
-    loop-holds
-    mul-first
-    shared-slice-read-first
-    kind-requires
-    judge-last-requires
-    returns
-    is-code-word-requires
-    returns-2
-    add-next
-    returns-3
-    mul-second
-    shared-slice-read-second
-    is-position-word-requires
-    returns-4
-    content-requires
-    add_low
-    add-n
-    add-index
-    loop-less
-    loop-again
-    returns-5)
+    (tie.spec invariant-loop decreases-loop code-limit-requires loop-holds mul-first shared-slice-read-first kind-requires judge-last-requires returns is-code-word-requires returns-2 add-next returns-3 mul-second shared-slice-read-second is-position-word-requires returns-4 content-requires add_low add-n add-index loop-less loop-again returns-5)

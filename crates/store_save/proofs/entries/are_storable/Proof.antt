@@ -7,7 +7,7 @@ use mathlib.Core.Path.{◌≡◌, refl, sym, ◌∙◌}
 use lib.ListN.{length, drop, get_or, drop_of_length-le}
 use lib.Dec.{ltb}
 use borrow.Author.Rules.{rules}
-use borrow.Author.Tests.{lt-ltb, le-ltb, not-true, not-false}
+use borrow.Author.Tests.{lt-ltb, le-ltb, not_true, not-false}
 use Rattle.kmers.specs.Kmers.{entries}
 use Rattle.store.specs.Words.{is_code}
 use Rattle.store.specs.Save.{storable}
@@ -16,136 +16,120 @@ use Rattle.store.proofs.Entries.{entries_drop}
 use Rattle.store_save.proofs.entries.are_storable.Statement.{statement}
 use Rattle.store_save.proofs.entries.are_storable.Tie as tie
 
-abbrev invariant-loop : tie.invariant-loop
+abbrev invariant-loop : tie.invariant-loop-i
 invariant-loop codes positions k limit low₀ i₀ low i =
     (i ≤ length codes) × (storable k low (entries (drop i codes) (drop i positions)) ≡ storable k 0 (entries codes positions))
 
-abbrev decreases-loop : tie.decreases-loop
+abbrev decreases-loop : tie.decreases-loop-i
 decreases-loop codes positions k limit low₀ i₀ low i = length codes - i
 
 -- places, each named for where it leads and from where
-abbrev entry-shared-slice-known : tie.After-shared-slice-known invariant-loop decreases-loop → tie.Start invariant-loop decreases-loop
+abbrev entry-shared-slice-known : tie.After-shared_slice_known-1 invariant-loop decreases-loop → tie.Start invariant-loop decreases-loop
 entry-shared-slice-known c = c.before
 
-abbrev entry-turn : tie.At-loop invariant-loop decreases-loop → tie.Start invariant-loop decreases-loop
-entry-turn c = entry-shared-slice-known c.before.before.before
+abbrev entry-turn : tie.At-loop-i invariant-loop decreases-loop → tie.Start invariant-loop decreases-loop
+entry-turn c = c.before.before.before.before
 
-abbrev in-loop-else1 : tie.Else1 invariant-loop decreases-loop → tie.In-loop invariant-loop decreases-loop
+abbrev in-loop-else1 : tie.Else-limit-codes invariant-loop decreases-loop → tie.In-loop-i invariant-loop decreases-loop
 in-loop-else1 c = c.before.before
 
-code-limit-requires : tie.Need-code-limit-requires invariant-loop decreases-loop
+code-limit-requires : tie.Need-code_limit-limit-requires invariant-loop decreases-loop
 code-limit-requires c κs = search rules
 
-loop-holds : tie.Need-loop-init invariant-loop decreases-loop
+loop-holds : tie.Need-loop-i-init invariant-loop decreases-loop
 loop-holds c = (omega arith, refl)
 
-mul-if1 : tie.Need-overflow-mul-if1 invariant-loop decreases-loop
+mul-if1 : tie.Need-offset_bounds-codes-i invariant-loop decreases-loop
 mul-if1 c = search rules
 
-shared-slice-read-if1 : tie.Need-shared-slice-read-if1 invariant-loop decreases-loop
+shared-slice-read-if1 : tie.Need-bounds-codes-i invariant-loop decreases-loop
 shared-slice-read-if1 c = search rules
 
 -- the test of this turn's code, against the limit that was computed
 code-test :
-    (c : tie.In-loop invariant-loop decreases-loop) →
-    let a = (entry-turn c.before).args in
-    let code = get_or a.codes.now c.before.loop.i 0 in
-    is_code a.k code ≡ ltb code c.before.before.code-limit.result
+    (c : tie.In-loop-i invariant-loop decreases-loop) →
+    let a = c.args in
+    let code = get_or a.codes.now c.loop-i.i 0 in
+    is_code a.k code ≡ ltb code c.code_limit-limit.result
 code-test c =
     let s = entry-turn c.before in
-    let code = get_or s.args.codes.now c.before.loop.i 0 in
-    is_code_limit s.args.k c.before.before.code-limit.result code s.pre.0 c.before.before.code-limit.ensures
+    let code = get_or s.args.codes.now c.loop-i.i 0 in
+    is_code_limit s.args.k c.code_limit-limit.result code s.requires.0 c.code_limit-limit.ensures
 
-returns : tie.Need-returns invariant-loop decreases-loop
+returns : tie.Need-returns-then-limit-codes invariant-loop decreases-loop
 returns c =
     let d = c.before.before in
     let a = (entry-turn d.before).args in
     simp (
-      ← d.before.loop.invariant.1,
-      entries_drop a.codes.now a.positions.now d.before.loop.i (search rules) d.loop-test.true,
+      ← d.loop-i.invariant.1,
+      entries_drop a.codes.now a.positions.now d.loop-i.i (search rules) d.loop-i-test.true,
       code-test d,
-      le-ltb _ _ c.if1.true,
+      le-ltb _ _ c.if-limit-codes.true,
     )
 
-mul-position : tie.Need-overflow-mul-position invariant-loop decreases-loop
+mul-position : tie.Need-offset_bounds-positions-i invariant-loop decreases-loop
 mul-position c = search rules
 
-shared-slice-read-position : tie.Need-shared-slice-read-position invariant-loop decreases-loop
+shared-slice-read-position : tie.Need-bounds-positions-i invariant-loop decreases-loop
 shared-slice-read-position c = search rules
 
-is-position-requires : tie.Need-is-position-requires invariant-loop decreases-loop
+is-position-requires : tie.Need-is_position-requires invariant-loop decreases-loop
 is-position-requires c κs = search rules
 
-returns-2 : tie.Need-returns-2 invariant-loop decreases-loop
+returns-2 : tie.Need-returns-then-not-is_position invariant-loop decreases-loop
 returns-2 c =
     let e = c.before.before.before in
     let d = e.before.before in
     let a = (entry-turn d.before).args in
     simp (
-      ← d.before.loop.invariant.1,
-      entries_drop a.codes.now a.positions.now d.before.loop.i (search rules) d.loop-test.true,
+      ← d.loop-i.invariant.1,
+      entries_drop a.codes.now a.positions.now d.loop-i.i (search rules) d.loop-i-test.true,
       code-test d,
-      lt-ltb _ _ e.if1.false,
-      ← c.before.is-position.ensures,
-      not-true c.before.is-position.result c.if2.true,
+      lt-ltb _ _ e.if-limit-codes.false,
+      ← c.is_position.ensures,
+      not_true c.is_position.result c.if-not-is_position.true,
     )
 
-add_low : tie.Need-overflow-add-low invariant-loop decreases-loop
+add_low : tie.Need-overflow_add-low invariant-loop decreases-loop
 add_low c =
     let d = in-loop-else1 c.before.before.before in
     let p = (entry-turn d.before).args.positions.now in
     omega (
       arith,
-      is_position_range d.before.loop.low (get_or p d.before.loop.i 0)
-          (sym c.before.is-position.ensures ∙ not-false c.before.is-position.result c.if2.false),
+      is_position_range d.loop-i.low (get_or p d.loop-i.i 0)
+          (sym c.is_position.ensures ∙ not-false c.is_position.result c.if-not-is_position.false),
     )
 
-add-i : tie.Need-overflow-add-i invariant-loop decreases-loop
+add-i : tie.Need-overflow_add-i invariant-loop decreases-loop
 add-i c = search rules
 
-loop-less : tie.Need-loop-smaller invariant-loop decreases-loop
+loop-less : tie.Need-loop-i-smaller invariant-loop decreases-loop
 loop-less c = search rules
 
-loop-again : tie.Need-loop-preserved invariant-loop decreases-loop
+loop-again : tie.Need-loop-i-preserved invariant-loop decreases-loop
 loop-again c =
     let e = c.before.before.before in
     let d = e.before.before in
     let a = (entry-turn d.before).args in (
       omega arith,
       simp (
-        ← d.before.loop.invariant.1,
-        entries_drop a.codes.now a.positions.now d.before.loop.i (search rules) d.loop-test.true,
+        ← d.loop-i.invariant.1,
+        entries_drop a.codes.now a.positions.now d.loop-i.i (search rules) d.loop-i-test.true,
         code-test d,
-        lt-ltb _ _ e.if1.false,
-        ← c.before.is-position.ensures,
-        not-false c.before.is-position.result c.if2.false,
+        lt-ltb _ _ e.if-limit-codes.false,
+        ← c.is_position.ensures,
+        not-false c.is_position.result c.if-not-is_position.false,
         add-one,
       ),
     )
 
-returns-3 : tie.Need-returns-3 invariant-loop decreases-loop
+returns-3 : tie.Need-returns invariant-loop decreases-loop
 returns-3 c =
-    let a = (entry-turn c.before).args in
-    let end : length a.codes.now ≤ c.before.loop.i = c.loop-test.false in
-    simp (← c.before.loop.invariant.1, drop_of_length-le a.codes.now end)
+    let a = c.args in
+    let end : length a.codes.now ≤ c.loop-i.i = c.loop-i-test.false in
+    simp (← c.loop-i.invariant.1, drop_of_length-le a.codes.now end)
 
-pub are-storable-spec : {M : Type 1} → statement M
-are-storable-spec =
+pub are_storable_spec : {M : Type 1} → statement M
+are_storable_spec =
     tie.close
-    (tie.spec
-    invariant-loop
-    decreases-loop
-    code-limit-requires
-    loop-holds
-    mul-if1
-    shared-slice-read-if1
-    returns
-    mul-position
-    shared-slice-read-position
-    is-position-requires
-    returns-2
-    add_low
-    add-i
-    loop-less
-    loop-again
-    returns-3)
+    (tie.spec invariant-loop decreases-loop code-limit-requires loop-holds mul-if1 shared-slice-read-if1 returns mul-position shared-slice-read-position is-position-requires returns-2 add_low add-i loop-less loop-again returns-3)

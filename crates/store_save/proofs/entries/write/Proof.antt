@@ -36,32 +36,32 @@ module _ (k : ℕ) (cs ps : List ℕ) (same : length cs ≡ length ps) (good : s
       let bound : 0 + length (entries cs ps) ≤ letter_limit = storable_length k 0 (entries cs ps) (omega arith) good in
       omega arith
 
-abbrev invariant-loop : tie.invariant-loop
+abbrev invariant-loop : tie.invariant-loop-i
 invariant-loop codes positions k w words₀ i₀ words i =
     (i ≤ length codes)
     × (2 * length codes + 2 ≤ length words)
     × Filling (stored k w (entries codes positions)) words₀ words (2 * i + 1) (entry_words (length codes) (entries (drop i codes) (drop i positions)))
 
-abbrev decreases-loop : tie.decreases-loop
+abbrev decreases-loop : tie.decreases-loop-i
 decreases-loop codes positions k w words₀ i₀ words i = length codes - i
 
 -- places, each named for where it leads and from where
-abbrev entry-slice-known : tie.After-slice-known invariant-loop decreases-loop → tie.Start invariant-loop decreases-loop
+abbrev entry-slice-known : tie.After-slice_known-1 invariant-loop decreases-loop → tie.Start invariant-loop decreases-loop
 entry-slice-known c = c.before.before.before
 
-abbrev in-loop-shared-slice-known3 : tie.After-shared-slice-known3 invariant-loop decreases-loop → tie.In-loop invariant-loop decreases-loop
+abbrev in-loop-shared-slice-known3 : tie.After-shared_slice_known-in-loop-i-1 invariant-loop decreases-loop → tie.In-loop-i invariant-loop decreases-loop
 in-loop-shared-slice-known3 c = c.before
 
 header-requires : tie.Need-header-requires invariant-loop decreases-loop
 header-requires c κs = search rules
 
-slice-write-words : tie.Need-slice-write-words invariant-loop decreases-loop
+slice-write-words : tie.Need-bounds-words-0 invariant-loop decreases-loop
 slice-write-words c = search rules
 
-loop-holds : tie.Need-loop-init invariant-loop decreases-loop
+loop-holds : tie.Need-loop-i-init invariant-loop decreases-loop
 unfolding stored
 loop-holds c =
-    let a = (entry-slice-known c.before).args in
+    let a = c.args in
     let es = entries a.codes.now a.positions.now in
     let some : 0 < length a.words.now = omega arith in (
       omega arith,
@@ -75,149 +75,119 @@ loop-holds c =
       },
     )
 
-mul-word : tie.Need-overflow-mul-word invariant-loop decreases-loop
+mul-word : tie.Need-offset_bounds-codes-i invariant-loop decreases-loop
 mul-word c = search rules
 
-shared-slice-read-word : tie.Need-shared-slice-read-word invariant-loop decreases-loop
+shared-slice-read-word : tie.Need-bounds-codes-i invariant-loop decreases-loop
 shared-slice-read-word c = search rules
 
 word-requires : tie.Need-word-requires invariant-loop decreases-loop
 word-requires c κs =
     let d = c.before in
     let s = entry-slice-known d.before.before.before in
-    let i = d.before.loop.i in
-    let in-range = storable-index s.args.k s.args.codes.now s.args.positions.now s.pre.1.0 s.pre.1.1.0 i d.loop-test.true in
-    (lit< tt, code_fits s.args.k (get_or s.args.codes.now i 0) s.pre.0.0 in-range.0)
+    let i = d.loop-i.i in
+    let in-range = storable-index s.args.k s.args.codes.now s.args.positions.now s.requires.1.0 s.requires.1.1.0 i d.loop-i-test.true in
+    (lit< tt, code_fits s.args.k (get_or s.args.codes.now i 0) s.requires.0.0 in-range.0)
 
-mul_words : tie.Need-overflow-mul-words invariant-loop decreases-loop
+mul_words : tie.Need-overflow_mul-words invariant-loop decreases-loop
 mul_words c = search rules
 
-add_words : tie.Need-overflow-add-words invariant-loop decreases-loop
+add_words : tie.Need-overflow_add-words invariant-loop decreases-loop
 add_words c = search rules
 
-mul-words-2 : tie.Need-overflow-mul-words-2 invariant-loop decreases-loop
+mul-words-2 : tie.Need-offset_bounds-words-i invariant-loop decreases-loop
 mul-words-2 c = omega arith
 
-slice-write-words-2 : tie.Need-slice-write-words-2 invariant-loop decreases-loop
+slice-write-words-2 : tie.Need-bounds-words-i invariant-loop decreases-loop
 slice-write-words-2 c = omega arith
 
-mul-word-2 : tie.Need-overflow-mul-word-2 invariant-loop decreases-loop
+mul-word-2 : tie.Need-offset_bounds-positions-i invariant-loop decreases-loop
 mul-word-2 c = search rules
 
-shared-slice-read-word-2 : tie.Need-shared-slice-read-word-2 invariant-loop decreases-loop
+shared-slice-read-word-2 : tie.Need-bounds-positions-i invariant-loop decreases-loop
 shared-slice-read-word-2 c = search rules
 
-word-requires-2 : tie.Need-word-requires-2 invariant-loop decreases-loop
+word-requires-2 : tie.Need-word-requires-in-loop-i invariant-loop decreases-loop
 word-requires-2 c κs =
     let d = c.before.before.before in
     let s = entry-slice-known d.before.before.before in
-    let i = d.before.loop.i in
-    omega (arith, (storable-index s.args.k s.args.codes.now s.args.positions.now s.pre.1.0 s.pre.1.1.0 i d.loop-test.true).1)
+    let i = d.loop-i.i in
+    omega (arith, (storable-index s.args.k s.args.codes.now s.args.positions.now s.requires.1.0 s.requires.1.1.0 i d.loop-i-test.true).1)
 
-mul-words-3 : tie.Need-overflow-mul-words-3 invariant-loop decreases-loop
+mul-words-3 : tie.Need-overflow_mul-words-in-loop-i invariant-loop decreases-loop
 mul-words-3 c = search rules
 
-add-words-2 : tie.Need-overflow-add-words-2 invariant-loop decreases-loop
+add-words-2 : tie.Need-overflow_add-words-in-loop-i invariant-loop decreases-loop
 add-words-2 c = search rules
 
-mul-words-4 : tie.Need-overflow-mul-words-4 invariant-loop decreases-loop
+mul-words-4 : tie.Need-offset_bounds-words-i-in-loop-i invariant-loop decreases-loop
 mul-words-4 c = omega arith
 
-slice-write-words-3 : tie.Need-slice-write-words-3 invariant-loop decreases-loop
+slice-write-words-3 : tie.Need-bounds-words-i-in-loop-i invariant-loop decreases-loop
 slice-write-words-3 c = simp length-set (omega arith)
 
-add-i : tie.Need-overflow-add-i invariant-loop decreases-loop
+add-i : tie.Need-overflow_add-i invariant-loop decreases-loop
 add-i c = search rules
 
-loop-less : tie.Need-loop-smaller invariant-loop decreases-loop
+loop-less : tie.Need-loop-i-smaller invariant-loop decreases-loop
 loop-less c = search rules
 
-loop-again : tie.Need-loop-preserved invariant-loop decreases-loop
+loop-again : tie.Need-loop-i-preserved invariant-loop decreases-loop
 loop-again c =
     let d = in-loop-shared-slice-known3 c.before.before.before in
     let a = (entry-slice-known d.before.before.before).args in
-    let l = d.before.loop in
+    let l = d.loop-i in
     let at₁ : suc (2 * l.i + 1) ≡ 2 * l.i + 2 = omega arith in
     let at₂ : suc (2 * l.i + 2) ≡ 2 * suc l.i + 1 = omega arith in
     let f = rw (
-      entries_drop a.codes.now a.positions.now l.i (search rules) d.loop-test.taken,
-      ← c.before.before.word.ensures,
-      ← c.word2.ensures,
-    ) at l.inv.2 in (
+      entries_drop a.codes.now a.positions.now l.i (search rules) d.loop-i-test.true,
+      ← c.word.ensures,
+      ← c.word-in-loop-i.ensures,
+    ) at l.invariant.2 in (
       omega arith,
-      simp length-set l.inv.1,
+      simp length-set l.invariant.1,
       rw (add-one l.i) (fill_next at₂ (simp length-set (omega arith)) (fill_next at₁ (omega arith) f)),
     )
 
-cast-word : tie.Need-overflow-cast-word invariant-loop decreases-loop
+cast-word : tie.Need-overflow_cast-i invariant-loop decreases-loop
 cast-word c =
     let s = entry-slice-known c.before.before.before in
-    omega (arith, few s.args.k s.args.codes.now s.args.positions.now s.pre.1.0 s.pre.1.1.0)
+    omega (arith, few s.args.k s.args.codes.now s.args.positions.now s.requires.1.0 s.requires.1.1.0)
 
-word-requires-3 : tie.Need-word-requires-3 invariant-loop decreases-loop
+word-requires-3 : tie.Need-word-requires-2 invariant-loop decreases-loop
 word-requires-3 c κs =
     let s = entry-slice-known c.before.before.before in
-    omega (arith, few s.args.k s.args.codes.now s.args.positions.now s.pre.1.0 s.pre.1.1.0)
+    omega (arith, few s.args.k s.args.codes.now s.args.positions.now s.requires.1.0 s.requires.1.1.0)
 
-mul-words-5 : tie.Need-overflow-mul-words-5 invariant-loop decreases-loop
+mul-words-5 : tie.Need-overflow_mul-words-2 invariant-loop decreases-loop
 mul-words-5 c = search rules
 
-add-words-3 : tie.Need-overflow-add-words-3 invariant-loop decreases-loop
+add-words-3 : tie.Need-overflow_add-words-2 invariant-loop decreases-loop
 add-words-3 c = search rules
 
-mul-words-6 : tie.Need-overflow-mul-words-6 invariant-loop decreases-loop
+mul-words-6 : tie.Need-offset_bounds-words-i-2 invariant-loop decreases-loop
 mul-words-6 c = omega arith
 
-slice-write-words-4 : tie.Need-slice-write-words-4 invariant-loop decreases-loop
+slice-write-words-4 : tie.Need-bounds-words-i-2 invariant-loop decreases-loop
 slice-write-words-4 c = search rules
 
-same_length : tie.Need-same-length invariant-loop decreases-loop
-same_length c = simp length-set (c.before.before.loop.invariant.2.same_length ∙ simp length-set)
+same_length : tie.Need-shape_of-words invariant-loop decreases-loop
+same_length c = simp length-set (c.loop-i.invariant.2.same_length ∙ simp length-set)
 
 returns : tie.Need-returns invariant-loop decreases-loop
 returns c =
     let d = c.before in
-    let l = d.before.loop in
+    let l = d.loop-i in
     let s = entry-slice-known d.before.before.before in
     let a = s.args in
     let text = stored a.k a.w (entries a.codes.now a.positions.now) in
     let some : 0 < length text = omega (arith, length_stored a.k a.w (entries a.codes.now a.positions.now)) in
     let end : l.i ≡ length a.codes.now = omega arith in
-    let f = rw (drop_of_length-le a.codes.now d.loop-test.false, ← end, ← c.word3.ensures) at l.invariant.2 in
+    let f = rw (drop_of_length-le a.codes.now d.loop-i-test.false, ← end, ← c.word-2.ensures) at l.invariant.2 in
     fill_done (simp length-set (omega arith)) (fill_next refl (omega arith) f)
-    ∙ ap (λ (rest : List ℕ). text ++ rest) (drop-set-lt (length text) a.words.now 0 d.before.before.header.result some)
+    ∙ ap (λ (rest : List ℕ). text ++ rest) (drop-set-lt (length text) a.words.now 0 d.header.result some)
 
 pub write_spec : {M : Type 1} → statement M
 write_spec =
     tie.close
-    (tie.spec
-    invariant-loop
-    decreases-loop
-    header-requires
-    slice-write-words
-    loop-holds
-    mul-word
-    shared-slice-read-word
-    word-requires
-    mul_words
-    add_words
-    mul-words-2
-    slice-write-words-2
-    mul-word-2
-    shared-slice-read-word-2
-    word-requires-2
-    mul-words-3
-    add-words-2
-    mul-words-4
-    slice-write-words-3
-    add-i
-    loop-less
-    loop-again
-    cast-word
-    word-requires-3
-    mul-words-5
-    add-words-3
-    mul-words-6
-    slice-write-words-4
-    same_length
-    returns)
+    (tie.spec invariant-loop decreases-loop header-requires slice-write-words loop-holds mul-word shared-slice-read-word word-requires mul_words add_words mul-words-2 slice-write-words-2 mul-word-2 shared-slice-read-word-2 word-requires-2 mul-words-3 add-words-2 mul-words-4 slice-write-words-3 add-i loop-less loop-again cast-word word-requires-3 mul-words-5 add-words-3 mul-words-6 slice-write-words-4 same_length returns)

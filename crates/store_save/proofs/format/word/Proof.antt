@@ -5,15 +5,15 @@ use Rattle.store.specs.Words.{word}
 use Rattle.store_save.proofs.format.word.Statement.{statement}
 use Rattle.store_save.proofs.format.word.Tie as tie
 
-mul-result : tie.Need-overflow-mul-result
+mul-result : tie.Need-overflow_mul-result
 mul-result c = search rules
 
-add-result : tie.Need-overflow-add-result
+add-result : tie.Need-overflow_add-result
 add-result c = search rules
 
 returns : tie.Need-returns
 unfolding word
 returns c = omega arith
 
-pub word-spec : {M : Type 1} → statement M
-word-spec = tie.close (tie.spec mul-result add-result returns)
+pub word_spec : {M : Type 1} → statement M
+word_spec = tie.close (tie.spec mul-result add-result returns)

@@ -12,47 +12,47 @@ use Rattle.winnowing.specs.Blocks.{block_size, back_size, ranks_size}
 use Rattle.winnowing.proofs.blocks.carry.Statement.{statement}
 use Rattle.winnowing.proofs.blocks.carry.Tie as tie
 
-abbrev invariant-loop : tie.invariant-loop
+abbrev invariant-loop : tie.invariant-loop-i
 invariant-loop ranks₀ i₀ ranks i =
     (i ≤ back_size)
     × (length ranks ≡ ranks_size)
     × ((x : ℕ) → x < i → get_or ranks x 0 ≡ get_or ranks₀ (block_size + x) 0)
     × ((x : ℕ) → back_size ≤ x → get_or ranks x 0 ≡ get_or ranks₀ x 0)
 
-abbrev decreases-loop : tie.decreases-loop
+abbrev decreases-loop : tie.decreases-loop-i
 decreases-loop ranks₀ i₀ ranks i = back_size - i
 
-loop-holds : tie.Need-loop-init invariant-loop decreases-loop
+loop-holds : tie.Need-loop-i-init invariant-loop decreases-loop
 loop-holds c = (search rules, c.requires, λ x h. absurd (not-suc-le-zero h), λ x h. refl)
 
-add-ranks : tie.Need-overflow-add-ranks invariant-loop decreases-loop
+add-ranks : tie.Need-overflow_add-ranks invariant-loop decreases-loop
 add-ranks c = search rules
 
-mul-ranks : tie.Need-overflow-mul-ranks invariant-loop decreases-loop
+mul-ranks : tie.Need-offset_bounds-ranks-i invariant-loop decreases-loop
 mul-ranks c = search rules
 
-slice-read-ranks : tie.Need-slice-read-ranks invariant-loop decreases-loop
+slice-read-ranks : tie.Need-bounds-ranks-i invariant-loop decreases-loop
 slice-read-ranks c = search rules
 
-mul-ranks-2 : tie.Need-overflow-mul-ranks-2 invariant-loop decreases-loop
+mul-ranks-2 : tie.Need-offset_bounds-ranks-i-in-loop-i invariant-loop decreases-loop
 mul-ranks-2 c = search rules
 
-slice-write-ranks : tie.Need-slice-write-ranks invariant-loop decreases-loop
+slice-write-ranks : tie.Need-bounds-ranks-i-in-loop-i invariant-loop decreases-loop
 slice-write-ranks c = search rules
 
-add-i : tie.Need-overflow-add-i invariant-loop decreases-loop
+add-i : tie.Need-overflow_add-i invariant-loop decreases-loop
 add-i c = search rules
 
-loop-less : tie.Need-loop-smaller invariant-loop decreases-loop
+loop-less : tie.Need-loop-i-smaller invariant-loop decreases-loop
 loop-less c = search rules
 
-loop-again : tie.Need-loop-preserved invariant-loop decreases-loop
+loop-again : tie.Need-loop-i-preserved invariant-loop decreases-loop
 loop-again c =
-    let at = c.before.before in
-    let first = at.before.args.ranks.now in
-    let i = at.loop.i in
-    let old = at.loop.ranks in
-    let is = at.loop.invariant in
+    let at = c in
+    let first = at.args.ranks.now in
+    let i = at.loop-i.i in
+    let old = at.loop-i.ranks in
+    let is = at.loop-i.invariant in
     let v : ℕ = get_or old (block_size + i) 0 in
     let room : i < length old = omega (arith, is.1) in (
       omega arith,
@@ -63,28 +63,15 @@ loop-again c =
       λ x h. get_or-set_other old i x v 0 (λ e. omega arith) ∙ is.3 x h,
     )
 
-same_length : tie.Need-same-length invariant-loop decreases-loop
+same_length : tie.Need-shape_of-ranks invariant-loop decreases-loop
 same_length c = search rules
 
 returns : tie.Need-returns invariant-loop decreases-loop
 returns c =
-    let is = c.before.loop.invariant in
-    record { sized = is.1; carried = λ i h. is.2 i (omega (arith, c.loop-test.false)) }
+    let is = c.loop-i.invariant in
+    record { sized = is.1; carried = λ i h. is.2 i (omega (arith, c.loop-i-test.false)) }
 
-pub carry-spec : {M : Type 1} → statement M
-carry-spec =
+pub carry_spec : {M : Type 1} → statement M
+carry_spec =
     tie.close
-    (tie.spec
-    invariant-loop
-    decreases-loop
-    loop-holds
-    add-ranks
-    mul-ranks
-    slice-read-ranks
-    mul-ranks-2
-    slice-write-ranks
-    add-i
-    loop-less
-    loop-again
-    same_length
-    returns)
+    (tie.spec invariant-loop decreases-loop loop-holds add-ranks mul-ranks slice-read-ranks mul-ranks-2 slice-write-ranks add-i loop-less loop-again same_length returns)

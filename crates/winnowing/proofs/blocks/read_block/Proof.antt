@@ -14,20 +14,14 @@ use Rattle.winnowing.specs.Blocks.{block_size}
 use Rattle.winnowing.proofs.blocks.read_block.Statement.{statement}
 use Rattle.winnowing.proofs.blocks.read_block.Tie as tie
 
-abbrev invariant-loop : tie.invariant-loop
+abbrev invariant-loop : tie.invariant-loop-i
 invariant-loop letters values₀ base to i₀ values i =
     (i ≤ to) × (length values ≡ block_size) × ((x : ℕ) → x < i → get_or values x 0 ≡ value (get_or letters (base + x) 0))
 
-abbrev decreases-loop : tie.decreases-loop
+abbrev decreases-loop : tie.decreases-loop-i
 decreases-loop letters values₀ base to i₀ values i = to - i
 
 -- places, each named for where it leads and from where
-abbrev entry-smaller : tie.After-smaller invariant-loop decreases-loop → tie.Start invariant-loop decreases-loop
-entry-smaller c = c.before.before.before
-
-abbrev entry-turn : tie.At-loop invariant-loop decreases-loop → tie.Start invariant-loop decreases-loop
-entry-turn c = entry-smaller c.before
-
 -- what is known of the places below n of a block is known of the positions of their letters
 known-below : (letters values : List ℕ) (base n : ℕ) → ((x : ℕ) → x < n → get_or values x 0 ≡ value (get_or letters (base + x) 0))
     → (at : ℕ) → base ≤ at → at < base + n → get_or values (at - base) 0 ≡ value (get_or letters at 0)
@@ -49,42 +43,42 @@ known-to-end letters old base to room end below =
     (λ x h. get_or-set_other old to x foreign 0 (ne_of_lt h) ∙ below x h)
     (get_or-set_same old to foreign 0 room ∙ past_end letters (base + to) (omega arith))
 
-sub-smaller : tie.Need-overflow-sub-smaller invariant-loop decreases-loop
+sub-smaller : tie.Need-overflow_sub-letters invariant-loop decreases-loop
 sub-smaller c = search rules
 
-smaller-requires : tie.Need-smaller-requires invariant-loop decreases-loop
+smaller-requires : tie.Need-smaller-to-requires invariant-loop decreases-loop
 smaller-requires c κs = search rules
 
-loop-holds : tie.Need-loop-init invariant-loop decreases-loop
-loop-holds c = (search rules, (entry-smaller c).requires.0, λ x h. absurd (not-suc-le-zero h))
+loop-holds : tie.Need-loop-i-init invariant-loop decreases-loop
+loop-holds c = (search rules, c.requires.0, λ x h. absurd (not-suc-le-zero h))
 
-add-value : tie.Need-overflow-add-value invariant-loop decreases-loop
+add-value : tie.Need-overflow_add-base invariant-loop decreases-loop
 add-value c = search rules
 
-shared-slice-read-value : tie.Need-shared-slice-read-value invariant-loop decreases-loop
+shared-slice-read-value : tie.Need-bounds-letters-base invariant-loop decreases-loop
 shared-slice-read-value c = search rules
 
 value-requires : tie.Need-value-requires invariant-loop decreases-loop
 value-requires c κs = search rules
 
-slice-write-values : tie.Need-slice-write-values invariant-loop decreases-loop
+slice-write-values : tie.Need-bounds-values-i invariant-loop decreases-loop
 slice-write-values c = search rules
 
-add-i : tie.Need-overflow-add-i invariant-loop decreases-loop
+add-i : tie.Need-overflow_add-i invariant-loop decreases-loop
 add-i c = search rules
 
-loop-less : tie.Need-loop-smaller invariant-loop decreases-loop
+loop-less : tie.Need-loop-i-smaller invariant-loop decreases-loop
 loop-less c = search rules
 
-loop-again : tie.Need-loop-preserved invariant-loop decreases-loop
+loop-again : tie.Need-loop-i-preserved invariant-loop decreases-loop
 loop-again c =
-    let at = c.before.before.before in
-    let args = (entry-turn at).args in
-    let i = at.loop.i in
-    let old = at.loop.values in
-    let is = at.loop.invariant in
+    let at = c in
+    let args = at.args in
+    let i = at.loop-i.i in
+    let old = at.loop-i.values in
+    let is = at.loop-i.invariant in
     let v : ℕ = c.value.result in
-    let room : i < length old = omega (arith, is.1, at.before.smaller.ensures) in (
+    let room : i < length old = omega (arith, is.1, at.smaller-to.ensures) in (
       omega arith,
       length-set old i v ∙ is.1,
       below_more (λ (x : ℕ). get_or (set old i v) x 0 ≡ value (get_or args.letters.now (args.base + x) 0)) i
@@ -92,63 +86,46 @@ loop-again c =
           (get_or-set_same old i v 0 room ∙ c.value.ensures),
     )
 
-slice-write-values-2 : tie.Need-slice-write-values-2 invariant-loop decreases-loop
+slice-write-values-2 : tie.Need-bounds-values-to invariant-loop decreases-loop
 slice-write-values-2 c = search rules
 
-same_length : tie.Need-same-length invariant-loop decreases-loop
+same_length : tie.Need-shape_of-values-then-to-lt-BLOCK invariant-loop decreases-loop
 same_length c =
-    let at = c.before.before in
-    length-set at.loop.values at.before.smaller.result foreign ∙ at.loop.invariant.1 ∙ sym (entry-turn at).requires.0
+    let at = c in
+    length-set at.loop-i.values at.smaller-to.result foreign ∙ at.loop-i.invariant.1 ∙ sym at.requires.0
 
-returns : tie.Need-returns invariant-loop decreases-loop
+returns : tie.Need-returns-then-to-lt-BLOCK invariant-loop decreases-loop
 returns c =
-    let at = c.before.before in
-    let args = (entry-turn at).args in
+    let at = c in
+    let args = at.args in
     let letters = args.letters.now in
-    let to : ℕ = at.before.smaller.result in
-    let old = at.loop.values in
-    let is = at.loop.invariant in
-    let room : to < length old = omega (arith, is.1, c.if1.true) in
-    let end : length letters ≡ args.base + to = omega (arith, at.before.smaller.ensures, c.if1.true, (entry-turn at).requires.1) in
-    let all = known-to-end letters old args.base to room end (λ x h. is.2 x (omega (arith, c.before.loop-test.false))) in
+    let to : ℕ = at.smaller-to.result in
+    let old = at.loop-i.values in
+    let is = at.loop-i.invariant in
+    let room : to < length old = omega (arith, is.1, c.if-to-lt-BLOCK.true) in
+    let end : length letters ≡ args.base + to = omega (arith, at.smaller-to.ensures, c.if-to-lt-BLOCK.true, at.requires.1) in
+    let all = known-to-end letters old args.base to room end (λ x h. is.2 x (omega (arith, c.loop-i-test.false))) in
     record {
       sized = length-set old to foreign ∙ is.1;
       known = λ q from below within. known-below letters (set old to foreign) args.base (to + 1) all q from (omega arith);
     }
 
-same-length-2 : tie.Need-same-length-2 invariant-loop decreases-loop
+same-length-2 : tie.Need-shape_of-values-else-to-lt-BLOCK invariant-loop decreases-loop
 same-length-2 c = search rules
 
-returns-2 : tie.Need-returns-2 invariant-loop decreases-loop
+returns-2 : tie.Need-returns-else-to-lt-BLOCK invariant-loop decreases-loop
 returns-2 c =
-    let at = c.before.before in
-    let args = (entry-turn at).args in
-    let is = at.loop.invariant in
+    let at = c in
+    let args = at.args in
+    let is = at.loop-i.invariant in
     record {
       sized = is.1;
       known = λ q from below within.
-          known-below args.letters.now at.loop.values args.base at.loop.i is.2 q from
-          (omega (arith, c.if1.false, c.before.loop-test.false));
+          known-below args.letters.now at.loop-i.values args.base at.loop-i.i is.2 q from
+          (omega (arith, c.if-to-lt-BLOCK.false, c.loop-i-test.false));
     }
 
-pub read-block-spec : {M : Type 1} → statement M
-read-block-spec =
+pub read_block_spec : {M : Type 1} → statement M
+read_block_spec =
     tie.close
-    (tie.spec
-    invariant-loop
-    decreases-loop
-    sub-smaller
-    smaller-requires
-    loop-holds
-    add-value
-    shared-slice-read-value
-    value-requires
-    slice-write-values
-    add-i
-    loop-less
-    loop-again
-    slice-write-values-2
-    same_length
-    returns
-    same-length-2
-    returns-2)
+    (tie.spec invariant-loop decreases-loop sub-smaller smaller-requires loop-holds add-value shared-slice-read-value value-requires slice-write-values add-i loop-less loop-again slice-write-values-2 same_length returns same-length-2 returns-2)

@@ -9,22 +9,22 @@ use Rattle.kmers.proofs.Codes.{shifted_four, masked}
 use Rattle.winnowing.proofs.codes.next_code.Statement.{statement}
 use Rattle.winnowing.proofs.codes.next_code.Tie as tie
 
-mul-mask : tie.Need-overflow-mul-mask
+mul-mask : tie.Need-overflow_mul-mask
 mul-mask c = search rules
 
-cast-mask : tie.Need-overflow-cast-mask
+cast-mask : tie.Need-overflow_cast-mask
 cast-mask c = search rules
 
-shl-mask : tie.Need-overflow-shl-mask
+shl-mask : tie.Need-overflow_shl-mask
 shl-mask c = search rules
 
-sub-mask : tie.Need-overflow-sub-mask
+sub-mask : tie.Need-overflow_sub-mask
 sub-mask c = rw (shifted_four c.args.last c.requires.0) (one-le-pow (suc c.args.last) 4 (lit< tt))
 
-mul-result : tie.Need-overflow-mul-result
+mul-result : tie.Need-overflow_mul-result
 mul-result c = search rules
 
-add-result : tie.Need-overflow-add-result
+add-result : tie.Need-overflow_add-result
 add-result c = search rules
 
 returns : tie.Need-returns
@@ -32,6 +32,6 @@ returns c =
     let digits : c.args.code * 4 + c.args.digit ≡ 4 * c.args.code + c.args.digit = omega arith in
     rw (masked (c.args.code * 4 + c.args.digit) c.args.last c.requires.0, digits)
 
-pub next-code-spec : {M : Type 1} → statement M
-next-code-spec =
+pub next_code_spec : {M : Type 1} → statement M
+next_code_spec =
     tie.close (tie.spec mul-mask cast-mask shl-mask sub-mask mul-result add-result returns)

@@ -4,15 +4,15 @@ use Rattle.kmers.specs.Kmers.{rank}
 use Rattle.winnowing.proofs.codes.rank.Statement.{statement}
 use Rattle.winnowing.proofs.codes.rank.Tie as tie
 
-mul-result : tie.Need-overflow-mul-result
+mul-result : tie.Need-overflow_mul-result
 mul-result c = search rules
 
-cast-result : tie.Need-overflow-cast-result
+cast-result : tie.Need-overflow_cast-result-2
 cast-result c = search rules
 
 returns : tie.Need-returns
 unfolding rank
 returns c = search rules
 
-pub rank-spec : {M : Type 1} → statement M
-rank-spec = tie.close (tie.spec mul-result cast-result returns)
+pub rank_spec : {M : Type 1} → statement M
+rank_spec = tie.close (tie.spec mul-result cast-result returns)

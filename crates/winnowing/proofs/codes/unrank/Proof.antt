@@ -4,15 +4,15 @@ use Rattle.kmers.specs.Ranks.{unrank}
 use Rattle.winnowing.proofs.codes.unrank.Statement.{statement}
 use Rattle.winnowing.proofs.codes.unrank.Tie as tie
 
-mul-result : tie.Need-overflow-mul-result
+mul-result : tie.Need-overflow_mul-result
 mul-result c = search rules
 
-cast-result : tie.Need-overflow-cast-result
+cast-result : tie.Need-overflow_cast-result-2
 cast-result c = search rules
 
 returns : tie.Need-returns
 unfolding unrank
 returns c = search rules
 
-pub unrank-spec : {M : Type 1} → statement M
-unrank-spec = tie.close (tie.spec mul-result cast-result returns)
+pub unrank_spec : {M : Type 1} → statement M
+unrank_spec = tie.close (tie.spec mul-result cast-result returns)

@@ -12,119 +12,106 @@ use Rattle.winnowing.proofs.Steps.{end_here, run_goes_on, code_small, code_longe
 use Rattle.winnowing.proofs.reading.first_letters.Statement.{statement}
 use Rattle.winnowing.proofs.reading.first_letters.Tie as tie
 
-abbrev invariant-loop : tie.invariant-loop
+abbrev invariant-loop : tie.invariant-loop-at
 invariant-loop letters values base from last to at₀ code₀ at code = (from ≤ at) × (at ≤ from + last) × (at ≤ run_end letters from)
     × (code ≡ code_at (at - from) letters from)
 
-abbrev decreases-loop : tie.decreases-loop
+abbrev decreases-loop : tie.decreases-loop-at
 decreases-loop letters values base from last to at₀ code₀ at code = from + last - at
 
 -- places, each named for where it leads and from where
-abbrev entry-turn : tie.At-loop invariant-loop decreases-loop → tie.Start invariant-loop decreases-loop
+abbrev entry-turn : tie.At-loop-at invariant-loop decreases-loop → tie.Start invariant-loop decreases-loop
 entry-turn c = c.before.before.before
 
-add-to : tie.Need-overflow-add-to invariant-loop decreases-loop
+add-to : tie.Need-overflow_add-to invariant-loop decreases-loop
 add-to c = search rules
 
-loop-holds : tie.Need-loop-init invariant-loop decreases-loop
+loop-holds : tie.Need-loop-at-init invariant-loop decreases-loop
 unfolding code_at code_of
 loop-holds c =
-    let args = c.before.before.args in
+    let args = c.args in
     let letters = args.letters.now in
     let none : args.from - args.from ≡ 0 = omega arith in (
       omega arith,
       omega arith,
-      (run_end_within letters args.from c.before.before.requires.0.in_letters).0,
+      (run_end_within letters args.from c.requires.0.in_letters).0,
       sym (ap (λ (n : ℕ). code_at n letters args.from) none),
     )
 
-value-at-requires : tie.Need-value-at-requires invariant-loop decreases-loop
+value-at-requires : tie.Need-value_at-v-requires invariant-loop decreases-loop
 value-at-requires c κs =
-    let start = entry-turn c.before in
-    let at = c.before.loop in
-    let there = run_end_within start.args.letters.now start.args.from start.pre.0.in_letters in (
-      start.pre.0.block,
-      (omega (arith, start.pre.1.begins, at.invariant.0), omega (arith, start.pre.1.ends, c.loop-test.true), omega (arith, at.invariant.2)),
+    let start = c in
+    let at = c.loop-at in
+    let there = run_end_within start.args.letters.now start.args.from start.requires.0.in_letters in (
+      start.requires.0.block,
+      (omega (arith, start.requires.1.begins, at.invariant.0), omega (arith, start.requires.1.ends, c.loop-at-test.true), omega (arith, at.invariant.2)),
     )
 
-returns : tie.Need-returns invariant-loop decreases-loop
+returns : tie.Need-returns-then-v-eq-FOREIGN invariant-loop decreases-loop
 returns c =
     let start = entry-turn c.before.before.before in
-    let at = c.before.before.before.loop in
+    let at = c.loop-at in
     record {
       start = at.invariant.0;
       most = at.invariant.1;
       within = at.invariant.2;
       ended = λ h. end_here start.args.letters.now start.args.from at.at at.invariant.0 at.invariant.2
-          (sym c.before.value-at.ensures ∙ c.if1.true);
+          (sym c.value_at-v.ensures ∙ c.if-v-eq-FOREIGN.true);
       code_there = at.invariant.3;
     }
 
 -- past the test the run goes on, and the letter is a digit
-goes_on : (c : tie.Else1 invariant-loop decreases-loop)
-    → (c.before.before.before.loop.at < run_end (entry-turn c.before.before.before).args.letters.now
-    (entry-turn c.before.before.before).args.from)
-    × (c.before.value-at.result < 4)
-    × (c.before.before.before.loop.code < 4 ^ k_limit)
+goes_on : (c : tie.Else-v-eq-FOREIGN invariant-loop decreases-loop)
+    → (c.loop-at.at < run_end c.args.letters.now
+    c.args.from)
+    × (c.value_at-v.result < 4)
+    × (c.loop-at.code < 4 ^ k_limit)
 goes_on c =
-    let start = entry-turn c.before.before.before in
+    let start = c in
     let letters = start.args.letters.now in
     let from = start.args.from in
-    let at = c.before.before.before.loop in
-    let on = run_goes_on letters from at.at at.invariant.0 at.invariant.2 c.before.value-at.result c.before.value-at.ensures c.if1.false in (
+    let at = c.loop-at in
+    let on = run_goes_on letters from at.at at.invariant.0 at.invariant.2 c.value_at-v.result c.value_at-v.ensures c.if-v-eq-FOREIGN.false in (
       on.0,
       on.1,
       subst (λ (x : ℕ). x < 4 ^ k_limit) (sym at.invariant.3)
-          (code_small letters from start.pre.0.in_letters from (at.at - from) (le_refl from) (omega arith) (omega arith)),
+          (code_small letters from start.requires.0.in_letters from (at.at - from) (le_refl from) (omega arith) (omega arith)),
     )
 
-mul-code : tie.Need-overflow-mul-code invariant-loop decreases-loop
+mul-code : tie.Need-overflow_mul-code invariant-loop decreases-loop
 mul-code c = omega (arith, goes_on c)
 
-cast-code : tie.Need-overflow-cast-code invariant-loop decreases-loop
+cast-code : tie.Need-overflow_cast-code invariant-loop decreases-loop
 cast-code c = omega (arith, goes_on c)
 
-add-code : tie.Need-overflow-add-code invariant-loop decreases-loop
+add-code : tie.Need-overflow_add-code invariant-loop decreases-loop
 add-code c = omega (arith, goes_on c)
 
-add_at : tie.Need-overflow-add-at invariant-loop decreases-loop
+add_at : tie.Need-overflow_add-at invariant-loop decreases-loop
 add_at c = search rules
 
-loop-less : tie.Need-loop-smaller invariant-loop decreases-loop
+loop-less : tie.Need-loop-at-smaller invariant-loop decreases-loop
 loop-less c = search rules
 
-loop-again : tie.Need-loop-preserved invariant-loop decreases-loop
+loop-again : tie.Need-loop-at-preserved invariant-loop decreases-loop
 loop-again c =
-    let start = entry-turn c.before.before.before in
+    let start = c in
     let letters = start.args.letters.now in
     let from = start.args.from in
-    let at = c.before.before.before.loop in
+    let at = c.loop-at in
     let on = goes_on c in (
       omega arith,
       omega arith,
       omega arith,
-      rw c.before.value-at.ensures (code_longer letters from start.pre.0.in_letters at.at at.code at.invariant.0 on.0 at.invariant.3),
+      rw c.value_at-v.ensures (code_longer letters from start.requires.0.in_letters at.at at.code at.invariant.0 on.0 at.invariant.3),
     )
 
-returns-2 : tie.Need-returns-2 invariant-loop decreases-loop
+returns-2 : tie.Need-returns invariant-loop decreases-loop
 returns-2 c =
-    let at = c.before.loop in
+    let at = c.loop-at in
     record { start = at.invariant.0; most = at.invariant.1; within = at.invariant.2; ended = λ h. absurd (omega arith); code_there = at.invariant.3 }
 
-pub first-letters-spec : {M : Type 1} → statement M
-first-letters-spec =
+pub first_letters_spec : {M : Type 1} → statement M
+first_letters_spec =
     tie.close
-    (tie.spec
-    invariant-loop
-    decreases-loop
-    add-to
-    loop-holds
-    value-at-requires
-    returns
-    mul-code
-    cast-code
-    add-code
-    add_at
-    loop-less
-    loop-again
-    returns-2)
+    (tie.spec invariant-loop decreases-loop add-to loop-holds value-at-requires returns mul-code cast-code add-code add_at loop-less loop-again returns-2)

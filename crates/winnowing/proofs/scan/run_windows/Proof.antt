@@ -20,281 +20,257 @@ use Rattle.winnowing.proofs.scan.run_windows.Tie as tie
 
 -- places, each named for where it leads and from where
 abbrev Window : Type 0
-Window = tie.After-first-window
-
-abbrev entry-known2 : tie.After-slice-known2 → tie.Start
-entry-known2 c = c.before.before.before
-
-abbrev known3-arg2 : tie.After-first-window-arg2 → tie.After-slice-known3
-known3-arg2 c = c.before.before.before
-
-abbrev entry-arg2 : tie.After-first-window-arg2 → tie.Start
-entry-arg2 c = entry-known2 (known3-arg2 c).before
+Window = tie.After-first_window-full
 
 abbrev entry : Window → tie.Start
-entry c = entry-arg2 c.before
+entry c = c.before.before.before.before.before.before.before
 
-abbrev window-known5 : tie.After-slice-known5 → Window
+abbrev window-known5 : tie.After-slice_known-5-1 → Window
 window-known5 c = c.before.before
 
-abbrev window-slot : tie.After-slot → Window
-window-slot c = window-known5 c.before.before
+abbrev window-slot : tie.After-slot-to → Window
+window-slot c = c.before.before.before.before
 
-abbrev slot-arg3 : tie.After-put-lowest-arg3 → tie.After-slot
-slot-arg3 c = c.before.before.before
+abbrev slot-arg3 : tie.After-put_lowest-arg-1 → tie.After-slot-to
+slot-arg3 c = c.before
 
-abbrev window-arg3 : tie.After-put-lowest-arg3 → Window
-window-arg3 c = window-slot (slot-arg3 c)
+abbrev window-put : tie.After-put_lowest-found → Window
+window-put c = c.before.before.before.before.before.before.before
 
-abbrev window-put : tie.After-put-lowest → Window
-window-put c = window-arg3 c.before
+abbrev put-struct : tie.After-struct_known-1 → tie.After-put_lowest-found
+put-struct c = c.before.before.before.before.before
 
-abbrev codes-struct : tie.After-struct-known → tie.After-slice-known6
-codes-struct c = c.before.before.before
+abbrev put-arg4 : tie.After-all_windows-arg-4-1 → tie.After-put_lowest-found
+put-arg4 c = c.before.before.before.before.before.before.before.before.before.before
 
-abbrev put-struct : tie.After-struct-known → tie.After-put-lowest
-put-struct c = (codes-struct c).before.before
-
-abbrev arg-arg4 : tie.After-all-windows-arg4 → tie.After-all-windows-arg
-arg-arg4 c = c.before.before.before
-
-abbrev put-arg4 : tie.After-all-windows-arg4 → tie.After-put-lowest
-put-arg4 c = put-struct (arg-arg4 c).before.before
-
-abbrev codes2-known11 : tie.After-slice-known11 → tie.After-codes2
-codes2-known11 c = c.before.before.before
-
-abbrev known8-known11 : tie.After-slice-known11 → tie.After-slice-known8
-known8-known11 c = (codes2-known11 c).before.before.before
-
-abbrev all-known11 : tie.After-slice-known11 → tie.After-all-windows
-all-known11 c = (known8-known11 c).before.before
+abbrev all-known11 : tie.After-slice_known-11-1 → tie.After-all_windows
+all-known11 c = c.before.before.before.before.before.before.before.before
 
 -- ---- the first window
 
-first-window-requires : tie.Need-first-window-requires
+first-window-requires : tie.Need-first_window-full-requires
 first-window-requires c κs =
-    let start = entry-arg2 c in (
-      (start.pre.0, start.pre.1.0),
+    let start = c in (
+      (start.requires.0, start.requires.1.0),
       (
-        (start.pre.1.1.0.1, start.pre.1.1.1.0.within),
+        (start.requires.1.1.0.1, start.requires.1.1.1.0.within),
         scanned_none start.args.measures.last start.args.base start.args.letters.now start.args.ranks.now start.args.begun.at
-            start.args.begun.code start.pre.1.1.0.2 start.pre.1.0.begins start.pre.1.1.1.1,
+            start.args.begun.code start.requires.1.1.0.2 start.requires.1.0.begins start.requires.1.1.1.1,
       ),
     )
 
 -- the place behind it: in the block and in the run
 inside : (c : Window)
-    → ((entry c).args.begun.at ≤ c.first-window.result.at)
-    × (c.first-window.result.at ≤ (entry c).args.begun.at + (entry c).args.measures.w)
-    × (c.first-window.result.at + (entry c).args.measures.last ≤ run_end (entry c).args.letters.now (entry c).args.begun.at)
-    × (run_end (entry c).args.letters.now (entry c).args.begun.at ≤ length (entry c).args.letters.now)
-    × (length (entry c).args.letters.now ≤ letter_limit)
-    × ((entry c).args.base ≤ (entry c).args.begun.at)
-    × ((entry c).args.begun.at + (entry c).args.measures.last + (entry c).args.measures.w ≤ (entry c).args.base + block_size)
+    → (c.args.begun.at ≤ c.first_window-full.result.at)
+    × (c.first_window-full.result.at ≤ c.args.begun.at + c.args.measures.w)
+    × (c.first_window-full.result.at + c.args.measures.last ≤ run_end c.args.letters.now c.args.begun.at)
+    × (run_end c.args.letters.now c.args.begun.at ≤ length c.args.letters.now)
+    × (length c.args.letters.now ≤ letter_limit)
+    × (c.args.base ≤ c.args.begun.at)
+    × (c.args.begun.at + c.args.measures.last + c.args.measures.w ≤ c.args.base + block_size)
 inside c =
-    let start = entry c in
-    let filled = c.first-window.ensures in (
+    let start = c in
+    let filled = c.first_window-full.ensures in (
       filled.start,
       filled.most,
       filled.within,
-      (run_end_within start.args.letters.now start.args.begun.at start.pre.0.in_letters).1,
-      start.pre.0.few,
-      start.pre.1.0.begins,
-      start.pre.1.0.ends,
+      (run_end_within start.args.letters.now start.args.begun.at start.requires.0.in_letters).1,
+      start.requires.0.few,
+      start.requires.1.0.begins,
+      start.requires.1.0.ends,
     )
 
-add_at : tie.Need-overflow-add-at
+add_at : tie.Need-overflow_add-at
 add_at c =
     let there = inside (window-known5 c) in
     sum_fits (le_trans there.2 there.3) there.4
 
-same_length : tie.Need-same-length
+same_length : tie.Need-shape_of-values-then-p-from
 same_length c = refl
 
-same-length-2 : tie.Need-same-length-2
-same-length-2 c = (window-known5 c.before).first-window.auto.1.1.1.0
+same-length-2 : tie.Need-shape_of-ranks-then-p-from
+same-length-2 c = c.first_window-full.auto.ranks
 
-returns : tie.Need-returns
+returns : tie.Need-returns-then-p-from
 returns c =
     let window = window-known5 c.before in
-    let start = entry window in
+    let start = window in
     let args = start.args in
     let letters = args.letters.now in
     let from = args.begun.at in
     let last = args.measures.last in
     let there = inside window in
-    let ended = window.first-window.ensures.ended (before_full c.if1.true start.pre.1.1.0.0) in
+    let ended = window.first_window-full.ensures.ended (before_full c.if-p-from.true start.requires.1.1.0.0) in
     record {
-      block = start.pre.0.block;
+      block = start.requires.0.block;
       begins = further last (le_trans there.5 (le-add_right from last)) there.0;
       ended = ended;
-      counted = le_trans start.pre.1.1.1.0.counted (le_trans there.0 (le-add_right window.first-window.result.at last));
-      put = run_none last args.measures.w args.measures.room letters start.pre.1.1.0.0 from (run_end letters from - last)
-          args.begun.entries args.codes.now args.positions.now (no_kmer last c.if1.true ended);
+      counted = le_trans start.requires.1.1.1.0.counted (le_trans there.0 (le-add_right window.first_window-full.result.at last));
+      put = run_none last args.measures.w args.measures.room letters start.requires.1.1.0.0 from (run_end letters from - last)
+          args.begun.entries args.codes.now args.positions.now (no_kmer last c.if-p-from.true ended);
     }
 
 -- ---- its lowest
 
-slot-requires : tie.Need-slot-requires
+slot-requires : tie.Need-slot-to-requires
 slot-requires c κs =
     let window = window-known5 c.before in
     let there = inside window in
-    let measures = (entry window).args.measures in
+    let measures = window.args.measures in
     let held = in_block measures.last measures.w there.5 there.0 there.1 there.6 in
     (held.0, held.1, le_trans there.2 (le_trans there.3 there.4))
 
 -- the slots of the window
-slots : (c : tie.After-slot)
-    → ((window-slot c).first-window.result.at - (entry (window-slot c)).args.begun.at ≤ c.slot.result)
-    × (c.slot.result - ((window-slot c).first-window.result.at - (entry (window-slot c)).args.begun.at) < c.slot.result)
-    × (c.slot.result
-    ≤ c.slot.result - ((window-slot c).first-window.result.at - (entry (window-slot c)).args.begun.at) + (window-slot c).first-window.result.at)
+slots : (c : tie.After-slot-to)
+    → (c.first_window-full.result.at - c.args.begun.at ≤ c.slot-to.result)
+    × (c.slot-to.result - (c.first_window-full.result.at - c.args.begun.at) < c.slot-to.result)
+    × (c.slot-to.result
+    ≤ c.slot-to.result - (c.first_window-full.result.at - c.args.begun.at) + c.first_window-full.result.at)
 slots c =
     let window = window-slot c in
-    slots_between (entry window).args.measures.last c.before.if1.false (inside window).5 c.slot.ensures.0
+    slots_between window.args.measures.last c.if-p-from.false (inside window).5 c.slot-to.ensures.0
 
-sub-put-lowest : tie.Need-overflow-sub-put-lowest
-sub-put-lowest c = (inside (window-slot c.before)).0
+sub-put-lowest : tie.Need-overflow_sub-p
+sub-put-lowest c = (inside (window-slot c)).0
 
-sub-put-lowest-2 : tie.Need-overflow-sub-put-lowest-2
-sub-put-lowest-2 c = (slots c.before).0
+sub-put-lowest-2 : tie.Need-overflow_sub-to
+sub-put-lowest-2 c = (slots c).0
 
-put-lowest-requires : tie.Need-put-lowest-requires
+put-lowest-requires : tie.Need-put_lowest-found-requires
 put-lowest-requires c κs =
-    let slot = slot-arg3 c in
+    let slot = slot-arg3 c.before in
     let window = window-slot slot in
     let there = inside window in
-    let standing = (entry window).pre.1.1.1.0 in
+    let standing = window.requires.1.1.1.0 in
     let to = slots slot in
-    let few = in_letters (entry window).args.measures.last there.2 there.3 there.4 in (
-      (window.first-window.ensures.scanned.sized, to.1, slot.slot.ensures.1, to.2),
-      (standing.has_room, lt_of_le_of_lt standing.counted (lt_of_lt_of_le slot.before.if1.left few), few),
+    let few = in_letters window.args.measures.last there.2 there.3 there.4 in (
+      (window.first_window-full.ensures.scanned.sized, to.1, slot.slot-to.ensures.1, to.2),
+      (standing.has_room, lt_of_le_of_lt standing.counted (lt_of_lt_of_le slot.if-p-from.false few), few),
     )
 
 -- what is put is the lowest of the k-mers read
-searched : (c : tie.After-put-lowest)
-    → IsLowest (rank_at (suc (entry (window-put c)).args.measures.last) (entry (window-put c)).args.letters.now)
-    (entry (window-put c)).args.begun.at (window-put c).first-window.result.at c.put_lowest.result.at
-    × (c.put_lowest.result.rank
-    ≡ rank_at (suc (entry (window-put c)).args.measures.last) (entry (window-put c)).args.letters.now c.put_lowest.result.at)
-    × (unrank c.put_lowest.result.rank
-    ≡ code_at (suc (entry (window-put c)).args.measures.last) (entry (window-put c)).args.letters.now c.put_lowest.result.at)
+searched : (c : tie.After-put_lowest-found)
+    → IsLowest (rank_at (suc c.args.measures.last) c.args.letters.now)
+    c.args.begun.at c.first_window-full.result.at c.put_lowest-found.result.at
+    × (c.put_lowest-found.result.rank
+    ≡ rank_at (suc c.args.measures.last) c.args.letters.now c.put_lowest-found.result.at)
+    × (unrank c.put_lowest-found.result.rank
+    ≡ code_at (suc c.args.measures.last) c.args.letters.now c.put_lowest-found.result.at)
 searched c =
-    let slot = slot-arg3 c.before in
+    let slot = c in
     let window = window-put c in
-    let args = (entry window).args in
+    let args = window.args in
     let from = args.begun.at in
-    let result = window.first-window.result in
-    let same = slot.slot.ensures.0 in
+    let result = window.first_window-full.result in
+    let same = slot.slot-to.ensures.0 in
     let there = inside window in
-    let found = c.put_lowest.ensures in
-    let kmers = first_kmers there.0 there.1 (entry window).pre.1.1.0.1 in
+    let found = c.put_lowest-found.ensures in
+    let kmers = first_kmers there.0 there.1 window.requires.1.1.0.1 in
     let held = in_block args.measures.last args.measures.w there.5 there.0 there.1 there.6 in
-    let lowest = slot_lowest args.measures.last args.base args.letters.now window.first-window.last.1.1.1.0 from result.at
-    result.code window.first-window.ensures.scanned held.0 (result.at - from) c.put_lowest.result.at c.put_lowest.result.rank
+    let lowest = slot_lowest args.measures.last args.base args.letters.now window.first_window-full.new.ranks from result.at
+    result.code window.first_window-full.ensures.scanned held.0 (result.at - from) c.put_lowest-found.result.at c.put_lowest-found.result.rank
     kmers.1 kmers.2 (rw same at found.near) (rw same at found.lowest) (rw same at found.rank_there) in
     (rw kmers.0 at lowest.0, lowest.1, lowest.2)
 
-add-if2 : tie.Need-overflow-add-if2
+add-if2 : tie.Need-overflow_add-from
 add-if2 c =
     let window = window-put (put-struct c) in
     let there = inside window in
-    let letters = in_letters (entry window).args.measures.last there.2 there.3 there.4 in
-    window_fits (le_trans there.0 letters) (entry window).pre.1.1.0.1
+    let letters = in_letters window.args.measures.last there.2 there.3 there.4 in
+    window_fits (le_trans there.0 letters) window.requires.1.1.0.1
 
 -- ---- fewer k-mers than a window
 
-same-length-3 : tie.Need-same-length-3
+same-length-3 : tie.Need-shape_of-values-then-p-from-2
 same-length-3 c = refl
 
-same-length-4 : tie.Need-same-length-4
-same-length-4 c = (window-put (put-struct c.before)).first-window.auto.1.1.1.0
+same-length-4 : tie.Need-shape_of-ranks-then-p-from-2
+same-length-4 c = c.first_window-full.auto.ranks
 
-same-length-5 : tie.Need-same-length-5
-same-length-5 c = (put-struct c.before).put_lowest.auto.1.1.1.1.0
+same-length-5 : tie.Need-shape_of-codes-then-p-from-2
+same-length-5 c = c.put_lowest-found.auto.codes
 
-same-length-6 : tie.Need-same-length-6
-same-length-6 c = (put-struct c.before).put_lowest.auto.1.1.1.1.1.0
+same-length-6 : tie.Need-shape_of-positions-then-p-from-2
+same-length-6 c = c.put_lowest-found.auto.positions
 
-returns-2 : tie.Need-returns-2
+returns-2 : tie.Need-returns-then-p-from-2
 returns-2 c =
     let found = put-struct c.before in
-    let picked = found.put_lowest in
+    let picked = found.put_lowest-found in
     let put = picked.ensures.put in
     let window = window-put found in
-    let start = entry window in
+    let start = window in
     let args = start.args in
     let letters = args.letters.now in
     let from = args.begun.at in
     let last = args.measures.last in
-    let result = window.first-window.result in
+    let result = window.first_window-full.result in
     let there = inside window in
-    let ended = window.first-window.ensures.ended c.if2.true in
+    let ended = window.first_window-full.ensures.ended c.if-p-from-2.true in
     let to : result.at ≡ run_end letters from - last = run_to result.at last ended in
     let lowest = searched found in
-    let some = (slot-arg3 found.before).before.if1.false in
+    let some = found.if-p-from.false in
     record {
-      block = start.pre.0.block;
+      block = start.requires.0.block;
       begins = further last (le_trans there.5 (le-add_right from last)) there.0;
       ended = ended;
-      counted = le_trans (one_more put.counted start.pre.1.1.1.0.counted some) (le-add_right result.at last);
-      put = run_short last args.measures.w args.measures.room letters start.pre.1.1.0.0 from (run_end letters from - last)
+      counted = le_trans (one_more put.counted start.requires.1.1.1.0.counted some) (le-add_right result.at last);
+      put = run_short last args.measures.w args.measures.room letters start.requires.1.1.0.0 from (run_end letters from - last)
           args.begun.entries args.codes.now args.positions.now picked.result.at (unrank picked.result.rank) picked.result.entries
-          picked.last.1.1.1.1.0 picked.last.1.1.1.1.1.0 (fewer last ended c.if2.true)
+          picked.new.codes picked.new.positions (fewer last ended c.if-p-from-2.true)
           (subst (λ (x : ℕ). IsLowest (rank_at (suc last) letters) from x picked.result.at) to lowest.0) lowest.2 put;
     }
 
 -- ---- windows to pass
 
 -- the first window is full
-full : (c : tie.After-all-windows-arg4)
-    → (window-put (put-arg4 c)).first-window.result.at
-    ≡ (entry (window-put (put-arg4 c))).args.begun.at + (entry (window-put (put-arg4 c))).args.measures.w
-full c = le_antisymm (inside (window-put (put-arg4 c))).1 (arg-arg4 c).before.if2.false
+full : (c : tie.After-all_windows-arg-4-1)
+    → c.first_window-full.result.at
+    ≡ c.args.begun.at + c.args.measures.w
+full c = le_antisymm (inside (window-put (put-arg4 c))).1 c.if-p-from-2.false
 
 -- and it is of the run
 of-run : (c : Window)
-    → c.first-window.result.at ≤ run_end (entry c).args.letters.now (entry c).args.begun.at - (entry c).args.measures.last
-of-run c = run_within c.first-window.result.at (entry c).args.measures.last (inside c).2
+    → c.first_window-full.result.at ≤ run_end c.args.letters.now c.args.begun.at - c.args.measures.last
+of-run c = run_within c.first_window-full.result.at c.args.measures.last (inside c).2
 
-all-windows-requires : tie.Need-all-windows-requires
+all-windows-requires : tie.Need-all_windows-requires
 all-windows-requires c κs =
     let found = put-arg4 c in
-    let picked = found.put_lowest in
+    let picked = found.put_lowest-found in
     let window = window-put found in
     let start = entry window in
     let args = start.args in
     let letters = args.letters.now in
     let from = args.begun.at in
     let last = args.measures.last in
-    let result = window.first-window.result in
-    let standing = start.pre.1.1.1.0 in
+    let result = window.first_window-full.result in
+    let standing = start.requires.1.1.1.0 in
     let there = inside window in
     let lowest = searched found in
-    let some = (slot-arg3 found.before).before.if1.false in
+    let some = found.if-p-from.false in
     let first = full_first from args.measures.w (full c) in
     let within = le_trans (le-add_right result.at last) there.2 in
     let same = run_end_same letters from result.at there.0 within in
     let held = in_block last args.measures.w there.5 there.0 there.1 there.6 in (
-      record { block = start.pre.0.block; in_letters = le_trans within there.3; few = start.pre.0.few; short = start.pre.0.short },
+      record { block = start.requires.0.block; in_letters = le_trans within there.3; few = start.requires.0.few; short = start.requires.0.short },
       (
         record { begins = held.0; ends = held.1 },
         (
-          (start.pre.1.1.0.0, start.pre.1.1.0.1, first.1),
+          (start.requires.1.1.0.0, start.requires.1.1.0.1, first.1),
           (
             record {
               start = le_refl result.at;
               within = rw same there.2;
               counted = one_more picked.ensures.put.counted standing.counted some;
               has_room = record {
-                for_codes = rw picked.kept.1.1.1.1.0 standing.has_room.for_codes;
-                for_positions = rw picked.kept.1.1.1.1.1.0 standing.has_room.for_positions;
+                for_codes = rw picked.auto.codes standing.has_room.for_codes;
+                for_positions = rw picked.auto.positions standing.has_room.for_positions;
               };
             },
             record {
-              scanned = scanned_later last args.base letters window.first-window.last.1.1.1.0 from (suc picked.result.at) result.at
-                  result.code window.first-window.ensures.scanned (le_trans lowest.0.first (le-suc picked.result.at));
+              scanned = scanned_later last args.base letters window.first_window-full.new.ranks from (suc picked.result.at) result.at
+                  result.code window.first_window-full.ensures.scanned (le_trans lowest.0.first (le-suc picked.result.at));
               is_lowest = rw first.0 lowest.0;
               is_rank = lowest.1;
             },
@@ -303,49 +279,49 @@ all-windows-requires c κs =
       ),
     )
 
-same-length-7 : tie.Need-same-length-7
-same-length-7 c = (all-known11 c).all-windows.auto.1.0
+same-length-7 : tie.Need-shape_of-values
+same-length-7 c = c.all_windows.auto.values
 
-same-length-8 : tie.Need-same-length-8
+same-length-8 : tie.Need-shape_of-ranks
 same-length-8 c =
-    let all = all-known11 c in
-    all.all-windows.kept.1.1.1.0 ∙ (window-put (put-arg4 all.before)).first-window.auto.1.1.1.0
+    let all = c in
+    all.all_windows.auto.ranks ∙ all.first_window-full.auto.ranks
 
-same-length-9 : tie.Need-same-length-9
+same-length-9 : tie.Need-shape_of-codes
 same-length-9 c =
-    let all = all-known11 c in
-    all.all-windows.kept.1.1.1.1.1.1.0 ∙ (put-arg4 all.before).put_lowest.auto.1.1.1.1.0
+    let all = c in
+    all.all_windows.auto.codes ∙ all.put_lowest-found.auto.codes
 
-same-length-10 : tie.Need-same-length-10
+same-length-10 : tie.Need-shape_of-positions
 same-length-10 c =
-    let all = all-known11 c in
-    all.all-windows.kept.1.1.1.1.1.1.1.0 ∙ (put-arg4 all.before).put_lowest.auto.1.1.1.1.1.0
+    let all = c in
+    all.all_windows.auto.positions ∙ all.put_lowest-found.auto.positions
 
-returns-3 : tie.Need-returns-3
+returns-3 : tie.Need-returns
 returns-3 c =
     let all = all-known11 c in
-    let passed = all.all-windows in
+    let passed = all.all_windows in
     let found = put-arg4 all.before in
-    let picked = found.put_lowest in
+    let picked = found.put_lowest-found in
     let window = window-put found in
-    let start = entry window in
+    let start = window in
     let args = start.args in
     let letters = args.letters.now in
     let from = args.begun.at in
     let last = args.measures.last in
     let w = args.measures.w in
     let room = args.measures.room in
-    let result = window.first-window.result in
+    let result = window.first_window-full.result in
     let there = inside window in
     let lowest = searched found in
     let first = (full_first from w (full all.before)).0 in
     let same = run_end_same letters from result.at there.0 (le_trans (le-add_right result.at last) there.2) in
-    let new = window_new last w room (run_end letters from - last) letters start.pre.1.1.0.0 from result.at picked.result.at
+    let new = window_new last w room (run_end letters from - last) letters start.requires.1.1.0.0 from result.at picked.result.at
     (sym (full all.before)) (of-run window) lowest.0 from args.begun.entries (unrank picked.result.rank) picked.result.entries
-    args.codes.now args.positions.now picked.last.1.1.1.1.0 picked.last.1.1.1.1.1.0 lowest.0.first lowest.2
+    args.codes.now args.positions.now picked.new.codes picked.new.positions lowest.0.first lowest.2
     picked.ensures.put in
-    let put_all_lem = put_behind room picked.result.entries passed.result.entries args.begun.entries picked.last.1.1.1.1.0
-    picked.last.1.1.1.1.1.0 passed.last.1.1.1.1.1.1.0 passed.last.1.1.1.1.1.1.1.0 args.codes.now args.positions.now []
+    let put_all_lem = put_behind room picked.result.entries passed.result.entries args.begun.entries picked.new.codes
+    picked.new.positions passed.new.codes passed.new.positions args.codes.now args.positions.now []
     (to_pick last w letters from (suc from) (suc picked.result.at)) (picked_from (suc last) w letters (run_end letters from - last) from from)
     (rw (same, first) at passed.ensures.put) new in
     record {
@@ -353,33 +329,12 @@ returns-3 c =
       begins = passed.ensures.begins;
       ended = passed.ensures.ended ∙ same;
       counted = passed.ensures.counted;
-      put = run_long last w room letters start.pre.1.1.0.0 from (run_end letters from - last) args.begun.entries args.codes.now
-          args.positions.now passed.result.entries passed.last.1.1.1.1.1.1.0 passed.last.1.1.1.1.1.1.1.0
+      put = run_long last w room letters start.requires.1.1.0.0 from (run_end letters from - last) args.begun.entries args.codes.now
+          args.positions.now passed.result.entries passed.new.codes passed.new.positions
           (rw (sym (full all.before)) (of-run window)) put_all_lem;
     }
 
-pub run-windows-spec : {M : Type 1} → statement M
-run-windows-spec =
+pub run_windows_spec : {M : Type 1} → statement M
+run_windows_spec =
     tie.close
-    (tie.spec
-    first-window-requires
-    add_at
-    same_length
-    same-length-2
-    returns
-    slot-requires
-    sub-put-lowest
-    sub-put-lowest-2
-    put-lowest-requires
-    add-if2
-    same-length-3
-    same-length-4
-    same-length-5
-    same-length-6
-    returns-2
-    all-windows-requires
-    same-length-7
-    same-length-8
-    same-length-9
-    same-length-10
-    returns-3)
+    (tie.spec first-window-requires add_at same_length same-length-2 returns slot-requires sub-put-lowest sub-put-lowest-2 put-lowest-requires add-if2 same-length-3 same-length-4 same-length-5 same-length-6 returns-2 all-windows-requires same-length-7 same-length-8 same-length-9 same-length-10 returns-3)

@@ -15,82 +15,65 @@ use Rattle.winnowing.proofs.windows.lowest.Tie as tie
 abbrev in_slot : List ℕ → ℕ → ℕ
 in_slot ranks i = get_or ranks i 0
 
-abbrev invariant-loop : tie.invariant-loop
+abbrev invariant-loop : tie.invariant-loop-i
 invariant-loop ranks from to low-at₀ low₀ i₀ low-at low i = (i ≤ to) × IsLowest (in_slot ranks) from i low-at × (low ≡ in_slot ranks low-at)
 
-abbrev decreases-loop : tie.decreases-loop
+abbrev decreases-loop : tie.decreases-loop-i
 decreases-loop ranks from to low-at₀ low₀ i₀ low-at low i = to - i
 
 -- places, each named for where it leads and from where
-abbrev entry-turn : tie.At-loop invariant-loop decreases-loop → tie.Start invariant-loop decreases-loop
-entry-turn c = c.before.before
-
-mul_low : tie.Need-overflow-mul-low invariant-loop decreases-loop
+mul_low : tie.Need-offset_bounds-ranks-from invariant-loop decreases-loop
 mul_low c = search rules
 
-shared-slice-read-low : tie.Need-shared-slice-read-low invariant-loop decreases-loop
+shared-slice-read-low : tie.Need-bounds-ranks-from invariant-loop decreases-loop
 shared-slice-read-low c = search rules
 
-add-i : tie.Need-overflow-add-i invariant-loop decreases-loop
+add-i : tie.Need-overflow_add-i invariant-loop decreases-loop
 add-i c = search rules
 
-loop-holds : tie.Need-loop-init invariant-loop decreases-loop
-loop-holds c = (omega arith, rw add-one (lowest_one (in_slot c.before.args.ranks.now) c.before.args.from), refl)
+loop-holds : tie.Need-loop-i-init invariant-loop decreases-loop
+loop-holds c = (omega arith, rw add-one (lowest_one (in_slot c.args.ranks.now) c.args.from), refl)
 
-mul-found : tie.Need-overflow-mul-found invariant-loop decreases-loop
+mul-found : tie.Need-offset_bounds-ranks-i invariant-loop decreases-loop
 mul-found c = search rules
 
-shared-slice-read-found : tie.Need-shared-slice-read-found invariant-loop decreases-loop
+shared-slice-read-found : tie.Need-bounds-ranks-i invariant-loop decreases-loop
 shared-slice-read-found c = search rules
 
-add-i-2 : tie.Need-overflow-add-i-2 invariant-loop decreases-loop
+add-i-2 : tie.Need-overflow_add-i-in-loop-i invariant-loop decreases-loop
 add-i-2 c = search rules
 
-loop-less : tie.Need-loop-smaller invariant-loop decreases-loop
+loop-less : tie.Need-loop-i-smaller-then-found-low invariant-loop decreases-loop
 loop-less c = search rules
 
-loop-again : tie.Need-loop-preserved invariant-loop decreases-loop
+loop-again : tie.Need-loop-i-preserved-then-found-low invariant-loop decreases-loop
 loop-again c =
-    let args = (entry-turn c.before.before.before).args in
-    let at = c.before.before.before.loop in (
+    let args = c.args in
+    let at = c.loop-i in (
       omega arith,
-      rw add-one (lowest_new (in_slot args.ranks.now) args.from at.i at.low-at at.invariant.1 (omega (arith, at.invariant.2, c.if1.true))),
+      rw add-one (lowest_new (in_slot args.ranks.now) args.from at.i at.low_at at.invariant.1 (omega (arith, at.invariant.2, c.if-found-low.true))),
       refl,
     )
 
-loop-less-2 : tie.Need-loop-smaller-2 invariant-loop decreases-loop
+loop-less-2 : tie.Need-loop-i-smaller invariant-loop decreases-loop
 loop-less-2 c = search rules
 
-loop-again-2 : tie.Need-loop-preserved-2 invariant-loop decreases-loop
+loop-again-2 : tie.Need-loop-i-preserved invariant-loop decreases-loop
 loop-again-2 c =
-    let args = (entry-turn c.before.before.before).args in
-    let at = c.before.before.before.loop in (
+    let args = c.args in
+    let at = c.loop-i in (
       omega arith,
-      rw add-one (lowest_kept (in_slot args.ranks.now) args.from at.i at.low-at at.invariant.1 (omega (arith, at.invariant.2, c.if1.false))),
+      rw add-one (lowest_kept (in_slot args.ranks.now) args.from at.i at.low_at at.invariant.1 (omega (arith, at.invariant.2, c.if-found-low.false))),
       at.invariant.2,
     )
 
 returns : tie.Need-returns invariant-loop decreases-loop
 returns c =
-    let args = c.before.before.before.args in
-    let at = c.before.loop in
-    subst (λ (x : ℕ). IsLowest (in_slot args.ranks.now) args.from x at.low-at) (le_antisymm at.invariant.0 c.loop-test.false) at.invariant.1
+    let args = c.args in
+    let at = c.loop-i in
+    subst (λ (x : ℕ). IsLowest (in_slot args.ranks.now) args.from x at.low_at) (le_antisymm at.invariant.0 c.loop-i-test.false) at.invariant.1
 
-pub lowest-spec : {M : Type 1} → statement M
-lowest-spec =
+pub lowest_spec : {M : Type 1} → statement M
+lowest_spec =
     tie.close
-    (tie.spec
-    invariant-loop
-    decreases-loop
-    mul_low
-    shared-slice-read-low
-    add-i
-    loop-holds
-    mul-found
-    shared-slice-read-found
-    add-i-2
-    loop-less
-    loop-again
-    loop-less-2
-    loop-again-2
-    returns)
+    (tie.spec invariant-loop decreases-loop mul_low shared-slice-read-low add-i loop-holds mul-found shared-slice-read-found add-i-2 loop-less loop-again loop-less-2 loop-again-2 returns)

@@ -19,7 +19,7 @@ use Rattle.winnowing.proofs.Passing.{window_new}
 use Rattle.winnowing.proofs.windows.pass_kmers.Statement.{statement}
 use Rattle.winnowing.proofs.windows.pass_kmers.Tie as tie
 
-abbrev invariant-loop : tie.invariant-loop
+abbrev invariant-loop : tie.invariant-loop-p
 invariant-loop letters values base measures codes₀ positions₀ last end p₀ code₀ n₀ codes positions p code n =
     (p + last ≤ base + block_size)
     × Standing last measures.room letters p₀ codes positions p n
@@ -28,7 +28,7 @@ invariant-loop letters values base measures codes₀ positions₀ last end p₀ 
     × (length positions ≡ length positions₀)
     × SameEnd measures.room n codes positions (to_pick last 1 letters p₀ p p) n₀ codes₀ positions₀ (to_pick last 1 letters p₀ p₀ p₀)
 
-abbrev decreases-loop : tie.decreases-loop
+abbrev decreases-loop : tie.decreases-loop-p
 decreases-loop letters values base measures codes₀ positions₀ last end p₀ code₀ n₀ codes positions p code n = end - p
 
 -- a window of one k-mer picks it, and is done when it is put
@@ -42,67 +42,64 @@ put_one last room letters from p more n code n' n₀ cs ps cs' ps' cs₀ ps₀ a
     (lowest_one (rank_at (suc last) letters) p) p n code n' cs ps cs' ps' (le_refl p) there put es ∙ before es)
 
 -- places, each named for where it leads and from where
-abbrev entry-slice-known : tie.After-slice-known invariant-loop decreases-loop → tie.Start invariant-loop decreases-loop
-entry-slice-known c = c.before.before.before
+abbrev entry-turn : tie.At-loop-p invariant-loop decreases-loop → tie.Start invariant-loop decreases-loop
+entry-turn c = c.before.before.before.before.before
 
-abbrev entry-turn : tie.At-loop invariant-loop decreases-loop → tie.Start invariant-loop decreases-loop
-entry-turn c = entry-slice-known c.before.before
-
-abbrev turn-else1 : tie.Else1 invariant-loop decreases-loop → tie.At-loop invariant-loop decreases-loop
+abbrev turn-else1 : tie.Else-v-eq-FOREIGN invariant-loop decreases-loop → tie.At-loop-p invariant-loop decreases-loop
 turn-else1 c = c.before.before.before
 
-abbrev else1-put-arg2 : tie.After-put-arg2 invariant-loop decreases-loop → tie.Else1 invariant-loop decreases-loop
+abbrev else1-put-arg2 : tie.After-put-arg-in-loop-p-1 invariant-loop decreases-loop → tie.Else-v-eq-FOREIGN invariant-loop decreases-loop
 else1-put-arg2 c = c.before.before.before
 
-abbrev put-slice-known3 : tie.After-slice-known3 invariant-loop decreases-loop → tie.After-put invariant-loop decreases-loop
+abbrev put-slice-known3 : tie.After-slice_known-in-loop-p-1 invariant-loop decreases-loop → tie.After-put-n invariant-loop decreases-loop
 put-slice-known3 c = c.before.before
 
 -- the place of a turn is within the letters
-inside : (c : tie.At-loop invariant-loop decreases-loop)
-    → (run_end (entry-turn c).args.letters.now (entry-turn c).args.reached.at ≤ length (entry-turn c).args.letters.now)
-    × (length (entry-turn c).args.letters.now ≤ letter_limit)
-    × (c.loop.p + (entry-turn c).args.measures.last ≤ run_end (entry-turn c).args.letters.now (entry-turn c).args.reached.at)
+inside : (c : tie.At-loop-p invariant-loop decreases-loop)
+    → (run_end c.args.letters.now c.args.reached.at ≤ length c.args.letters.now)
+    × (length c.args.letters.now ≤ letter_limit)
+    × (c.loop-p.p + c.args.measures.last ≤ run_end c.args.letters.now c.args.reached.at)
 inside c =
-    let start = entry-turn c in
-    ((run_end_within start.args.letters.now start.args.reached.at start.pre.0.in_letters).1, start.pre.0.few, c.loop.invariant.1.within)
+    let start = c in
+    ((run_end_within start.args.letters.now start.args.reached.at start.requires.0.in_letters).1, start.requires.0.few, c.loop-p.invariant.1.within)
 
-add-end : tie.Need-overflow-add-end invariant-loop decreases-loop
+add-end : tie.Need-overflow_add-end invariant-loop decreases-loop
 add-end c = search rules
 
-sub-end : tie.Need-overflow-sub-end invariant-loop decreases-loop
+sub-end : tie.Need-overflow_sub-end invariant-loop decreases-loop
 sub-end c = search rules
 
-loop-holds : tie.Need-loop-init invariant-loop decreases-loop
+loop-holds : tie.Need-loop-p-init invariant-loop decreases-loop
 loop-holds c =
-    let pre = (entry-slice-known c.before).pre in
+    let pre = c.requires in
     (pre.1.0.ends, pre.1.1.0, pre.1.1.1, refl, refl, λ es. refl)
 
-add-value-at : tie.Need-overflow-add-value-at invariant-loop decreases-loop
+add-value-at : tie.Need-overflow_add-p invariant-loop decreases-loop
 add-value-at c = search rules
 
-value-at-requires : tie.Need-value-at-requires invariant-loop decreases-loop
+value-at-requires : tie.Need-value_at-v-requires invariant-loop decreases-loop
 value-at-requires c κs =
-    let start = entry-turn c.before in
+    let start = c in
     let there = inside c.before in (
-      start.pre.0.block,
-      (omega (arith, start.pre.1.0.begins, c.before.loop.invariant.1.start), omega (arith, c.loop-test.true), omega arith),
+      start.requires.0.block,
+      (omega (arith, start.requires.1.0.begins, c.loop-p.invariant.1.start), omega (arith, c.loop-p-test.true), omega arith),
     )
 
-same_length : tie.Need-same-length invariant-loop decreases-loop
+same_length : tie.Need-shape_of-codes-then-v-eq-FOREIGN invariant-loop decreases-loop
 same_length c = search rules
 
-same-length-2 : tie.Need-same-length-2 invariant-loop decreases-loop
+same-length-2 : tie.Need-shape_of-positions-then-v-eq-FOREIGN invariant-loop decreases-loop
 same-length-2 c = search rules
 
-returns : tie.Need-returns invariant-loop decreases-loop
+returns : tie.Need-returns-then-v-eq-FOREIGN invariant-loop decreases-loop
 returns c =
-    let at = c.before.before.before in
-    let args = (entry-turn at).args in
-    let is = at.loop.invariant in (
+    let at = c in
+    let args = at.args in
+    let is = at.loop-p.invariant in (
       record {
         most = is.0;
-        ended = λ h. end_here args.letters.now args.reached.at (at.loop.p + args.measures.last) (omega (arith, is.1.start)) is.1.within
-            (sym c.before.value-at.ensures ∙ c.if1.true);
+        ended = λ h. end_here args.letters.now args.reached.at (at.loop-p.p + args.measures.last) (omega (arith, is.1.start)) is.1.within
+            (sym c.value_at-v.ensures ∙ c.if-v-eq-FOREIGN.true);
       },
       is.1,
       is.2,
@@ -110,38 +107,38 @@ returns c =
     )
 
 -- past the test the run goes on, and the letter is a digit
-goes_on : (c : tie.Else1 invariant-loop decreases-loop)
-    → ((turn-else1 c).loop.p + (entry-turn (turn-else1 c)).args.measures.last
-    < run_end (entry-turn (turn-else1 c)).args.letters.now (entry-turn (turn-else1 c)).args.reached.at)
-    × (c.before.value-at.result < 4)
+goes_on : (c : tie.Else-v-eq-FOREIGN invariant-loop decreases-loop)
+    → (c.loop-p.p + c.args.measures.last
+    < run_end c.args.letters.now c.args.reached.at)
+    × (c.value_at-v.result < 4)
 goes_on c =
-    let at = turn-else1 c in
-    let args = (entry-turn at).args in
-    run_goes_on args.letters.now args.reached.at (at.loop.p + args.measures.last) (omega (arith, at.loop.inv.1.start))
-    at.loop.inv.1.within c.before.value-at.result c.before.value-at.ensures c.if1.false
+    let at = c in
+    let args = at.args in
+    run_goes_on args.letters.now args.reached.at (at.loop-p.p + args.measures.last) (omega (arith, at.loop-p.invariant.1.start))
+    at.loop-p.invariant.1.within c.value_at-v.result c.value_at-v.ensures c.if-v-eq-FOREIGN.false
 
-next-code-requires : tie.Need-next-code-requires invariant-loop decreases-loop
-next-code-requires c κs = ((entry-turn (turn-else1 c)).pre.0.short, (turn-else1 c).loop.invariant.2.code_below, (goes_on c).1)
+next-code-requires : tie.Need-next_code-code-requires invariant-loop decreases-loop
+next-code-requires c κs = (c.requires.0.short, c.loop-p.invariant.2.code_below, (goes_on c).1)
 
-put-requires : tie.Need-put-requires invariant-loop decreases-loop
+put-requires : tie.Need-put-n-requires invariant-loop decreases-loop
 put-requires c κs =
     let at = turn-else1 (else1-put-arg2 c) in
     let there = inside at in
     let on = (goes_on (else1-put-arg2 c)).0 in
-    (at.loop.inv.1.has_room, omega (arith, at.loop.inv.1.counted), omega arith)
+    (at.loop-p.invariant.1.has_room, omega (arith, at.loop-p.invariant.1.counted), omega arith)
 
-add-p : tie.Need-overflow-add-p invariant-loop decreases-loop
+add-p : tie.Need-overflow_add-p-in-loop-p invariant-loop decreases-loop
 add-p c = search rules
 
-loop-less : tie.Need-loop-smaller invariant-loop decreases-loop
+loop-less : tie.Need-loop-p-smaller invariant-loop decreases-loop
 loop-less c = search rules
 
-loop-again : tie.Need-loop-preserved invariant-loop decreases-loop
+loop-again : tie.Need-loop-p-preserved invariant-loop decreases-loop
 loop-again c =
     let after = put-slice-known3 c.before.before in
-    let put = after.put in
+    let put = after.put-n in
     let past = else1-put-arg2 after.before in
-    let code = after.before.before.before.next-code in
+    let code = after.next_code-code in
     let at = turn-else1 past in
     let start = entry-turn at in
     let args = start.args in
@@ -149,55 +146,37 @@ loop-again c =
     let from = args.reached.at in
     let last = args.measures.last in
     let room = args.measures.room in
-    let p = at.loop.p in
-    let is = at.loop.inv in
+    let p = at.loop-p.p in
+    let is = at.loop-p.invariant in
     let on = (goes_on past).0 in
-    let step = pushed letters from start.pre.0.in_letters last p is.1.start on start.pre.0.short
-    at.loop.code past.before.value-at.result code.result is.2 past.before.value-at.ensures code.ensures in (
+    let step = pushed letters from start.requires.0.in_letters last p is.1.start on start.requires.0.short
+    at.loop-p.code past.value_at-v.result code.result is.2 past.value_at-v.ensures code.ensures in (
       omega arith,
       record {
         start = omega (arith, is.1.start);
         within = omega arith;
         counted = omega (arith, is.1.counted, put.ensures.counted);
-        has_room = record { for_codes = rw put.kept.0 is.1.has_room.for_codes; for_positions = rw put.kept.1.0 is.1.has_room.for_positions };
+        has_room = record { for_codes = rw put.auto.codes is.1.has_room.for_codes; for_positions = rw put.auto.positions is.1.has_room.for_positions };
       },
       step.2,
-      put.kept.0 ∙ is.3,
-      put.kept.1.0 ∙ is.4,
-      put_one last room letters from p on at.loop.n code.result put.result args.reached.entries at.loop.codes at.loop.positions
-          put.last.0 put.last.1.0 args.codes.now args.positions.now (to_pick last 1 letters from from from) step.0 put.ensures is.5,
+      put.auto.codes ∙ is.3,
+      put.auto.positions ∙ is.4,
+      put_one last room letters from p on at.loop-p.n code.result put.result args.reached.entries at.loop-p.codes at.loop-p.positions
+          put.new.codes put.new.positions args.codes.now args.positions.now (to_pick last 1 letters from from from) step.0 put.ensures is.5,
     )
 
-same-length-3 : tie.Need-same-length-3 invariant-loop decreases-loop
+same-length-3 : tie.Need-shape_of-codes invariant-loop decreases-loop
 same-length-3 c = search rules
 
-same-length-4 : tie.Need-same-length-4 invariant-loop decreases-loop
+same-length-4 : tie.Need-shape_of-positions invariant-loop decreases-loop
 same-length-4 c = search rules
 
-returns-2 : tie.Need-returns-2 invariant-loop decreases-loop
+returns-2 : tie.Need-returns invariant-loop decreases-loop
 returns-2 c =
-    let is = c.before.loop.invariant in
-    (record { most = is.0; ended = λ h. absurd (omega (arith, c.loop-test.false)) }, is.1, is.2, is.5)
+    let is = c.loop-p.invariant in
+    (record { most = is.0; ended = λ h. absurd (omega (arith, c.loop-p-test.false)) }, is.1, is.2, is.5)
 
-pub pass-kmers-spec : {M : Type 1} → statement M
-pass-kmers-spec =
+pub pass_kmers_spec : {M : Type 1} → statement M
+pass_kmers_spec =
     tie.close
-    (tie.spec
-    invariant-loop
-    decreases-loop
-    add-end
-    sub-end
-    loop-holds
-    add-value-at
-    value-at-requires
-    same_length
-    same-length-2
-    returns
-    next-code-requires
-    put-requires
-    add-p
-    loop-less
-    loop-again
-    same-length-3
-    same-length-4
-    returns-2)
+    (tie.spec invariant-loop decreases-loop add-end sub-end loop-holds add-value-at value-at-requires same_length same-length-2 returns next-code-requires put-requires add-p loop-less loop-again same-length-3 same-length-4 returns-2)

@@ -20,7 +20,7 @@ use Rattle.winnowing.proofs.Passing.{slot_lowest, window_new, kept, put_new}
 use Rattle.winnowing.proofs.windows.pass_windows.Statement.{statement}
 use Rattle.winnowing.proofs.windows.pass_windows.Tie as tie
 
-abbrev invariant-loop : tie.invariant-loop
+abbrev invariant-loop : tie.invariant-loop-low
 invariant-loop letters values base ranks₀ measures codes₀ positions₀ last end p₀ code₀ low-at₀ low₀ n₀ ranks codes positions p code low-at low n =
     (p + last ≤ base + block_size)
     × Standing last measures.room letters p₀ codes positions p n
@@ -29,116 +29,98 @@ invariant-loop letters values base ranks₀ measures codes₀ positions₀ last 
     × SameEnd measures.room n codes positions (to_pick last measures.w letters p₀ (suc (p - measures.w)) (suc low-at))
     n₀ codes₀ positions₀ (to_pick last measures.w letters p₀ (suc (p₀ - measures.w)) (suc low-at₀))
 
-abbrev decreases-loop : tie.decreases-loop
+abbrev decreases-loop : tie.decreases-loop-low
 decreases-loop letters values base ranks₀ measures codes₀ positions₀ last end p₀ code₀ low-at₀ low₀ n₀ ranks codes positions p code low-at low n =
     suc (run_end letters p₀) - p
 
 -- places, each named for where it leads and from where
 abbrev Turn : Type 0
-Turn = tie.At-loop invariant-loop decreases-loop
+Turn = tie.At-loop-low invariant-loop decreases-loop
 
 abbrev Read : Type 0
-Read = tie.After-read-above invariant-loop decreases-loop
-
-abbrev known-known3 : tie.After-slice-known3 invariant-loop decreases-loop → tie.After-shared-slice-known2 invariant-loop decreases-loop
-known-known3 c = c.before.before.before
-
-abbrev entry-known3 : tie.After-slice-known3 invariant-loop decreases-loop → tie.Start invariant-loop decreases-loop
-entry-known3 c = (known-known3 c).before.before
+Read = tie.After-read_above-read invariant-loop decreases-loop
 
 abbrev entry : Turn → tie.Start invariant-loop decreases-loop
-entry c = entry-known3 c.before
+entry c = c.before.before.before.before.before.before
 
 abbrev turn-smaller : tie.After-smaller invariant-loop decreases-loop → Turn
 turn-smaller c = c.before.before.before
 
 abbrev turn : Read → Turn
-turn c = turn-smaller c.before
+turn c = c.before.before.before.before
 
-abbrev read-struct2 : tie.After-struct-known2 invariant-loop decreases-loop → Read
-read-struct2 c = c.before.before.before
+abbrev read-then1 : tie.Then-read-low invariant-loop decreases-loop → Read
+read-then1 c = c.before.before.before.before
 
-abbrev read-then1 : tie.Then1 invariant-loop decreases-loop → Read
-read-then1 c = read-struct2 c.before
+abbrev read-else1 : tie.Else-read-low invariant-loop decreases-loop → Read
+read-else1 c = c.before.before.before.before
 
-abbrev read-else1 : tie.Else1 invariant-loop decreases-loop → Read
-read-else1 c = read-struct2 c.before
+abbrev put-known6 : tie.After-slice_known-then-read-low-2-1 invariant-loop decreases-loop → tie.After-put-n invariant-loop decreases-loop
+put-known6 c = c.before.before.before.before
 
-abbrev codes-known6 : tie.After-slice-known6 invariant-loop decreases-loop → tie.After-codes invariant-loop decreases-loop
-codes-known6 c = c.before.before.before
-
-abbrev codes2-known8 : tie.After-slice-known8 invariant-loop decreases-loop → tie.After-codes2 invariant-loop decreases-loop
-codes2-known8 c = c.before.before.before
-
-abbrev arg-arg3 : tie.After-put-lowest-arg3 invariant-loop decreases-loop → tie.After-put-lowest-arg invariant-loop decreases-loop
-arg-arg3 c = c.before.before.before
-
-abbrev put-known6 : tie.After-slice-known6 invariant-loop decreases-loop → tie.After-put invariant-loop decreases-loop
-put-known6 c = (codes-known6 c).before
-
-abbrev then1-put : tie.After-put invariant-loop decreases-loop → tie.Then1 invariant-loop decreases-loop
+abbrev then1-put : tie.After-put-n invariant-loop decreases-loop → tie.Then-read-low invariant-loop decreases-loop
 then1-put c = c.before.before.before
 
-abbrev put-lowest-known8 : tie.After-slice-known8 invariant-loop decreases-loop → tie.After-put-lowest invariant-loop decreases-loop
-put-lowest-known8 c = (codes2-known8 c).before
+abbrev put-lowest-known8 : tie.After-slice_known-in-loop-low-3-1 invariant-loop decreases-loop → tie.After-put_lowest-found invariant-loop decreases-loop
+put-lowest-known8 c = c.before.before.before.before
 
-abbrev slot-arg3 : tie.After-put-lowest-arg3 invariant-loop decreases-loop → tie.After-slot invariant-loop decreases-loop
-slot-arg3 c = (arg-arg3 c).before
+abbrev slot-arg3 : tie.After-put_lowest-arg-1 invariant-loop decreases-loop → tie.After-slot-to invariant-loop decreases-loop
+slot-arg3 c = c.before.before
 
-abbrev slot-lowest-there : tie.After-put-lowest invariant-loop decreases-loop → tie.After-slot invariant-loop decreases-loop
-slot-lowest-there c = slot-arg3 c.before
+abbrev slot-lowest-there : tie.After-put_lowest-found invariant-loop decreases-loop → tie.After-slot-to invariant-loop decreases-loop
+slot-lowest-there c = c.before.before.before.before
 
 -- ---- the place of a turn
 
 -- in the block and in the run
 inside : (c : Turn)
-    → ((entry c).args.base ≤ c.loop.p + (entry c).args.measures.last)
-    × (c.loop.p + (entry c).args.measures.last ≤ run_end (entry c).args.letters.now (entry c).args.reached.at)
-    × (run_end (entry c).args.letters.now (entry c).args.reached.at ≤ length (entry c).args.letters.now)
-    × (length (entry c).args.letters.now ≤ letter_limit)
-    × ((entry c).args.measures.w ≤ c.loop.p)
-    × (c.loop.p ≤ c.loop.low-at + (entry c).args.measures.w)
-    × (c.loop.low-at < c.loop.p)
+    → (c.args.base ≤ c.loop-low.p + c.args.measures.last)
+    × (c.loop-low.p + c.args.measures.last ≤ run_end c.args.letters.now c.args.reached.at)
+    × (run_end c.args.letters.now c.args.reached.at ≤ length c.args.letters.now)
+    × (length c.args.letters.now ≤ letter_limit)
+    × (c.args.measures.w ≤ c.loop-low.p)
+    × (c.loop-low.p ≤ c.loop-low.low_at + c.args.measures.w)
+    × (c.loop-low.low_at < c.loop-low.p)
 inside c =
-    let start = entry c in (
-      omega (arith, start.pre.1.0.begins, c.loop.invariant.1.start),
-      c.loop.invariant.1.within,
-      (run_end_within start.args.letters.now start.args.reached.at start.pre.0.in_letters).1,
-      start.pre.0.few,
-      omega (arith, start.pre.1.1.0, c.loop.invariant.1.start),
-      omega (arith, c.loop.invariant.2.is_lowest.first),
-      c.loop.invariant.2.is_lowest.last,
+    let start = c in (
+      omega (arith, start.requires.1.0.begins, c.loop-low.invariant.1.start),
+      c.loop-low.invariant.1.within,
+      (run_end_within start.args.letters.now start.args.reached.at start.requires.0.in_letters).1,
+      start.requires.0.few,
+      omega (arith, start.requires.1.1.0, c.loop-low.invariant.1.start),
+      omega (arith, c.loop-low.invariant.2.is_lowest.first),
+      c.loop-low.invariant.2.is_lowest.last,
     )
 
-same-run : (c : Turn) → run_end (entry c).args.letters.now c.loop.p ≡ run_end (entry c).args.letters.now (entry c).args.reached.at
+same-run : (c : Turn) → run_end c.args.letters.now c.loop-low.p ≡ run_end c.args.letters.now c.args.reached.at
 same-run c =
-    let start = entry c in
-    run_end_same start.args.letters.now start.args.reached.at c.loop.p c.loop.invariant.1.start (omega (arith, inside c))
+    let start = c in
+    run_end_same start.args.letters.now start.args.reached.at c.loop-low.p c.loop-low.invariant.1.start (omega (arith, inside c))
 
-add-end : tie.Need-overflow-add-end invariant-loop decreases-loop
+add-end : tie.Need-overflow_add-end invariant-loop decreases-loop
 add-end c =
-    let start = entry-known3 c in
+    let start = c in
     omega (
       arith,
-      start.pre.1.0.begins,
-      run_end_within start.args.letters.now start.args.reached.at start.pre.0.in_letters,
-      start.pre.1.1.1.0.within,
-      start.pre.0.few,
+      start.requires.1.0.begins,
+      run_end_within start.args.letters.now start.args.reached.at start.requires.0.in_letters,
+      start.requires.1.1.1.0.within,
+      start.requires.0.few,
     )
 
-sub-end : tie.Need-overflow-sub-end invariant-loop decreases-loop
-sub-end c = omega (arith, (entry-known3 c).requires.0.short)
+sub-end : tie.Need-overflow_sub-end invariant-loop decreases-loop
+sub-end c = omega (arith, c.requires.0.short)
 
-loop-holds : tie.Need-loop-init invariant-loop decreases-loop
+loop-holds : tie.Need-loop-low-init invariant-loop decreases-loop
 loop-holds c =
-    let start = entry-known3 c in
-    (start.pre.1.0.ends, start.pre.1.1.1.0, start.pre.1.1.1.1, (refl, refl, refl), λ es. refl)
+    let start = c in
+    (start.requires.1.0.ends, start.requires.1.1.1.0, start.requires.1.1.1.1, (refl, refl, refl), λ es. refl)
 
-add-leaves : tie.Need-overflow-add-leaves invariant-loop decreases-loop
-add-leaves c = omega (arith, inside c.before, (entry c.before).pre.1.1.0)
+add-leaves : tie.Need-overflow_add-leaves invariant-loop decreases-loop
+add-leaves c = omega (arith, inside c.before, c.requires.1.1.0)
 
-add-leaves-2 : tie.Need-overflow-add-leaves-2 invariant-loop decreases-loop
-add-leaves-2 c = omega (arith, inside c.before, (entry c.before).pre.1.1.0)
+add-leaves-2 : tie.Need-overflow_add-leaves-in-loop-low invariant-loop decreases-loop
+add-leaves-2 c = omega (arith, inside c.before, c.requires.1.1.0)
 
 smaller-requires : tie.Need-smaller-requires invariant-loop decreases-loop
 smaller-requires c κs = tt
@@ -147,166 +129,166 @@ smaller-requires c κs = tt
 
 -- up to where k-mers are read
 stop-there : (c : tie.After-smaller invariant-loop decreases-loop)
-    → ((turn-smaller c).loop.p ≤ c.smaller.result)
-    × (c.smaller.result ≤ (turn-smaller c).loop.low-at + (entry (turn-smaller c)).args.measures.w + 1)
-    × (c.smaller.result + (entry (turn-smaller c)).args.measures.last ≤ (entry (turn-smaller c)).args.base + block_size)
-    × (c.smaller.result < (turn-smaller c).loop.low-at + (entry (turn-smaller c)).args.measures.w + 1
-    → c.smaller.result + (entry (turn-smaller c)).args.measures.last ≡ (entry (turn-smaller c)).args.base + block_size)
+    → (c.loop-low.p ≤ c.smaller.result)
+    × (c.smaller.result ≤ c.loop-low.low_at + c.args.measures.w + 1)
+    × (c.smaller.result + c.args.measures.last ≤ c.args.base + block_size)
+    × (c.smaller.result < c.loop-low.low_at + c.args.measures.w + 1
+    → c.smaller.result + c.args.measures.last ≡ c.args.base + block_size)
 stop-there c =
     let turn = turn-smaller c in
-    let args = (entry turn).args in
-    stop_at args.base args.measures.last (inside turn).5 turn.loop.inv.0 c.smaller.ensures
+    let args = turn.args in
+    stop_at args.base args.measures.last (inside turn).5 turn.loop-low.invariant.0 c.smaller.ensures
 
-read-above-requires : tie.Need-read-above-requires invariant-loop decreases-loop
+read-above-requires : tie.Need-read_above-read-requires invariant-loop decreases-loop
 read-above-requires c κs =
     let turn = turn-smaller c in
-    let start = entry turn in
+    let start = turn in
     let args = start.args in
     let there = inside turn in
     let stop = stop-there c in
-    let picking = turn.loop.inv.2 in
-    let small = rank_small (suc args.measures.last) turn.loop.low-at args.letters.now in (
+    let picking = turn.loop-low.invariant.2 in
+    let small = rank_small (suc args.measures.last) turn.loop-low.low_at args.letters.now in (
       (
         record {
-          block = start.pre.0.block;
-          in_letters = le_trans (le-add_right turn.loop.p args.measures.last) (le_trans there.1 there.2);
-          few = start.pre.0.few;
-          short = start.pre.0.short;
+          block = start.requires.0.block;
+          in_letters = le_trans (le-add_right turn.loop-low.p args.measures.last) (le_trans there.1 there.2);
+          few = start.requires.0.few;
+          short = start.requires.0.short;
         },
         record { begins = there.0; ends = stop.2 },
       ),
       (
         (rank_word picking.is_rank small, stop.0, rw (same-run turn) there.1),
-        scanned_later args.measures.last args.base args.letters.now turn.loop.ranks (suc turn.loop.low-at) turn.loop.p turn.loop.p
-            turn.loop.code picking.scanned there.6,
+        scanned_later args.measures.last args.base args.letters.now turn.loop-low.ranks (suc turn.loop-low.low_at) turn.loop-low.p turn.loop-low.p
+            turn.loop-low.code picking.scanned there.6,
       ),
     )
 
 -- what is read is of the run
 reached : (c : Read)
-    → ((turn c).loop.p ≤ c.read_above.result.at)
-    × (c.read_above.result.at + (entry (turn c)).args.measures.last ≤ run_end (entry (turn c)).args.letters.now (entry (turn c)).args.reached.at)
-    × (c.read_above.result.at ≤ c.before.smaller.result)
+    → (c.loop-low.p ≤ c.read_above-read.result.at)
+    × (c.read_above-read.result.at + c.args.measures.last ≤ run_end c.args.letters.now c.args.reached.at)
+    × (c.read_above-read.result.at ≤ c.smaller.result)
 reached c =
-    let read = c.read_above.ensures in
+    let read = c.read_above-read.ensures in
     (read.passed.start, rw (same-run (turn c)) at read.passed.within, read.most)
 
 -- windows that end before the lowest leaves keep it
-kept-to : (c : Read) (x : ℕ) → (turn c).loop.p ≤ x → x ≤ c.read_above.result.at → x ≤ (turn c).loop.low-at + (entry (turn c)).args.measures.w
-    → IsLowest (rank_at (suc (entry (turn c)).args.measures.last) (entry (turn c)).args.letters.now) (x - (entry (turn c)).args.measures.w) x
-    (turn c).loop.low-at
-    × (to_pick (entry (turn c)).args.measures.last (entry (turn c)).args.measures.w (entry (turn c)).args.letters.now
-    (entry (turn c)).args.reached.at (suc ((turn c).loop.p - (entry (turn c)).args.measures.w)) (suc (turn c).loop.low-at)
-    ≡ to_pick (entry (turn c)).args.measures.last (entry (turn c)).args.measures.w (entry (turn c)).args.letters.now
-    (entry (turn c)).args.reached.at (suc (x - (entry (turn c)).args.measures.w)) (suc (turn c).loop.low-at))
+kept-to : (c : Read) (x : ℕ) → c.loop-low.p ≤ x → x ≤ c.read_above-read.result.at → x ≤ c.loop-low.low_at + c.args.measures.w
+    → IsLowest (rank_at (suc c.args.measures.last) c.args.letters.now) (x - c.args.measures.w) x
+    c.loop-low.low_at
+    × (to_pick c.args.measures.last c.args.measures.w c.args.letters.now
+    c.args.reached.at (suc (c.loop-low.p - c.args.measures.w)) (suc c.loop-low.low_at)
+    ≡ to_pick c.args.measures.last c.args.measures.w c.args.letters.now
+    c.args.reached.at (suc (x - c.args.measures.w)) (suc c.loop-low.low_at))
 kept-to c x from to stays =
     let turn = turn c in
-    let args = (entry turn).args in
-    let picking = turn.loop.inv.2 in
+    let args = turn.args in
+    let picking = turn.loop-low.invariant.2 in
     let there = reached c in
-    kept args.measures.last args.measures.w args.measures.room args.letters.now args.reached.at (entry turn).pre.1.1.0.0
-    turn.loop.low-at turn.loop.low picking.is_rank turn.loop.p x (inside turn).4 picking.is_lowest from stays
-    (shorter args.measures.last to there.1) (λ q a b. c.read_above.ensures.passed.above q a (lt_of_lt_of_le b to))
+    kept args.measures.last args.measures.w args.measures.room args.letters.now args.reached.at turn.requires.1.1.0.0
+    turn.loop-low.low_at turn.loop-low.low picking.is_rank turn.loop-low.p x (inside turn).4 picking.is_lowest from stays
+    (shorter args.measures.last to there.1) (λ q a b. c.read_above-read.ensures.passed.above q a (lt_of_lt_of_le b to))
 
 -- ---- a new rank that is not above the lowest
 
-put-requires : tie.Need-put-requires invariant-loop decreases-loop
+put-requires : tie.Need-put-n-requires invariant-loop decreases-loop
 put-requires c κs =
     let test = c.before.before in
     let read = read-then1 test in
     let turn = turn read in
     let place = inside turn in
-    let more = rw (same-run turn) at (read.read_above.ensures.found test.if1.true).1 in
-    let small = below_letters (entry turn).args.measures.last more place.2 place.3 in
-    (turn.loop.inv.1.has_room, lt_of_le_of_lt (le_trans turn.loop.inv.1.counted (reached read).0) small, small)
+    let more = rw (same-run turn) at (read.read_above-read.ensures.found test.if-read-low.true).1 in
+    let small = below_letters turn.args.measures.last more place.2 place.3 in
+    (turn.loop-low.invariant.1.has_room, lt_of_le_of_lt (le_trans turn.loop-low.invariant.1.counted (reached read).0) small, small)
 
-add-p : tie.Need-overflow-add-p invariant-loop decreases-loop
+add-p : tie.Need-overflow_add-p invariant-loop decreases-loop
 add-p c =
     let read = read-then1 (then1-put (put-known6 c)) in
     let turn = turn read in
     let place = inside turn in
-    next_fits read.read_above.result.at (in_letters (entry turn).args.measures.last (reached read).1 place.2 place.3)
+    next_fits read.read_above-read.result.at (in_letters turn.args.measures.last (reached read).1 place.2 place.3)
 
-loop-less : tie.Need-loop-smaller invariant-loop decreases-loop
+loop-less : tie.Need-loop-low-smaller-then-read-low invariant-loop decreases-loop
 loop-less c =
     let read = read-then1 (then1-put (put-known6 c)) in
-    falls_next (entry (turn read)).args.measures.last (reached read).0 (reached read).1
+    falls_next read.args.measures.last (reached read).0 (reached read).1
 
-loop-again : tie.Need-loop-preserved invariant-loop decreases-loop
+loop-again : tie.Need-loop-low-preserved-then-read-low invariant-loop decreases-loop
 loop-again c =
-    let put = (put-known6 c).put in
+    let put = c.put-n in
     let test = then1-put (put-known6 c) in
     let read = read-then1 test in
     let turn = turn read in
-    let args = (entry turn).args in
+    let args = turn.args in
     let last = args.measures.last in
     let w = args.measures.w in
     let letters = args.letters.now in
     let from = args.reached.at in
-    let result = read.read_above.result in
+    let result = read.read_above-read.result in
     let there = reached read in
     let place = inside turn in
     let stop = stop-there read.before in
-    let found = read.read_above.ensures.found test.if1.taken in
-    let ranks = read.read_above.last.1.1.1.0 in
+    let found = read.read_above-read.ensures.found test.if-read-low.true in
+    let ranks = read.read_above-read.new.ranks in
     let more : result.at + last < run_end letters from = rw (same-run turn) at found.1 in
-    let stays : result.at ≤ turn.loop.low-at + w = stays_to found.0 stop.1 in
+    let stays : result.at ≤ turn.loop-low.low_at + w = stays_to found.0 stop.1 in
     let same = kept-to read result.at there.0 (le_refl result.at) stays in
-    let picking = turn.loop.inv.2 in
-    let below : rank_at (suc last) letters result.at ≤ rank_at (suc last) letters turn.loop.low-at =
-    subst₂ (λ (x y : ℕ). x ≤ y) found.2 picking.is_rank test.if1.taken in
-    let new = put_new last w args.measures.room letters from (entry turn).pre.1.1.0.0 turn.loop.low-at turn.loop.p result.at
-    turn.loop.n put.result result.code turn.loop.codes turn.loop.positions put.last.0 put.last.1.0
+    let picking = turn.loop-low.invariant.2 in
+    let below : rank_at (suc last) letters result.at ≤ rank_at (suc last) letters turn.loop-low.low_at =
+    subst₂ (λ (x y : ℕ). x ≤ y) found.2 picking.is_rank test.if-read-low.true in
+    let new = put_new last w args.measures.room letters from turn.requires.1.1.0.0 turn.loop-low.low_at turn.loop-low.p result.at
+    turn.loop-low.n put.result result.code turn.loop-low.codes turn.loop-low.positions put.new.codes put.new.positions
     (le_trans place.4 there.0) same.1 same.0 more below found.3 put.ensures in (
       next_in last found.0 stop.2,
       record {
-        start = next_start turn.loop.inv.1.start there.0;
+        start = next_start turn.loop-low.invariant.1.start there.0;
         within = next_within result.at last more;
-        counted = next_counted put.ensures.counted turn.loop.inv.1.counted there.0;
+        counted = next_counted put.ensures.counted turn.loop-low.invariant.1.counted there.0;
         has_room = record {
-          for_codes = rw put.kept.0 turn.loop.inv.1.has_room.for_codes;
-          for_positions = rw put.kept.1.0 turn.loop.inv.1.has_room.for_positions;
+          for_codes = rw put.auto.codes turn.loop-low.invariant.1.has_room.for_codes;
+          for_positions = rw put.auto.positions turn.loop-low.invariant.1.has_room.for_positions;
         };
       },
       record {
-        scanned = scanned_later last args.base letters ranks (suc turn.loop.low-at) (suc result.at) (result.at + 1) result.code
-            (found.4 (suc turn.loop.low-at) picking.scanned) (le_trans place.6 (le_trans there.0 (le-suc result.at)));
+        scanned = scanned_later last args.base letters ranks (suc turn.loop-low.low_at) (suc result.at) (result.at + 1) result.code
+            (found.4 (suc turn.loop-low.low_at) picking.scanned) (le_trans place.6 (le_trans there.0 (le-suc result.at)));
         is_lowest = new.0;
         is_rank = found.2;
       },
-      (read.read_above.kept.1.1.1.0 ∙ turn.loop.inv.3.0, put.kept.0 ∙ turn.loop.inv.3.1, put.kept.1.0 ∙ turn.loop.inv.3.2),
-      λ es. new.1 es ∙ turn.loop.inv.4 es,
+      (read.read_above-read.auto.ranks ∙ turn.loop-low.invariant.3.0, put.auto.codes ∙ turn.loop-low.invariant.3.1, put.auto.positions ∙ turn.loop-low.invariant.3.2),
+      λ es. new.1 es ∙ turn.loop-low.invariant.4 es,
     )
 
 -- ---- the block ends, or the run
 
-same_length : tie.Need-same-length invariant-loop decreases-loop
+same_length : tie.Need-shape_of-ranks-then-p-leaves invariant-loop decreases-loop
 same_length c =
-    let read = read-else1 c.before in
-    read.read_above.kept.1.1.1.0 ∙ (turn read).loop.inv.3.0
+    let read = c in
+    read.read_above-read.auto.ranks ∙ read.loop-low.invariant.3.0
 
-same-length-2 : tie.Need-same-length-2 invariant-loop decreases-loop
-same-length-2 c = (turn (read-else1 c.before)).loop.inv.3.1
+same-length-2 : tie.Need-shape_of-codes-then-p-leaves invariant-loop decreases-loop
+same-length-2 c = c.loop-low.invariant.3.1
 
-same-length-3 : tie.Need-same-length-3 invariant-loop decreases-loop
-same-length-3 c = (turn (read-else1 c.before)).loop.inv.3.2
+same-length-3 : tie.Need-shape_of-positions-then-p-leaves invariant-loop decreases-loop
+same-length-3 c = c.loop-low.invariant.3.2
 
-returns : tie.Need-returns invariant-loop decreases-loop
+returns : tie.Need-returns-then-p-leaves invariant-loop decreases-loop
 returns c =
     let read = read-else1 c.before in
     let turn = turn read in
-    let result = read.read_above.result in
+    let result = read.read_above-read.result in
     let there = reached read in
     let stop = stop-there read.before in
-    let none = read.read_above.ensures.none c.before.if1.false in
-    let picking = turn.loop.inv.2 in
-    let standing = turn.loop.inv.1 in
-    let last = (entry turn).args.measures.last in
-    let leaves = turn.loop.low-at + (entry turn).args.measures.w + 1 in
-    let same = kept-to read result.at there.0 (le_refl result.at) (stays_to c.if2.true (le_refl leaves)) in (
+    let none = read.read_above-read.ensures.none c.if-read-low.false in
+    let picking = turn.loop-low.invariant.2 in
+    let standing = turn.loop-low.invariant.1 in
+    let last = turn.args.measures.last in
+    let leaves = turn.loop-low.low_at + turn.args.measures.w + 1 in
+    let same = kept-to read result.at there.0 (le_refl result.at) (stays_to c.if-p-leaves.true (le_refl leaves)) in (
       record {
         most = shorter last there.2 stop.2;
-        ended = λ h. rw (same-run turn) at (none.0 (before_stop last stop.1 stop.3 c.if2.true h));
+        ended = λ h. rw (same-run turn) at (none.0 (before_stop last stop.1 stop.3 c.if-p-leaves.true h));
       },
       record {
         start = le_trans standing.start there.0;
@@ -314,203 +296,181 @@ returns c =
         counted = le_trans standing.counted there.0;
         has_room = standing.has_room;
       },
-      record { scanned = none.1 (suc turn.loop.low-at) picking.scanned; is_lowest = same.0; is_rank = picking.is_rank },
-      λ es. rw (sym same.1) (turn.loop.inv.4 es),
+      record { scanned = none.1 (suc turn.loop-low.low_at) picking.scanned; is_lowest = same.0; is_rank = picking.is_rank },
+      λ es. rw (sym same.1) (turn.loop-low.invariant.4 es),
     )
 
 -- ---- the lowest has left
 
 -- the window then begins behind it
-left : (c : tie.Else2 invariant-loop decreases-loop)
-    → (read-else1 c.before).read_above.result.at
-    ≡ (turn (read-else1 c.before)).loop.low-at + (entry (turn (read-else1 c.before))).args.measures.w + 1
+left : (c : tie.Else-p-leaves invariant-loop decreases-loop)
+    → c.read_above-read.result.at
+    ≡ c.loop-low.low_at + c.args.measures.w + 1
 left c =
     let read = read-else1 c.before in
-    left_at c.if2.false (reached read).2 (stop-there read.before).1
+    left_at c.if-p-leaves.false (reached read).2 (stop-there read.before).1
 
-slot-requires : tie.Need-slot-requires invariant-loop decreases-loop
+slot-requires : tie.Need-slot-to-requires invariant-loop decreases-loop
 slot-requires c κs =
     let read = read-else1 c.before in
     let there = reached read in
     let turn = turn read in
     let place = inside turn in
-    let last = (entry turn).args.measures.last in
+    let last = turn.args.measures.last in
     (further last place.0 there.0, shorter last there.2 (stop-there read.before).2, le_trans there.1 (le_trans place.2 place.3))
 
-abbrev read-slot : tie.After-slot invariant-loop decreases-loop → Read
-read-slot c = read-else1 c.before.before
+abbrev read-slot : tie.After-slot-to invariant-loop decreases-loop → Read
+read-slot c = c.before.before.before.before.before.before
 
 -- the ranks behind it stand in their slots
-scanned : (c : tie.After-slot invariant-loop decreases-loop)
-    → Scanned (entry (turn (read-slot c))).args.measures.last (entry (turn (read-slot c))).args.base (entry (turn (read-slot c))).args.letters.now
-    (read-slot c).read_above.new.1.1.1.0 (suc (turn (read-slot c)).loop.low-at) (read-slot c).read_above.result.at
-    (read-slot c).read_above.result.code
+scanned : (c : tie.After-slot-to invariant-loop decreases-loop)
+    → Scanned c.args.measures.last c.args.base c.args.letters.now
+    c.read_above-read.new.ranks (suc c.loop-low.low_at) c.read_above-read.result.at
+    c.read_above-read.result.code
 scanned c =
     let turn = turn (read-slot c) in
-    ((read-slot c).read_above.ensures.none c.before.before.if1.false).1 (suc turn.loop.low-at) turn.loop.inv.2.scanned
+    (c.read_above-read.ensures.none c.if-read-low.false).1 (suc turn.loop-low.low_at) turn.loop-low.invariant.2.scanned
 
 -- the window at hand ends further on
-passed : (c : tie.After-slot invariant-loop decreases-loop) → (turn (read-slot c)).loop.p < (read-slot c).read_above.result.at
+passed : (c : tie.After-slot-to invariant-loop decreases-loop) → c.loop-low.p < c.read_above-read.result.at
 passed c = behind_left (inside (turn (read-slot c))).5 (left c.before)
 
 -- the slots of the window
-slots : (c : tie.After-slot invariant-loop decreases-loop)
-    → ((entry (turn (read-slot c))).args.measures.w ≤ c.slot.result)
-    × (c.slot.result
-    ≡ slot_of (entry (turn (read-slot c))).args.measures.last (entry (turn (read-slot c))).args.base (read-slot c).read_above.result.at)
+slots : (c : tie.After-slot-to invariant-loop decreases-loop)
+    → (c.args.measures.w ≤ c.slot-to.result)
+    × (c.slot-to.result
+    ≡ slot_of c.args.measures.last c.args.base c.read_above-read.result.at)
 slots c =
     let turn = turn (read-slot c) in
-    let last = (entry turn).args.measures.last in
-    let there = c.slot.ensures.0 in
-    (wide_slot (read-slot c).read_above.result.at last (further last (inside turn).0 (reached (read-slot c)).0) (entry turn).pre.1.1.0.1 there, there)
+    let last = turn.args.measures.last in
+    let there = c.slot-to.ensures.0 in
+    (wide_slot c.read_above-read.result.at last (further last (inside turn).0 (reached (read-slot c)).0) turn.requires.1.1.0.1 there, there)
 
-sub-put-lowest : tie.Need-overflow-sub-put-lowest invariant-loop decreases-loop
-sub-put-lowest c = (slots c.before.before).0
+sub-put-lowest : tie.Need-overflow_sub-to invariant-loop decreases-loop
+sub-put-lowest c = (slots c.before).0
 
-put-lowest-requires : tie.Need-put-lowest-requires invariant-loop decreases-loop
+put-lowest-requires : tie.Need-put_lowest-found-requires invariant-loop decreases-loop
 put-lowest-requires c κs =
-    let slot = slot-arg3 c in
+    let slot = slot-arg3 c.before in
     let read = read-slot slot in
     let turn = turn read in
     let place = inside turn in
     let there = reached read in
-    let args = (entry turn).args in
-    let to = slots_there args.measures.w (entry turn).pre.1.1.0.0 (slots slot).0 (le_trans place.4 there.0) in
+    let args = turn.args in
+    let to = slots_there args.measures.w turn.requires.1.1.0.0 (slots slot).0 (le_trans place.4 there.0) in
     let few = in_letters args.measures.last there.1 place.2 place.3 in
-    let standing = turn.loop.inv.1 in (
-      ((scanned slot).sized, to.0, slot.slot.ensures.1, to.1),
+    let standing = turn.loop-low.invariant.1 in (
+      ((scanned slot).sized, to.0, slot.slot-to.ensures.1, to.1),
       (standing.has_room, lt_of_le_of_lt standing.counted (lt_of_lt_of_le (passed slot) few), few),
     )
 
 -- what is put is the lowest of the window
-searched : (c : tie.After-put-lowest invariant-loop decreases-loop)
+searched : (c : tie.After-put_lowest-found invariant-loop decreases-loop)
     → IsLowest
     (rank_at (suc (entry (turn (read-slot (slot-lowest-there c)))).args.measures.last) (entry (turn (read-slot (slot-lowest-there c)))).args.letters.now)
-    ((read-slot (slot-lowest-there c)).read_above.result.at - (entry (turn (read-slot (slot-lowest-there c)))).args.measures.w)
-    (read-slot (slot-lowest-there c)).read_above.result.at c.put_lowest.result.at
-    × (c.put_lowest.result.rank
+    (c.read_above-read.result.at - (entry (turn (read-slot (slot-lowest-there c)))).args.measures.w)
+    c.read_above-read.result.at c.put_lowest-found.result.at
+    × (c.put_lowest-found.result.rank
     ≡ rank_at (suc (entry (turn (read-slot (slot-lowest-there c)))).args.measures.last) (entry (turn (read-slot (slot-lowest-there c)))).args.letters.now
-    c.put_lowest.result.at)
-    × (unrank c.put_lowest.result.rank
+    c.put_lowest-found.result.at)
+    × (unrank c.put_lowest-found.result.rank
     ≡ code_at (suc (entry (turn (read-slot (slot-lowest-there c)))).args.measures.last) (entry (turn (read-slot (slot-lowest-there c)))).args.letters.now
-    c.put_lowest.result.at)
+    c.put_lowest-found.result.at)
 searched c =
     let slot = slot-lowest-there c in
     let read = read-slot slot in
-    let args = (entry (turn read)).args in
-    let result = read.read_above.result in
+    let args = read.args in
+    let result = read.read_above-read.result in
     let same = (slots slot).1 in
     let place = inside (turn read) in
     let there = reached read in
     let last = args.measures.last in
-    let gone = behind (turn read).loop.low-at args.measures.w (left slot.before) in
-    let found = c.put_lowest.ensures in
-    slot_lowest last args.base args.letters.now read.read_above.last.1.1.1.0 (suc (turn read).loop.low-at) result.at result.code
-    (scanned slot) (further last place.0 there.0) args.measures.w c.put_lowest.result.at c.put_lowest.result.rank
-    (entry (turn read)).pre.1.1.0.1 gone.3 (rw same at found.near) (rw same at found.lowest) (rw same at found.rank_there)
+    let gone = behind read.loop-low.low_at args.measures.w (left slot.before) in
+    let found = c.put_lowest-found.ensures in
+    slot_lowest last args.base args.letters.now read.read_above-read.new.ranks (suc read.loop-low.low_at) result.at result.code
+    (scanned slot) (further last place.0 there.0) args.measures.w c.put_lowest-found.result.at c.put_lowest-found.result.rank
+    read.requires.1.1.0.1 gone.3 (rw same at found.near) (rw same at found.lowest) (rw same at found.rank_there)
 
-loop-less-2 : tie.Need-loop-smaller-2 invariant-loop decreases-loop
+loop-less-2 : tie.Need-loop-low-smaller invariant-loop decreases-loop
 loop-less-2 c =
     let slot = slot-lowest-there (put-lowest-known8 c) in
     let read = read-slot slot in
-    falls (entry (turn read)).args.measures.last (passed slot) (reached read).1
+    falls read.args.measures.last (passed slot) (reached read).1
 
 -- what was to pick is what the window at hand and those behind it pick
-to-pick : (c : tie.Else2 invariant-loop decreases-loop)
-    → to_pick (entry (turn (read-else1 c.before))).args.measures.last (entry (turn (read-else1 c.before))).args.measures.w
-    (entry (turn (read-else1 c.before))).args.letters.now (entry (turn (read-else1 c.before))).args.reached.at
-    (suc ((turn (read-else1 c.before)).loop.p - (entry (turn (read-else1 c.before))).args.measures.w))
-    (suc (turn (read-else1 c.before)).loop.low-at)
-    ≡ to_pick (entry (turn (read-else1 c.before))).args.measures.last (entry (turn (read-else1 c.before))).args.measures.w
-    (entry (turn (read-else1 c.before))).args.letters.now (entry (turn (read-else1 c.before))).args.reached.at
-    ((read-else1 c.before).read_above.result.at - (entry (turn (read-else1 c.before))).args.measures.w)
-    ((read-else1 c.before).read_above.result.at - (entry (turn (read-else1 c.before))).args.measures.w)
+to-pick : (c : tie.Else-p-leaves invariant-loop decreases-loop)
+    → to_pick c.args.measures.last c.args.measures.w
+    c.args.letters.now c.args.reached.at
+    (suc (c.loop-low.p - c.args.measures.w))
+    (suc c.loop-low.low_at)
+    ≡ to_pick c.args.measures.last c.args.measures.w
+    c.args.letters.now c.args.reached.at
+    (c.read_above-read.result.at - c.args.measures.w)
+    (c.read_above-read.result.at - c.args.measures.w)
 to-pick c =
     let read = read-else1 c.before in
-    let low-at = (turn read).loop.low-at in
-    let w = (entry (turn read)).args.measures.w in
+    let low-at = read.loop-low.low_at in
+    let w = read.args.measures.w in
     let gone = behind low-at w (left c) in
     (kept-to read (low-at + w) (inside (turn read)).5 gone.2 (le_refl (low-at + w))).1 ∙ rw (gone.0, gone.1)
 
 -- the window at hand is of the run
 window-there : (c : Read)
-    → (c.read_above.result.at - (entry (turn c)).args.measures.w + (entry (turn c)).args.measures.w ≡ c.read_above.result.at)
-    × (c.read_above.result.at
-    ≤ run_end (entry (turn c)).args.letters.now (entry (turn c)).args.reached.at - (entry (turn c)).args.measures.last)
+    → (c.read_above-read.result.at - c.args.measures.w + c.args.measures.w ≡ c.read_above-read.result.at)
+    × (c.read_above-read.result.at
+    ≤ run_end c.args.letters.now c.args.reached.at - c.args.measures.last)
 window-there c =
     let there = reached c in
-    let args = (entry (turn c)).args in
+    let args = c.args in
     window_of args.measures.w args.measures.last (le_trans (inside (turn c)).4 there.0) there.1
 
-loop-again-2 : tie.Need-loop-preserved-2 invariant-loop decreases-loop
+loop-again-2 : tie.Need-loop-low-preserved invariant-loop decreases-loop
 loop-again-2 c =
     let found = put-lowest-known8 c in
-    let picked = found.put_lowest in
+    let picked = found.put_lowest-found in
     let put = picked.ensures.put in
     let slot = slot-lowest-there found in
     let read = read-slot slot in
     let turn = turn read in
-    let args = (entry turn).args in
+    let args = turn.args in
     let last = args.measures.last in
     let w = args.measures.w in
     let letters = args.letters.now in
-    let result = read.read_above.result in
-    let ranks = read.read_above.last.1.1.1.0 in
+    let result = read.read_above-read.result in
+    let ranks = read.read_above-read.new.ranks in
     let there = reached read in
     let stop = stop-there read.before in
-    let gone = behind turn.loop.low-at w (left slot.before) in
+    let gone = behind turn.loop-low.low_at w (left slot.before) in
     let lowest = searched found in
-    let new = window_new last w args.measures.room (run_end letters args.reached.at - last) letters (entry turn).pre.1.1.0.0 (result.at - w)
-    result.at picked.result.at (window-there read).0 (window-there read).1 lowest.0 (result.at - w) turn.loop.n
-    (unrank picked.result.rank) picked.result.entries turn.loop.codes turn.loop.positions picked.last.1.1.1.1.0
-    picked.last.1.1.1.1.1.0 lowest.0.first lowest.2 put in (
+    let new = window_new last w args.measures.room (run_end letters args.reached.at - last) letters turn.requires.1.1.0.0 (result.at - w)
+    result.at picked.result.at (window-there read).0 (window-there read).1 lowest.0 (result.at - w) turn.loop-low.n
+    (unrank picked.result.rank) picked.result.entries turn.loop-low.codes turn.loop-low.positions picked.new.codes
+    picked.new.positions lowest.0.first lowest.2 put in (
       shorter last there.2 stop.2,
       record {
-        start = le_trans turn.loop.inv.1.start there.0;
+        start = le_trans turn.loop-low.invariant.1.start there.0;
         within = there.1;
-        counted = one_more put.counted turn.loop.inv.1.counted (passed slot);
+        counted = one_more put.counted turn.loop-low.invariant.1.counted (passed slot);
         has_room = record {
-          for_codes = rw picked.kept.1.1.1.1.0 turn.loop.inv.1.has_room.for_codes;
-          for_positions = rw picked.kept.1.1.1.1.1.0 turn.loop.inv.1.has_room.for_positions;
+          for_codes = rw picked.auto.codes turn.loop-low.invariant.1.has_room.for_codes;
+          for_positions = rw picked.auto.positions turn.loop-low.invariant.1.has_room.for_positions;
         };
       },
       record {
-        scanned = scanned_later last args.base letters ranks (suc turn.loop.low-at) (suc picked.result.at) result.at result.code
+        scanned = scanned_later last args.base letters ranks (suc turn.loop-low.low_at) (suc picked.result.at) result.at result.code
             (scanned slot) (first_behind gone.1 lowest.0.first);
         is_lowest = lowest.0;
         is_rank = lowest.1;
       },
       (
-        read.read_above.kept.1.1.1.0 ∙ turn.loop.inv.3.0,
-        picked.kept.1.1.1.1.0 ∙ turn.loop.inv.3.1,
-        picked.kept.1.1.1.1.1.0 ∙ turn.loop.inv.3.2,
+        read.read_above-read.auto.ranks ∙ turn.loop-low.invariant.3.0,
+        picked.auto.codes ∙ turn.loop-low.invariant.3.1,
+        picked.auto.positions ∙ turn.loop-low.invariant.3.2,
       ),
-      λ es. new es ∙ rw (sym (to-pick slot.before)) (turn.loop.inv.4 es),
+      λ es. new es ∙ rw (sym (to-pick slot.before)) (turn.loop-low.invariant.4 es),
     )
 
-pub pass-windows-spec : {M : Type 1} → statement M
-pass-windows-spec =
+pub pass_windows_spec : {M : Type 1} → statement M
+pass_windows_spec =
     tie.close
-    (tie.spec
-    invariant-loop
-    decreases-loop
-    add-end
-    sub-end
-    loop-holds
-    add-leaves
-    add-leaves-2
-    smaller-requires
-    read-above-requires
-    put-requires
-    add-p
-    loop-less
-    loop-again
-    same_length
-    same-length-2
-    same-length-3
-    returns
-    slot-requires
-    sub-put-lowest
-    put-lowest-requires
-    loop-less-2
-    loop-again-2)
+    (tie.spec invariant-loop decreases-loop add-end sub-end loop-holds add-leaves add-leaves-2 smaller-requires read-above-requires put-requires add-p loop-less loop-again same_length same-length-2 same-length-3 returns slot-requires sub-put-lowest put-lowest-requires loop-less-2 loop-again-2)

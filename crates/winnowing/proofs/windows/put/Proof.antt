@@ -9,57 +9,46 @@ use Rattle.winnowing.specs.Winnowed.{placed}
 use Rattle.winnowing.proofs.windows.put.Statement.{statement}
 use Rattle.winnowing.proofs.windows.put.Tie as tie
 
-add-result : tie.Need-overflow-add-result
+add-result : tie.Need-overflow_add-result
 add-result c = search rules
 
-returns : tie.Need-returns
+returns : tie.Need-returns-then-room-n
 unfolding placed
 returns c =
-    let full : ltb c.before.args.n c.before.args.room ≡ false = le-ltb c.before.args.n c.before.args.room c.if1.true in
-    record { counted = add-one c.before.args.n; codes_after = rw full; positions_after = rw full }
+    let full : ltb c.args.n c.args.room ≡ false = le-ltb c.args.n c.args.room c.if-room-n.true in
+    record { counted = add-one c.args.n; codes_after = rw full; positions_after = rw full }
 
-mul-codes : tie.Need-overflow-mul-codes
+mul-codes : tie.Need-offset_bounds-codes-n
 mul-codes c = search rules
 
-slice-write-codes : tie.Need-slice-write-codes
+slice-write-codes : tie.Need-bounds-codes-n
 slice-write-codes c = search rules
 
-cast-positions : tie.Need-overflow-cast-positions
+cast-positions : tie.Need-overflow_cast-positions
 cast-positions c = search rules
 
-mul-positions : tie.Need-overflow-mul-positions
+mul-positions : tie.Need-offset_bounds-positions-n
 mul-positions c = search rules
 
-slice-write-positions : tie.Need-slice-write-positions
+slice-write-positions : tie.Need-bounds-positions-n
 slice-write-positions c = search rules
 
-add-result-2 : tie.Need-overflow-add-result-2
+add-result-2 : tie.Need-overflow_add-result-2
 add-result-2 c = search rules
 
-same_length : tie.Need-same-length
+same_length : tie.Need-shape_of-codes
 same_length c = search rules
 
-same-length-2 : tie.Need-same-length-2
+same-length-2 : tie.Need-shape_of-positions
 same-length-2 c = search rules
 
-returns-2 : tie.Need-returns-2
+returns-2 : tie.Need-returns
 unfolding placed
 returns-2 c =
-    let room : ltb c.before.args.n c.before.args.room ≡ true = lt-ltb c.before.args.n c.before.args.room c.if1.false in
-    record { counted = add-one c.before.args.n; codes_after = rw room; positions_after = rw room }
+    let room : ltb c.args.n c.args.room ≡ true = lt-ltb c.args.n c.args.room c.if-room-n.false in
+    record { counted = add-one c.args.n; codes_after = rw room; positions_after = rw room }
 
 pub put_spec : {M : Type 1} → statement M
 put_spec =
     tie.close
-    (tie.spec
-    add-result
-    returns
-    mul-codes
-    slice-write-codes
-    cast-positions
-    mul-positions
-    slice-write-positions
-    add-result-2
-    same_length
-    same-length-2
-    returns-2)
+    (tie.spec add-result returns mul-codes slice-write-codes cast-positions mul-positions slice-write-positions add-result-2 same_length same-length-2 returns-2)
