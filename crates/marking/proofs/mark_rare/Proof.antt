@@ -7,10 +7,6 @@ use borrow.Author.Rules.{rules}
 use Rattle.marking.proofs.mark_rare.Statement.{statement}
 use Rattle.marking.proofs.mark_rare.Tie as tie
 
--- the tests before the words are marked
-abbrev tested : tie.After-mark_words → tie.Else-marks-n
-tested c = c.before.before
-
 returns : tie.Need-returns-then-deciding-gt-TEXT_LIMIT
 returns c = mark_many _ _ _ _ c.if-deciding-gt-TEXT_LIMIT.true
 
@@ -31,8 +27,8 @@ same_length c = search rules
 
 returns-3 : tie.Need-returns
 returns-3 c =
-    let marked = c.before.before in
-    mark_enough _ _ _ _ _ (tested marked).if-deciding-gt-TEXT_LIMIT.false (tested marked).if-marks-n.false marked.mark_words.ensures
+    let marked = c in
+    mark_enough _ _ _ _ _ marked.if-deciding-gt-TEXT_LIMIT.false marked.if-marks-n.false marked.mark_words.ensures
 
 pub mark_rare_spec : {M : Type 1} → statement M
 mark_rare_spec =

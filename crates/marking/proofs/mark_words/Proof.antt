@@ -9,17 +9,8 @@ use Rattle.marking.proofs.mark_words.Statement.{statement}
 use Rattle.marking.proofs.mark_words.Tie as tie
 
 -- the places behind the list, and the entry of the function
-abbrev lent : tie.After-mark_by_list → tie.After-list-2-1
-lent c = c.before.before.before
-
 abbrev listed : tie.After-mark_by_list → tie.After-list_frequent-n
 listed c = c.before.before.before.before
-
-abbrev made : tie.After-list_frequent-n → tie.After-slice_known-1
-made c = c.before.before.before
-
-abbrev entry : tie.After-list_frequent-n → tie.Start
-entry c = c.before.before.before.before.before.before
 
 -- the list is as long as was answered
 long : (c : tie.After-list_frequent-n) → length (take c.list_frequent-n.result c.list_frequent-n.new.list) ≡ c.list_frequent-n.result
@@ -51,8 +42,8 @@ same_length c = search rules
 returns : tie.Need-returns
 returns c =
     let marked = c.before.before in
-    let start = entry (listed marked) in
-    marks_same _ start.args.limit _ start.args.words.now _ (listed marked).list_frequent-n.ensures.1 marked.mark_by_list.ensures
+    let start = marked in
+    marks_same _ start.args.limit _ start.args.words.now _ marked.list_frequent-n.ensures.1 marked.mark_by_list.ensures
 
 pub mark_words_spec : {M : Type 1} → statement M
 mark_words_spec =

@@ -27,10 +27,10 @@ module _ (dividend divisor : ℕ) where
   unfolding nearest rounded even_of
   half-odd l m o = simp (le-ltb _ _ l, le-ltb _ _ m, ne_eqb _ _ o)
 
-div-quotient : tie.Need-nonzero-div-quotient
+div-quotient : tie.Need-nonzero_div-quotient
 div-quotient c = search rules
 
-rem-twice : tie.Need-nonzero-rem-twice
+rem-twice : tie.Need-nonzero_rem-twice
 rem-twice c = search rules
 
 mul-twice : tie.Need-overflow_mul-twice
@@ -54,11 +54,5 @@ add-result-2 c = let entry = c.args in search (rules, div-le_self entry.dividend
 returns-4 : tie.Need-returns
 returns-4 c = half-odd _ _ c.if-twice-divisor.false c.if-divisor-twice.false c.if-quotient-eq0.false
 
-auto-nonzero_div-quotient : tie.Need-nonzero_div-quotient
-auto-nonzero_div-quotient c = search rules
-
-auto-nonzero_rem-twice : tie.Need-nonzero_rem-twice
-auto-nonzero_rem-twice c = search rules
-
 pub nearest_spec : {M : Type 1} → statement M
-nearest_spec = tie.close (tie.spec auto-nonzero_div-quotient auto-nonzero_rem-twice mul-twice returns add-result returns-2 returns-3 add-result-2 returns-4)
+nearest_spec = tie.close (tie.spec div-quotient rem-twice mul-twice returns add-result returns-2 returns-3 add-result-2 returns-4)

@@ -98,7 +98,7 @@ module _ (c : tie.After-nearest) where
   computed-is : (c.nearest.result < 2 ^ 31) × (to_z w32 c.nearest.result ≡ per_mille_number entry.args.m entry.args.len entry.args.size)
   computed-is =
       subst (λ (x : ℕ). (x < 2 ^ 31) × (to_z w32 x ≡ per_mille_number entry.args.m entry.args.len entry.args.size)) (sym computed)
-      (accepted _ _ _ first.if1.left third.if2.left third.if3.left c.if-size-gt-PATTERN_LIMIT.false c.if-len-size-eq0.false)
+      (accepted _ _ _ first.if-len-m.false third.if-size-m.false third.if-len-gt-TEXT_LIMIT.false c.if-size-gt-PATTERN_LIMIT.false c.if-len-size-eq0.false)
 
 cast-result : tie.Need-overflow_cast-result
 cast-result c = record { sfits = (computed-is c).0 }

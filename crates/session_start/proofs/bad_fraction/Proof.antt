@@ -5,21 +5,21 @@ use Rattle.session_start.specs.Start.{bad_fraction}
 use Rattle.session_start.proofs.bad_fraction.Statement.{statement}
 use Rattle.session_start.proofs.bad_fraction.Tie as tie
 
-returns : tie.Need-returns
+returns : tie.Need-returns-then-g-lt1
 unfolding bad_fraction
-returns c = rw (lt-ltb c.before.args.g 1 c.if1.true)
+returns c = rw (lt-ltb c.args.g 1 c.if-g-lt1.true)
 
-returns-2 : tie.Need-returns-2
+returns-2 : tie.Need-returns-then-g-gt-DIVISOR_LIMIT
 unfolding bad_fraction
 returns-2 c =
-    let g = c.before.before.args.g in
-    rw (le-ltb g 1 c.before.if1.false, lt-ltb divisor_limit g c.if2.true)
+    let g = c.args.g in
+    rw (le-ltb g 1 c.if-g-lt1.false, lt-ltb divisor_limit g c.if-g-gt-DIVISOR_LIMIT.true)
 
-returns-3 : tie.Need-returns-3
+returns-3 : tie.Need-returns
 unfolding bad_fraction
 returns-3 c =
-    let g = c.before.before.args.g in
-    rw (le-ltb g 1 c.before.if1.false, le-ltb divisor_limit g c.if2.false)
+    let g = c.args.g in
+    rw (le-ltb g 1 c.if-g-lt1.false, le-ltb divisor_limit g c.if-g-gt-DIVISOR_LIMIT.false)
 
-pub bad-fraction-spec : {M : Type 1} → statement M
-bad-fraction-spec = tie.close (tie.spec returns returns-2 returns-3)
+pub bad_fraction_spec : {M : Type 1} → statement M
+bad_fraction_spec = tie.close (tie.spec returns returns-2 returns-3)

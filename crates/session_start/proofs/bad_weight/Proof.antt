@@ -5,11 +5,11 @@ use Rattle.session_start.proofs.bad_weight.Tie as tie
 use Rattle.session_start.proofs.bad_weight.Reads as reads
 use Rattle.session_start.proofs.bad_weight.Lts as lts
 
-returns : tie.Need-returns
-returns c = rw (lt-ltb c.before.args.w 1 c.if1.true)
+returns : tie.Need-returns-then-w-lt1
+returns c = rw (lt-ltb c.args.w 1 c.if-w-lt1.true)
 
-returns-2 : tie.Need-returns-2
-returns-2 c = rw (le-ltb c.before.args.w 1 c.if1.false)
+returns-2 : tie.Need-returns-else-w-lt1
+returns-2 c = rw (le-ltb c.args.w 1 c.if-w-lt1.false)
 
-pub bad-weight-spec : {M : Type 1} → statement M
-bad-weight-spec = tie.close (tie.spec returns returns-2)
+pub bad_weight_spec : {M : Type 1} → statement M
+bad_weight_spec = tie.close (tie.spec returns returns-2)

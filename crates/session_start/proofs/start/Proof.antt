@@ -12,28 +12,21 @@ use mathlib.Core.Path.{◌≡◌, subst}
 use Rattle.session_start.proofs.start.Statement.{statement}
 use Rattle.session_start.proofs.start.Tie as tie
 
--- the entry of the function, from the call's return
-abbrev at-shared-slice-known : tie.After-start-scored-arg → tie.After-shared-slice-known
-at-shared-slice-known c = c.before.before.before
-
-abbrev entry : tie.After-start-scored → tie.Start
-entry c = (at-shared-slice-known c.before).before
-
-start-scored-requires : tie.Need-start-scored-requires
+start-scored-requires : tie.Need-start_scored-requires
 start-scored-requires c κs = search rules
 
-same_length : tie.Need-same-length
+same_length : tie.Need-shape_of-work
 same_length c = search rules
 
 returns : tie.Need-returns
 returns c =
-    let scored = c.before.before.start-scored in
-    let start = entry c.before.before in
+    let scored = c.start_scored in
+    let start = c in
     let args = start.args in
     let same = to_z-of_z w32 args.threshold start.fits.threshold in (
       subst (λ (z : ℤ). started_reply scored.result
           ≡ start_reply (task_with args.text.now args.pattern.now (Linear args.u args.v z)) (length args.work.now)) same scored.ensures.0,
-      subst (λ (z : ℤ). scored.new.1.1.1.0
+      subst (λ (z : ℤ). scored.new.work
           ≡ start_words (task_with args.text.now args.pattern.now (Linear args.u args.v z)) args.work.now) same scored.ensures.1,
     )
 

@@ -20,24 +20,24 @@ use Rattle.sketch.proofs.count.Statement.{statement}
 use Rattle.sketch.proofs.count.Tie as tie
 
 -- where the function begins, from behind the check of k, and that from behind the check of w
-abbrev entry : tie.Else1 → tie.Start
+abbrev entry : tie.Else-outside → tie.Start
 entry c = c.before.before.before
 
-abbrev first : tie.Else2 → tie.Else1
+abbrev first : tie.Else-outside-2 → tie.Else-outside
 first c = c.before.before
 
 -- what is answered behind all checks
 abbrev rest : tie.Start → Reply
 rest s = accepted (length (sketch s.args.k s.args.w s.args.letters.now) ∷ [])
 
-k_inside : (c : tie.Else1) → outside 1 k_limit (entry c).args.k ≡ false
-k_inside c = sym c.before.outside.ensures ∙ c.if1.false
+k_inside : (c : tie.Else-outside) → outside 1 k_limit c.args.k ≡ false
+k_inside c = sym c.outside.ensures ∙ c.if-outside.false
 
-w_inside : (c : tie.Else2) → outside 1 w_limit (entry (first c)).args.w ≡ false
-w_inside c = sym c.before.outside2.ensures ∙ c.if2.false
+w_inside : (c : tie.Else-outside-2) → outside 1 w_limit c.args.w ≡ false
+w_inside c = sym c.outside-2.ensures ∙ c.if-outside-2.false
 
 -- past the checks
-module _ (c : tie.Else3) where
+module _ (c : tie.Else-letters-gt-LETTER_LIMIT) where
   abbrev began : tie.Start
   began = entry (first c.before)
 
@@ -45,7 +45,7 @@ module _ (c : tie.Else3) where
       × (length began.args.letters.now ≤ letter_limit)
   ranges =
       within_limits began.args.k began.args.w (length began.args.letters.now) (k_inside (first c.before)) (w_inside c.before)
-      c.if3.false
+      c.if-letters-gt-LETTER_LIMIT.false
 
 -- the count fits 31 bits
 small : (c : tie.After-entries) → c.entries.result < 2 ^ 31
@@ -56,38 +56,38 @@ small c =
 outside-requires : tie.Need-outside-requires
 outside-requires c κs = search rules
 
-returns : tie.Need-returns
+returns : tie.Need-returns-then-outside
 unfolding count_reply
 returns c =
     let s = c.before.before.before in
-    sym (ap host_number (checked_k s.args.k s.args.w s.args.letters.now (rest s) (sym c.before.outside.ensures ∙ c.if1.true)))
+    sym (ap host_number (checked_k s.args.k s.args.w s.args.letters.now (rest s) (sym c.outside.ensures ∙ c.if-outside.true)))
 
 outside-requires-2 : tie.Need-outside-requires-2
 outside-requires-2 c κs = search rules
 
-returns-2 : tie.Need-returns-2
+returns-2 : tie.Need-returns-then-outside-2
 unfolding count_reply
 returns-2 c =
     let d = c.before.before in
     let s = entry d in
-    let bad = sym c.before.outside2.ensures ∙ c.if2.true in
+    let bad = sym c.outside-2.ensures ∙ c.if-outside-2.true in
     sym (ap host_number (checked_w s.args.k s.args.w s.args.letters.now (rest s) (k_inside d) bad))
 
-returns-3 : tie.Need-returns-3
+returns-3 : tie.Need-returns-then-letters-gt-LETTER_LIMIT
 unfolding count_reply
 returns-3 c =
     let d = first c.before in
     let s = entry d in
     sym (ap host_number
-    (checked_many s.args.k s.args.w s.args.letters.now (rest s) (k_inside d) (w_inside c.before) c.if3.true))
+    (checked_many s.args.k s.args.w s.args.letters.now (rest s) (k_inside d) (w_inside c.before) c.if-letters-gt-LETTER_LIMIT.true))
 
 entries-requires : tie.Need-entries-requires
 entries-requires c κs = ranges c
 
-cast-result : tie.Need-overflow-cast-result
+cast-result : tie.Need-overflow_cast-result
 cast-result c = record { sfits = small c }
 
-returns-4 : tie.Need-returns-4
+returns-4 : tie.Need-returns
 unfolding count_reply
 returns-4 c =
     let d = c.before in
@@ -95,17 +95,9 @@ returns-4 c =
     to_z_pos w32 c.entries.result (small c)
     ∙ ap pos c.entries.ensures
     ∙ sym (ap host_number
-    (checked_all s.args.k s.args.w s.args.letters.now (rest s) (k_inside (first d.before)) (w_inside d.before) d.if3.false))
+    (checked_all s.args.k s.args.w s.args.letters.now (rest s) (k_inside (first d.before)) (w_inside d.before) d.if-letters-gt-LETTER_LIMIT.false))
 
 pub count_spec : {M : Type 1} → statement M
 count_spec =
     tie.close
-    (tie.spec
-    outside-requires
-    returns
-    outside-requires-2
-    returns-2
-    returns-3
-    entries-requires
-    cast-result
-    returns-4)
+    (tie.spec outside-requires returns outside-requires-2 returns-2 returns-3 entries-requires cast-result returns-4)

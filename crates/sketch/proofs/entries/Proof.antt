@@ -13,13 +13,10 @@ use Rattle.sketch.proofs.entries.Statement.{statement}
 use Rattle.sketch.proofs.entries.Tie as tie
 
 -- places, each named for where it leads and from where
-abbrev entry-positions : tie.After-positions → tie.Start
-entry-positions c = c.before.before.before
-
-slice-aggregate-winnow : tie.Need-slice-aggregate-winnow
+slice-aggregate-winnow : tie.Need-slice_bounds-winnow-end
 slice-aggregate-winnow c = search rules
 
-slice-aggregate-winnow-2 : tie.Need-slice-aggregate-winnow-2
+slice-aggregate-winnow-2 : tie.Need-slice_bounds-winnow-end-2
 slice-aggregate-winnow-2 c = search rules
 
 winnow-requires : tie.Need-winnow-requires
@@ -27,13 +24,13 @@ winnow-requires c κs = search rules
 
 returns : tie.Need-returns
 returns c =
-    let args = (entry-positions c.before.before.before).args in
+    let args = c.args in
     let s = sketch args.k args.w args.letters.now in
     let all : winnowed args.k args.w args.letters.now 0 [] [] ≡ wrote (0 + length s) [] [] =
-    winnowed_within args.k args.w args.letters.now 0 [] [] (entry-positions c.before.before.before).requires zero-le zero-le
+    winnowed_within args.k args.w args.letters.now 0 [] [] c.requires zero-le zero-le
     ∙ written_nowhere 0 [] [] s in
-    ap (λ (x : Written). x.entries) (c.before.before.winnow.ensures ∙ all) ∙ zero-add (length s)
+    ap (λ (x : Written). x.entries) (c.winnow.ensures ∙ all) ∙ zero-add (length s)
 
-pub entries-spec : {M : Type 1} → statement M
-entries-spec =
+pub entries_spec : {M : Type 1} → statement M
+entries_spec =
     tie.close (tie.spec slice-aggregate-winnow slice-aggregate-winnow-2 winnow-requires returns)

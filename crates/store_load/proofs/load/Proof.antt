@@ -8,7 +8,7 @@ use mathlib.Core.List.{List, [], ◌∷◌}
 use lib.ListN.{length, drop, get_or}
 use lib.Dec.{ltb}
 use borrow.Author.Rules.{rules}
-use borrow.Author.Tests.{lt-ltb, ltb-false, not_true, not-false}
+use borrow.Author.Tests.{lt-ltb, ltb-false, not-true, not-false}
 use Rattle.base.specs.Replies.{Reply, refused, after}
 use Rattle.base.proofs.Lists.{or_left, or_right}
 use Rattle.base.specs.Limits.{k_limit}
@@ -24,24 +24,6 @@ use Rattle.store_load.proofs.load.Statement.{statement}
 use Rattle.store_load.proofs.load.Tie as tie
 
 -- places, each named for where it leads and from where
-abbrev entry-shared-slice-known : tie.After-shared_slice_known-1 → tie.Start
-entry-shared-slice-known c = c.before
-
-abbrev entry-else1 : tie.Else-words-eq0 → tie.Start
-entry-else1 c = c.before.before.before.before
-
-abbrev entry-else2 : tie.Else-not-is_header → tie.Start
-entry-else2 c = c.before.before.before.before.before.before.before
-
-abbrev else1-else2 : tie.Else-not-is_header → tie.Else-words-eq0
-else1-else2 c = c.before.before.before
-
-abbrev entry-header-k : tie.After-header_k-k → tie.Start
-entry-header-k c = c.before.before.before.before.before.before.before.before
-
-abbrev entry-turn-match-keys3 : tie.In-Good-1 → tie.Start
-entry-turn-match-keys3 c = c.before.before.before.before.before.before.before.before.before.before.before
-
 abbrev header-w-turn-match-keys3 : tie.In-Good-1 → tie.After-header_w-w
 header-w-turn-match-keys3 c = c.before.before
 
@@ -97,7 +79,7 @@ returns-2 : tie.Need-returns-then-not-is_header
 returns-2 c =
     let a = c.args in
     judged_bad a.words.now a.codes.now a.positions.now
-    (judge_no_header a.words.now (sym c.is_header.ensures ∙ not_true c.is_header.result c.if-not-is_header.true))
+    (judge_no_header a.words.now (sym c.is_header.ensures ∙ not-true c.is_header.result c.if-not-is_header.true-raw))
 
 header-k-requires : tie.Need-header_k-k-requires
 header-k-requires c κs = search rules
@@ -107,12 +89,12 @@ header-w-requires c κs = search rules
 
 -- word 0 is there, and is one
 header-good : (c : tie.Else-not-is_header) → is_header (get_or c.args.words.now 0 0) ≡ true
-header-good c = sym c.is_header.ensures ∙ not-false c.is_header.result c.if-not-is_header.false
+header-good c = sym c.is_header.ensures ∙ not-false c.is_header.result c.if-not-is_header.false-raw
 
 judge-requires : tie.Need-judge-requires
 judge-requires c κs =
     let d = c.before.before in
-    let x = get_or (entry-else2 d).args.words.now 0 0 in
+    let x = get_or d.args.words.now 0 0 in
     let k_high : header_k x ≤ k_limit = (is_header_holds x (header-good d)).k_high in
     (search rules, rw c.header_k-k.ensures k_high)
 
@@ -122,7 +104,7 @@ found :
     verdict_reply c.judge.result ≡ counted 0 (judge c.args.words.now)
 found c =
     let d = c.before.before.before in
-    let ws = (entry-else2 d).args.words.now in
+    let ws = d.args.words.now in
     let some : 1 ≤ length ws = search rules in
     c.judge.ensures
     ∙ ap (counted 0) (ap (λ (k : ℕ). judge_from k 1 0 0 (drop 1 ws)) c.header_k-k.ensures ∙ sym (judge_header ws some (header-good d)))
@@ -141,18 +123,18 @@ loads :
     (c : tie.In-Good) →
     let es = entries_of (judge c.args.words.now) in
     (judge c.args.words.now ≡ good es)
-    × (length es ≡ c.in-Good.is.0.0)
-loads c = counted_good _ (sym (ap verdict_reply c.in-Good.is.1) ∙ found c.before.before.before)
+    × (length es ≡ c.in-Good.entries)
+loads c = counted_good _ (sym (ap verdict_reply c.in-Good.is) ∙ found c.before.before.before)
 
 returns-3 : tie.Need-returns-then-codes-entries
 unfolding load_room
 returns-3 c =
     let d = c.before in
-    let a = (entry-turn-match-keys3 d.before.before).args in
-    let n = d.in-Good.is.0.0 in
+    let a = d.args in
+    let n = d.in-Good.entries in
     let loaded = loads d in
     let short : (ltb (length a.codes.now) n || ltb (length a.positions.now) n) ≡ true =
-    ⊎_elim (λ w. or_left _ (lt-ltb _ _ w.true)) (λ w. or_right (ltb (length a.codes.now) n) w.1.true) c.then-codes-entries.branch
+    ⊎_elim (λ w. or_left _ (lt-ltb _ _ w.taken)) (λ w. or_right (ltb (length a.codes.now) n) w.1.taken) c.then-codes-entries.branch
     in
     refusal a.words.now a.codes.now a.positions.now
     (judged_good a.words.now a.codes.now a.positions.now n loaded.0 loaded.1 ∙ rw short)
@@ -161,21 +143,21 @@ read-requires : tie.Need-read-requires
 read-requires c κs =
     let e = c.before.before in
     let loaded = loads e.before.before in
-    (loaded.0, (loaded.1, (e.then-codes-entries.false, ltb-false _ _ e.if-positions-entries.false)))
+    (loaded.0, (loaded.1, (e.if-codes-entries.false, ltb-false _ _ e.if-positions-entries.false-raw)))
 
 returns-4 : tie.Need-returns-in-BadWord
 returns-4 c =
     let d = c.before.before.before in
-    let a = (entry-else2 d.before.before.before).args in
+    let a = d.args in
     judged_bad a.words.now a.codes.now a.positions.now
-    (counted_bad 0 (judge a.words.now) (sym (ap verdict_reply c.in-BadWord.is.1) ∙ found d))
+    (counted_bad 0 (judge a.words.now) (sym (ap verdict_reply c.in-BadWord.is) ∙ found d))
 
 returns-5 : tie.Need-returns-in-BadEnd
 returns-5 c =
     let d = c.before.before.before in
-    let a = (entry-else2 d.before.before.before).args in
+    let a = d.args in
     judged_bad a.words.now a.codes.now a.positions.now
-    (counted_bad 0 (judge a.words.now) (sym (ap verdict_reply c.in-BadEnd.is.1) ∙ found d))
+    (counted_bad 0 (judge a.words.now) (sym (ap verdict_reply c.in-BadEnd.is) ∙ found d))
 
 same_length : tie.Need-shape_of-codes
 same_length c = search rules
@@ -189,17 +171,17 @@ returns-6 c =
     let e = r.before.before.before in
     let d = e.before.before in
     let h = header-w-turn-match-keys3 d.before.before in
-    let s = entry-else2 h.before.before in
+    let s = h in
     let ws = s.args.words.now in
     let cs = s.args.codes.now in
     let ps = s.args.positions.now in
     let es = entries_of (judge ws) in
-    let some : 1 ≤ length ws = omega (arith, (else1-else2 h.before.before).if-words-eq0.false) in
+    let some : 1 ≤ length ws = omega (arith, h.if-words-eq0.false) in
     let found-entries = loads d in
     let loaded : Loads ws es (length cs) (length ps) = record {
       judged = found-entries.0;
-      code_enough = rw found-entries.1 e.then-codes-entries.left;
-      position_enough = rw found-entries.1 (ltb-false _ _ e.if-positions-entries.false);
+      code_enough = rw found-entries.1 e.if-codes-entries.false;
+      position_enough = rw found-entries.1 (ltb-false _ _ e.if-positions-entries.false-raw);
     } in
     let fills = load_fills ws cs ps es loaded in (
       sym

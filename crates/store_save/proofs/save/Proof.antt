@@ -6,7 +6,7 @@ use mathlib.Core.List.{List, [], ◌∷◌}
 use lib.ListN.{length}
 use lib.Dec.{eqb}
 use borrow.Author.Rules.{rules}
-use borrow.Author.Tests.{lt-ltb, eq-eqb, ne_eqb, not_true, not-false}
+use borrow.Author.Tests.{lt-ltb, eq-eqb, ne_eqb, not-true, not-false}
 use Rattle.base.specs.Replies.{Reply, accepted, refused, after}
 use Rattle.base.specs.Limits.{k_limit, w_limit, outside}
 use Rattle.kmers.specs.Kmers.{entries}
@@ -18,15 +18,6 @@ use Rattle.store_save.proofs.save.Statement.{statement}
 use Rattle.store_save.proofs.save.Tie as tie
 
 -- places, each named for where it leads and from where
-abbrev entry-shared-slice-known2 : tie.After-shared_slice_known-2-1 → tie.Start
-entry-shared-slice-known2 c = c.before.before
-
-abbrev entry-else1 : tie.Else-outside → tie.Start
-entry-else1 c = c.before.before.before.before.before
-
-abbrev entry-else2 : tie.Else-outside-2 → tie.Start
-entry-else2 c = c.before.before.before.before.before.before.before
-
 abbrev else5-write-arg : tie.After-write-arg-1 → tie.Else-words-needed
 else5-write-arg c = c.before
 
@@ -57,7 +48,7 @@ returns-2 : tie.Need-returns-then-outside-2
 unfolding save_reply
 returns-2 c =
     let d = c.before.before in
-    let a = (entry-else1 d).args in
+    let a = d.args in
     refusal a.k a.w a.codes.now a.positions.now a.words.now (rw (k_inside d, sym c.outside-2.ensures ∙ c.if-outside-2.true))
 
 w_inside : (c : tie.Else-outside-2) → outside 1 w_limit c.args.w ≡ false
@@ -67,14 +58,14 @@ returns-3 : tie.Need-returns-then-codes-positions
 unfolding save_reply
 returns-3 c =
     let d = c.before.before.before in
-    let a = (entry-else1 d).args in
+    let a = d.args in
     refusal a.k a.w a.codes.now a.positions.now a.words.now
     (rw (k_inside d, w_inside c.before, ne_eqb (length a.codes.now) (length a.positions.now) c.if-codes-positions.true))
 
 are-storable-requires : tie.Need-are_storable-requires
 are-storable-requires c κs =
     let d = c.before.before.before in
-    ((inside_range 1 k_limit (entry-else1 d).args.k (k_inside d)).1, c.if-codes-positions.false)
+    ((inside_range 1 k_limit d.args.k (k_inside d)).1, c.if-codes-positions.false)
 
 same_size : (c : tie.Else-codes-positions) → let a = c.args in eqb (length a.codes.now) (length a.positions.now) ≡ true
 same_size c = eq-eqb _ _ c.if-codes-positions.false
@@ -84,9 +75,9 @@ unfolding save_reply
 returns-4 c =
     let e = c.before.before in
     let d = e.before.before.before in
-    let a = (entry-else1 d).args in
+    let a = d.args in
     let no-good : storable a.k 0 (entries a.codes.now a.positions.now) ≡ false =
-    sym c.are_storable.ensures ∙ not_true c.are_storable.result c.if-not-are_storable.true
+    sym c.are_storable.ensures ∙ not-true c.are_storable.result c.if-not-are_storable.true-raw
     in
     refusal a.k a.w a.codes.now a.positions.now a.words.now (rw (k_inside d, w_inside e.before, same_size e, no-good))
 
@@ -100,7 +91,7 @@ entries_good :
     (c : tie.Else-not-are_storable) →
     let a = c.args in
     storable a.k 0 (entries a.codes.now a.positions.now) ≡ true
-entries_good c = sym c.are_storable.ensures ∙ not-false c.are_storable.result c.if-not-are_storable.false
+entries_good c = sym c.are_storable.ensures ∙ not-false c.are_storable.result c.if-not-are_storable.false-raw
 
 size :
     (c : tie.Else-codes-positions) →
@@ -117,7 +108,7 @@ returns-5 c =
     let f = c.before in
     let e = f.before.before in
     let d = e.before.before.before in
-    let a = (entry-else1 d).args in
+    let a = d.args in
     refusal a.k a.w a.codes.now a.positions.now a.words.now
     (rw (
       k_inside d,
@@ -133,7 +124,7 @@ write-requires c κs =
     let f = c.before.before in
     let e = f.before.before in
     let d = e.before.before.before in
-    let a = (entry-else1 d).args in (
+    let a = d.args in (
       ((inside_range 1 k_limit a.k (k_inside d)).1, (inside_range 1 w_limit a.w (w_inside e.before)).1),
       (
         e.if-codes-positions.false,
@@ -153,7 +144,7 @@ returns-6 c =
     let f = g.before in
     let e = f.before.before in
     let d = e.before.before.before in
-    let a = (entry-else1 d).args in
+    let a = d.args in
     let savable : Savable a.k a.w a.codes.now a.positions.now (length a.words.now) = record {
       k_inside = k_inside d;
       w_inside = w_inside e.before;

@@ -9,12 +9,6 @@ use Rattle.list_line.proofs.writing.put_decimal.Statement.{statement}
 use Rattle.list_line.proofs.writing.put_decimal.Tie as tie
 
 -- places, each named for where it leads and from where
-abbrev write-digits-digits2 : tie.After-digits-2-1 → tie.After-write_digits-from
-write-digits-digits2 c = c.before
-
-abbrev write-digits-put-bytes-arg2 : tie.After-put_bytes-arg-2-1 → tie.After-write_digits-from
-write-digits-put-bytes-arg2 c = c.before.before.before
-
 slice-aggregate-write-digits : tie.Need-slice_bounds-write_digits-end
 slice-aggregate-write-digits c = search rules
 
@@ -24,10 +18,10 @@ write-digits-requires c κs = search rules
 sub-put-bytes : tie.Need-slice_bounds-put_bytes-count
 sub-put-bytes c = search rules
 
-part-put-bytes-start : tie.Need-slice-bounds-put-bytes-start
+part-put-bytes-start : tie.Need-slice_bounds-put_bytes-start
 part-put-bytes-start c = search rules
 
-part-put-bytes-end : tie.Need-slice-bounds-put-bytes-end
+part-put-bytes-end : tie.Need-slice_bounds-put_bytes-end
 part-put-bytes-end c = search rules
 
 put-bytes-requires : tie.Need-put_bytes-requires
@@ -38,18 +32,12 @@ same_length c = search rules
 
 returns : tie.Need-returns
 returns c =
-    let at-digits = write-digits-put-bytes-arg2 c.before.before.before in
+    let at-digits = c in
     let digits = at-digits.write_digits-from.new.digits in
     let long : length digits ≤ 10 = omega arith in
     same_bytes (part_to_end digits 10 at-digits.write_digits-from.result long ∙ at-digits.write_digits-from.ensures.1) c.put_bytes.ensures
 
-auto-slice_bounds-put_bytes-start : tie.Need-slice_bounds-put_bytes-start
-auto-slice_bounds-put_bytes-start c = search rules
-
-auto-slice_bounds-put_bytes-end : tie.Need-slice_bounds-put_bytes-end
-auto-slice_bounds-put_bytes-end c = search rules
-
 pub put_decimal_spec : {M : Type 1} → statement M
 put_decimal_spec =
     tie.close
-    (tie.spec slice-aggregate-write-digits write-digits-requires sub-put-bytes auto-slice_bounds-put_bytes-start auto-slice_bounds-put_bytes-end put-bytes-requires same_length returns)
+    (tie.spec slice-aggregate-write-digits write-digits-requires sub-put-bytes part-put-bytes-start part-put-bytes-end put-bytes-requires same_length returns)

@@ -37,7 +37,7 @@ module _ (c : tie.After-put_decimal-end-2) where
   text-is =
       let a : length (decimal entry.args.m) ≤ 10 = length_decimal entry.args.m in
       let b : length (decimal entry.args.divisor) ≤ 10 = length_decimal entry.args.divisor in
-      joined_by c1.put_decimal.ensures c2.put_byte.ensures c.put_decimal-end-2.ensures (omega arith)
+      joined_by c1.put_decimal-end.ensures c2.put_byte-end.ensures c.put_decimal-end-2.ensures (omega arith)
 
   short : length printed ≤ 21
   short = length_fraction entry.args.m entry.args.divisor

@@ -8,12 +8,6 @@ use Rattle.list_line.proofs.writing.put_score.Statement.{statement}
 use Rattle.list_line.proofs.writing.put_score.Tie as tie
 
 -- places, each named for where it leads and from where
-abbrev told-put-signed : tie.After-put_signed → tie.In-Number
-told-put-signed c = c.before.before
-
-abbrev score2-put-fraction : tie.After-put_fraction → tie.In-Fraction-2
-score2-put-fraction c = c.before.before.before
-
 enum-known-score : tie.Need-enum_known-score
 enum-known-score c = search rules
 
@@ -33,8 +27,8 @@ returns : tie.Need-returns-in-Number
 unfolding shown_score
 returns c =
     let wrote = c.before.before in
-    let told = told-put-signed wrote in
-    same_bytes (ap signed (to_z-of_z (sfits_of told.known_told-1.given.0.1)) ∙ sym (ap shown_score told.in-Number.is.1))
+    let told = wrote in
+    same_bytes (ap signed (to_z-of_z (sfits_of told.in-Number.known_told-1-own.given.0.1)) ∙ sym (ap shown_score told.in-Number.is))
     wrote.put_signed.ensures
 
 same-length-2 : tie.Need-shape_of-out-in-Fraction
@@ -43,8 +37,8 @@ same-length-2 c = search rules
 returns-2 : tie.Need-returns-in-Fraction
 unfolding shown_score
 returns-2 c =
-    let wrote = c.before.before in
-    same_bytes (sym (ap shown_score (score2-put-fraction wrote).in-Fraction.is.1)) wrote.put_fraction.ensures
+    let wrote = c in
+    same_bytes (sym (ap shown_score wrote.in-Fraction.is)) wrote.put_fraction.ensures
 
 pub put_score_spec : {M : Type 1} → statement M
 put_score_spec =

@@ -20,18 +20,6 @@ use Rattle.list_line.proofs.writing.put_signed.Statement.{statement}
 use Rattle.list_line.proofs.writing.put_signed.Tie as tie
 
 -- places, each named for where it leads and from where
-abbrev entry-else1 : tie.Else-z-ge0 → tie.Start
-entry-else1 c = c.before.before
-
-abbrev entry-put-decimal-arg : tie.After-put_decimal-arg-1 → tie.Start
-entry-put-decimal-arg c = c.before.before.before
-
-abbrev then1-put-decimal-arg : tie.After-put_decimal-arg-1 → tie.Then-z-ge0
-then1-put-decimal-arg c = c.before
-
-abbrev write-digits-digits2 : tie.After-digits-2-1 → tie.After-write_digits-from
-write-digits-digits2 c = c.before
-
 abbrev write-digits-put-bytes-arg2 : tie.After-put_bytes-arg-2-1 → tie.After-write_digits-from
 write-digits-put-bytes-arg2 c = c.before.before.before
 
@@ -77,7 +65,7 @@ sized : (d : List ℕ) (from b : ℕ) → length d ≡ 10 → 11 ≤ length (set
 sized d from b long = let longer : length (d ++ []) ≡ 10 = ap length (append-nil d) ∙ long in simp length-set (omega arith)
 
 cast-put-decimal : tie.Need-overflow_cast-z
-cast-put-decimal c = let at-start = c.before.before.before in cast_fits at-start.args.z at-start.ranges.z c.if-z-ge0.true
+cast-put-decimal c = let at-start = c in cast_fits at-start.args.z at-start.ranges.z c.if-z-ge0.true
 
 put-decimal-requires : tie.Need-put_decimal-requires
 put-decimal-requires c κs = search rules
@@ -87,17 +75,17 @@ same_length c = search rules
 
 returns : tie.Need-returns-then-z-ge0
 returns c =
-    let at-start = entry-put-decimal-arg c.before.before.before in
+    let at-start = c in
     same_bytes (digits_are at-start.args.z at-start.fits.z c.if-z-ge0.true)
     c.put_decimal.ensures
 
 sub-write-digits : tie.Need-slice_bounds-write_digits-count
 sub-write-digits c = search rules
 
-part-digits-start : tie.Need-slice-bounds-digits-start
+part-digits-start : tie.Need-slice_bounds-digits-start
 part-digits-start c = search rules
 
-part-digits-end : tie.Need-slice-bounds-digits-end
+part-digits-end : tie.Need-slice_bounds-digits-end
 part-digits-end c = search rules
 
 magnitude-requires : tie.Need-magnitude-requires
@@ -112,12 +100,11 @@ array-write-digits c = search rules
 sub-put-bytes : tie.Need-slice_bounds-put_bytes-count
 sub-put-bytes c = search rules
 
-part-put-bytes-start : tie.Need-slice-bounds-put-bytes-start
+part-put-bytes-start : tie.Need-slice_bounds-put_bytes-start
 part-put-bytes-start c = search rules
 
-part-put-bytes-end : tie.Need-slice-bounds-put-bytes-end
-part-put-bytes-end c = let at-digits =
-    c.before.before.before in sized at-digits.write_digits-from.new.digits at-digits.write_digits-from.result _ at-digits.write_digits-from.auto.digits
+part-put-bytes-end : tie.Need-slice_bounds-put_bytes-end
+part-put-bytes-end c = let at-digits = c in sized at-digits.write_digits-from.new.digits at-digits.write_digits-from.result _ at-digits.write_digits-from.auto.digits
 
 put-bytes-requires : tie.Need-put_bytes-requires
 put-bytes-requires c κs = search rules
@@ -128,7 +115,7 @@ same-length-2 c = search rules
 returns-2 : tie.Need-returns
 returns-2 c =
     let at-digits = write-digits-put-bytes-arg2 c.before.before.before in
-    let at-start = entry-else1 at-digits.before.before.before in
+    let at-start = digits in
     same_bytes
     (all_are
     at-start.args.z
@@ -141,19 +128,7 @@ returns-2 c =
     (at-digits.write_digits-from.ensures.1 ∙ ap decimal at-digits.magnitude.ensures))
     c.put_bytes.ensures
 
-auto-slice_bounds-digits-start : tie.Need-slice_bounds-digits-start
-auto-slice_bounds-digits-start c = search rules
-
-auto-slice_bounds-digits-end : tie.Need-slice_bounds-digits-end
-auto-slice_bounds-digits-end c = search rules
-
-auto-slice_bounds-put_bytes-start : tie.Need-slice_bounds-put_bytes-start
-auto-slice_bounds-put_bytes-start c = search rules
-
-auto-slice_bounds-put_bytes-end : tie.Need-slice_bounds-put_bytes-end
-auto-slice_bounds-put_bytes-end c = search rules
-
 pub put_signed_spec : {M : Type 1} → statement M
 put_signed_spec =
     tie.close
-    (tie.spec cast-put-decimal put-decimal-requires same_length returns sub-write-digits auto-slice_bounds-digits-start auto-slice_bounds-digits-end magnitude-requires write-digits-requires array-write-digits sub-put-bytes auto-slice_bounds-put_bytes-start auto-slice_bounds-put_bytes-end put-bytes-requires same-length-2 returns-2)
+    (tie.spec cast-put-decimal put-decimal-requires same_length returns sub-write-digits part-digits-start part-digits-end magnitude-requires write-digits-requires array-write-digits sub-put-bytes part-put-bytes-start part-put-bytes-end put-bytes-requires same-length-2 returns-2)

@@ -100,17 +100,17 @@ module _ (c : tie.After-put_byte-at-7) where
       args.per_mille
       args.strand
       refl
-      c1.put_decimal.ensures
-      c2.put_byte.ensures
-      c3.put-decimal2.ensures
-      c4.put-byte2.ensures
-      c5.put_score.ensures
-      c6.put-byte3.ensures
-      c7.put-decimal3.ensures
-      c8.put-byte4.ensures
-      c9.put-decimal4.ensures
-      c10.put-byte5.ensures
-      (same_bytes (ap (λ (b : ℕ). b ∷ []) signed_by.sign.ensures) c11.put-byte6.ensures)
+      c1.put_decimal-at.ensures
+      c2.put_byte-at.ensures
+      c3.put_decimal-at-2.ensures
+      c4.put_byte-at-2.ensures
+      c5.put_score-at.ensures
+      c6.put_byte-at-3.ensures
+      c7.put_decimal-at-3.ensures
+      c8.put_byte-at-4.ensures
+      c9.put_decimal-at-4.ensures
+      c10.put_byte-at-5.ensures
+      (same_bytes (ap (λ (b : ℕ). b ∷ []) signed_by.sign.ensures) c11.put_byte-at-6.ensures)
       c.put_byte-at-7.ensures
 
   short : length printed ≤ 68

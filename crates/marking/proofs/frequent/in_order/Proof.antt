@@ -33,7 +33,7 @@ shared-slice-read-if1-2 c = search rules
 
 returns : tie.Need-returns-then-words-i invariant-loop decreases-loop
 returns c =
-    let in-loop = c.before.before.before in
+    let in-loop = c in
     (λ e. absurd (false≢true e), λ e. not_sorted _ _ in-loop.loop-i.invariant in-loop.loop-i-test.true c.if-words-i.true)
 
 add-i : tie.Need-overflow_add-i invariant-loop decreases-loop
@@ -44,7 +44,7 @@ loop-less c = search rules
 
 loop-again : tie.Need-loop-i-preserved invariant-loop decreases-loop
 loop-again c =
-    let in-loop = c.before.before.before in
+    let in-loop = c in
     rising_more _ _ in-loop.loop-i.invariant in-loop.loop-i-test.true c.if-words-i.false
 
 returns-2 : tie.Need-returns invariant-loop decreases-loop

@@ -13,17 +13,8 @@ use Rattle.marking.proofs.frequent.list_by_sorting.Statement.{statement}
 use Rattle.marking.proofs.frequent.list_by_sorting.Tie as tie
 
 -- the places back from the list to the sort, and the entry of the function
-abbrev known : tie.After-list_runs-arg-1 → tie.After-sorted-1
-known c = c.before.before
-
 abbrev sorted : tie.After-list_runs-arg-1 → tie.After-sort_through
 sorted c = c.before.before.before.before.before
-
-abbrev lent : tie.After-sort_through → tie.After-slice_known-2-1
-lent c = c.before.before.before
-
-abbrev entry : tie.After-sort_through → tie.Start
-entry c = c.before.before.before.before.before
 
 -- the words to sort, and what the sort leaves
 abbrev words : tie.After-sort_through → List ℕ
@@ -31,7 +22,7 @@ words c = take c.args.n c.args.list.now
 
 in_order : (c : tie.After-sort_through) → c.sort_through.new.sorted ≡ sorted_words (words c)
 in_order c =
-    let start = entry c in
+    let start = c in
     c.sort_through.ensures.1.1 ∙ through_exact (words c) _ (start.requires.0 ∙ sym (length-take-le _ _ start.requires.1))
 
 slice-relend-prefix-sort-through : tie.Need-slice_bounds-sort_through-end

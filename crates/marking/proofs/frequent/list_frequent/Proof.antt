@@ -8,21 +8,12 @@ use Rattle.marking.proofs.frequent.list_frequent.Statement.{statement}
 use Rattle.marking.proofs.frequent.list_frequent.Tie as tie
 
 -- the places behind the words to sort, from the list back to them
-abbrev listed : tie.After-slice_known-3-1 → tie.After-list_by_sorting
-listed c = c.before.before.before
-
-abbrev made : tie.After-slice_known-3-1 → tie.After-text_zeros-sorted
-made c = c.before.before.before.before.before.before
-
-abbrev suspected : tie.After-slice_known-3-1 → tie.After-suspects-n
-suspected c = c.before.before.before.before.before.before.before.before.before
-
 in-order-requires : tie.Need-in_order-requires
 in-order-requires c κs = search rules
 
 list-runs-requires : tie.Need-list_runs-requires
 list-runs-requires c κs =
-    let tested = c.before in
+    let tested = c in
     (tested.in_order.ensures.0 tested.if-in_order.true, search rules)
 
 same_length : tie.Need-shape_of-list-then-in_order

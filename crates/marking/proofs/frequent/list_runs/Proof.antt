@@ -2,11 +2,11 @@
 use native.Mathlib.Omega.{arith}
 use Prim.Native.Nat.{◌-◌}
 use mathlib.Core.Path.{◌≡◌, refl, ◌∙◌}
-use mathlib.Core.Logic.{⊎_elim}
 use lib.ListN.{length}
 use Rattle.marking.proofs.Runs.{Listed, listed_none, listed_put, listed_pass, listed_all}
 use borrow.Author.Rules.{rules}
 use Rattle.marking.proofs.frequent.list_runs.Statement.{statement}
+use Rattle.marking.proofs.frequent.list_runs.Lts.{then-sorted-i, else-sorted-i}
 use Rattle.marking.proofs.frequent.list_runs.Tie as tie
 
 abbrev invariant-loop : tie.invariant-loop-i
@@ -16,15 +16,6 @@ abbrev decreases-loop : tie.decreases-loop-i
 decreases-loop sorted limit list₀ back n₀ i₀ list n i = length sorted - i
 
 -- the places of a turn, and the entry of the function
-abbrev tested : tie.After-shared_slice_known-in-loop-i-2-1 invariant-loop decreases-loop → tie.In-loop-i invariant-loop decreases-loop
-tested c = c.before.before
-
-abbrev turn : tie.After-shared_slice_known-in-loop-i-2-1 invariant-loop decreases-loop → tie.At-loop-i invariant-loop decreases-loop
-turn c = c.before.before.before
-
-abbrev entry : tie.At-loop-i invariant-loop decreases-loop → tie.Start invariant-loop decreases-loop
-entry c = c.before.before.before
-
 loop-holds : tie.Need-loop-i-init invariant-loop decreases-loop
 loop-holds c = (refl, listed_none _ _ _)
 
@@ -61,12 +52,15 @@ loop-less c = search rules
 loop-again : tie.Need-loop-i-preserved invariant-loop decreases-loop
 loop-again c =
     let at = c.loop-i in
-    let start = entry (turn c.before) in
+    let start = c in
     let inside = c.loop-i-test.true in
     let put = listed_put start.args.sorted.now start.requires.0 start.args.limit at.i at.n at.list at.invariant.1 inside in
     let pass = listed_pass start.args.sorted.now start.requires.0 start.args.limit at.i at.n at.list at.invariant.1 inside in
-    ⊎_elim (λ w. rw (w.6, w.7) (w.3.kept.1.1.0 ∙ at.invariant.0, put w.0.true _ _ w.3.ensures.0 w.3.ensures.1))
-    (λ w. rw (w.1, w.2) (at.invariant.0, pass w.0.left)) c.if-sorted-i.branch
+    elim c.if-sorted-i.branch [
+      | then-sorted-i w ↦ rw (w.list-is, w.n-is)
+          (w.put_new-n.auto.list ∙ at.invariant.0, put w.if-sorted-i.true _ _ w.put_new-n.ensures.0 w.put_new-n.ensures.1)
+      | else-sorted-i w ↦ rw (w.list-is, w.n-is) (at.invariant.0, pass w.if-sorted-i.false)
+    ]
 
 same_length : tie.Need-shape_of-list invariant-loop decreases-loop
 same_length c = c.loop-i.invariant.0

@@ -14,13 +14,6 @@ invariant-loop list heads₀ i₀ heads i = Noting list i heads
 abbrev decreases-loop : tie.decreases-loop-i
 decreases-loop list heads₀ i₀ heads i = length list - i
 
--- the turn, and the entry of the function
-abbrev turn : tie.After-slot-s invariant-loop decreases-loop → tie.At-loop-i invariant-loop decreases-loop
-turn c = c.before.before.before
-
-abbrev entry : tie.At-loop-i invariant-loop decreases-loop → tie.Start invariant-loop decreases-loop
-entry c = c.before.before.before
-
 loop-holds : tie.Need-loop-i-init invariant-loop decreases-loop
 loop-holds c = noting_none _ _ c.requires.0
 
@@ -37,7 +30,7 @@ add-heads : tie.Need-overflow_add-heads invariant-loop decreases-loop
 add-heads c = search rules
 
 cast-heads : tie.Need-overflow_cast-heads invariant-loop decreases-loop
-cast-heads c = omega (arith, (entry (turn c)).requires.1)
+cast-heads c = omega (arith, c.requires.1)
 
 mul-heads : tie.Need-offset_bounds-heads-s invariant-loop decreases-loop
 mul-heads c = search rules
@@ -57,7 +50,7 @@ loop-again c =
 
 same_length : tie.Need-shape_of-heads invariant-loop decreases-loop
 same_length c =
-    let start = entry c.before in
+    let start = c in
     c.loop-i.invariant.long ∙ sym (noting_none start.args.list.now _ start.requires.0).long
 
 returns : tie.Need-returns invariant-loop decreases-loop

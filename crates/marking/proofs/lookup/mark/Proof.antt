@@ -9,12 +9,6 @@ use Rattle.marking.proofs.lookup.mark.Statement.{statement}
 use Rattle.marking.proofs.lookup.mark.Tie as tie
 
 -- the places before the head is known, and the entry of the function
-abbrev slotted : tie.After-wide-head → tie.After-slot-s
-slotted c = c.before.before
-
-abbrev entry : tie.After-wide-head → tie.Start
-entry c = c.before.before.before.before.before
-
 -- the head is at most the number of words
 head-within : (c : tie.After-wide-head) → c.wide-head.result ≤ length c.args.list.now
 head-within c = omega (arith, c.wide-head.ensures, c.requires.1.within _ c.slot-s.ensures.1)
@@ -34,8 +28,8 @@ wide-requires c κs = search rules
 returns : tie.Need-returns-then-head-eq0
 returns c =
     let known = c.before in
-    let start = entry known in
-    mark_no_head _ start.requires.0 _ _ _ start.requires.1 (slotted known).slot-s.ensures.0 (sym known.wide-head.ensures ∙ c.if-head-eq0.true)
+    let start = known in
+    mark_no_head _ start.requires.0 _ _ _ start.requires.1 known.slot-s.ensures.0 (sym known.wide-head.ensures ∙ c.if-head-eq0.true)
 
 sub-if2 : tie.Need-overflow_sub-head
 sub-if2 c = search rules
@@ -49,7 +43,7 @@ shared-slice-read-if2 c = omega (arith, head-within c.before.before)
 returns-2 : tie.Need-returns-then-list-head
 returns-2 c =
     let known = c.before.before.before in
-    let list = (entry known).args.list.now in
+    let list = known.args.list.now in
     let inside : known.wide-head.result - 1 < length list = omega (arith, head-within known, c.if-head-eq0.false) in
     mark_at list _ _ inside c.if-list-head.true
 

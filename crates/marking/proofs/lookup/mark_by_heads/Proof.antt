@@ -16,16 +16,6 @@ invariant-loop list heads words marks₀ i₀ marks i = (i ≤ length words) × 
 abbrev decreases-loop : tie.decreases-loop-i
 decreases-loop list heads words marks₀ i₀ marks i = length words - i
 
--- the turn, and the entry of the function
-abbrev turn : tie.After-shared_slice_known-in-loop-i-1 invariant-loop decreases-loop → tie.At-loop-i invariant-loop decreases-loop
-turn c = c.before.before
-
-abbrev known : tie.At-loop-i invariant-loop decreases-loop → tie.After-shared_slice_known-2-1 invariant-loop decreases-loop
-known c = c.before.before.before
-
-abbrev entry : tie.At-loop-i invariant-loop decreases-loop → tie.Start invariant-loop decreases-loop
-entry c = c.before.before.before.before.before
-
 loop-holds : tie.Need-loop-i-init invariant-loop decreases-loop
 loop-holds c = (omega arith, refl, refl)
 
@@ -37,13 +27,13 @@ shared-slice-read-mark c = search rules
 
 mark-requires : tie.Need-mark-requires invariant-loop decreases-loop
 mark-requires c κs =
-    let start = entry (turn c) in
+    let start = c in
     (start.requires.0, start.requires.1)
 
 slice-write-marks : tie.Need-bounds-marks-i invariant-loop decreases-loop
 slice-write-marks c =
-    let at = turn c.before in
-    omega (arith, at.loop-i.invariant.1, (entry at).requires.2, c.loop-i-test.true)
+    let at = c in
+    omega (arith, at.loop-i.invariant.1, at.requires.2, c.loop-i-test.true)
 
 add-i : tie.Need-overflow_add-i invariant-loop decreases-loop
 add-i c = search rules
@@ -53,11 +43,11 @@ loop-less c = search rules
 
 loop-again : tie.Need-loop-i-preserved invariant-loop decreases-loop
 loop-again c =
-    let at = turn c.before in
-    let args = (entry at).args in (
+    let at = c in
+    let args = at.args in (
       omega arith,
       simp length-set at.loop-i.invariant.1,
-      marks_more args.list.now args.words.now args.marks.now at.loop-i.marks at.loop-i.i c.mark.result (entry at).requires.2
+      marks_more args.list.now args.words.now args.marks.now at.loop-i.marks at.loop-i.i c.mark.result at.requires.2
           c.loop-i-test.true c.mark.ensures at.loop-i.invariant.2,
     )
 
@@ -66,7 +56,7 @@ same_length c = c.loop-i.invariant.1
 
 returns : tie.Need-returns invariant-loop decreases-loop
 returns c =
-    let start = entry c.before in
+    let start = c in
     marks_all start.args.list.now start.args.words.now _ _ _ start.requires.2 c.loop-i-test.false c.loop-i.invariant.2
 
 pub mark_by_heads_spec : {M : Type 1} → statement M

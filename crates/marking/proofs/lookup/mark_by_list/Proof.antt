@@ -4,16 +4,6 @@ use borrow.Author.Rules.{rules}
 use Rattle.marking.proofs.lookup.mark_by_list.Statement.{statement}
 use Rattle.marking.proofs.lookup.mark_by_list.Tie as tie
 
--- the test before the marks of an empty list, and the entry of the function
-abbrev tested : tie.After-mark_all → tie.Then-list-eq0
-tested c = c.before.before
-
-abbrev known : tie.Then-list-eq0 → tie.After-shared_slice_known-1
-known c = c.before.before.before
-
-abbrev entry : tie.Then-list-eq0 → tie.Start
-entry c = c.before.before.before.before
-
 mark-all-requires : tie.Need-mark_all-requires
 mark-all-requires c κs = search rules
 
@@ -23,8 +13,8 @@ same_length c = search rules
 returns : tie.Need-returns-then-list-eq0
 returns c =
     let marked = c.before.before in
-    let start = entry (tested marked) in
-    marks_none start.args.list.now start.args.words.now _ _ (tested marked).if-list-eq0.true start.requires.2 marked.mark_all.ensures
+    let start = marked in
+    marks_none start.args.list.now start.args.words.now _ _ marked.if-list-eq0.true start.requires.2 marked.mark_all.ensures
 
 slot-zeros-requires : tie.Need-slot_zeros-heads-requires
 slot-zeros-requires c κs = search rules

@@ -4,17 +4,13 @@ use borrow.Author.Rules.{rules}
 use Rattle.marking.proofs.lookup.mark_by_search.Statement.{statement}
 use Rattle.marking.proofs.lookup.mark_by_search.Tie as tie
 
--- the entry of the function, from behind the search
-abbrev entry : tie.After-lower_bound-at → tie.Start
-entry c = c.before.before
-
 lower-bound-requires : tie.Need-lower_bound-at-requires
 lower-bound-requires c κs = search rules
 
 returns : tie.Need-returns-then-list-at
 returns c =
-    let end = c.before in
-    mark_beyond _ (entry end).requires _ _ end.lower_bound-at.ensures c.if-list-at.true
+    let end = c in
+    mark_beyond _ end.requires _ _ end.lower_bound-at.ensures c.if-list-at.true
 
 mul-if2 : tie.Need-offset_bounds-list-at
 mul-if2 c = search rules
@@ -24,13 +20,13 @@ shared-slice-read-if2 c = search rules
 
 returns-2 : tie.Need-returns-then-list-at-2
 returns-2 c =
-    let end = c.before.before.before in
-    mark_at (entry end).args.list.now _ _ c.if-list-at.false c.if-list-at-2.true
+    let end = c in
+    mark_at end.args.list.now _ _ c.if-list-at.false c.if-list-at-2.true
 
 returns-3 : tie.Need-returns-else-list-at-2
 returns-3 c =
-    let end = c.before.before.before in
-    mark_other _ (entry end).requires _ _ end.lower_bound-at.ensures c.if-list-at-2.false
+    let end = c in
+    mark_other _ end.requires _ _ end.lower_bound-at.ensures c.if-list-at-2.false
 
 pub mark_by_search_spec : {M : Type 1} → statement M
 mark_by_search_spec =

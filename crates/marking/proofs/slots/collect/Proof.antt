@@ -21,32 +21,20 @@ decreases-loop words limit slots out₀ at₀ i₀ out at i = length words - i
 abbrev slotted : tie.After-crowded-at invariant-loop decreases-loop → tie.After-slot-s invariant-loop decreases-loop
 slotted c = c.before.before.before
 
-abbrev tested : tie.After-slot-s invariant-loop decreases-loop → tie.In-loop-i invariant-loop decreases-loop
-tested c = c.before.before
-
-abbrev turn : tie.After-slot-s invariant-loop decreases-loop → tie.At-loop-i invariant-loop decreases-loop
-turn c = c.before.before.before
-
-abbrev known : tie.At-loop-i invariant-loop decreases-loop → tie.After-shared_slice_known-1 invariant-loop decreases-loop
-known c = c.before.before.before
-
-abbrev entry : tie.At-loop-i invariant-loop decreases-loop → tie.Start invariant-loop decreases-loop
-entry c = c.before.before.before.before
-
 -- the step is that of the word's slot
 step : (c : tie.After-crowded-at invariant-loop decreases-loop) →
-    (let at = turn (slotted c) in c.crowded-at.result
-    ≡ bit (crowds (entry at).args.words.now (entry at).args.limit (get_or (entry at).args.words.now at.loop-i.i 0)))
+    (let at = c in c.crowded-at.result
+    ≡ bit (crowds at.args.words.now at.args.limit (get_or at.args.words.now at.loop-i.i 0)))
 step c =
     let found = slotted c in
-    let start = entry (turn found) in
+    let start = found in
     c.crowded-at.ensures.0
     ∙ ap (λ (n : ℕ). bit (ltb start.args.limit n))
     (start.requires.1 _ found.slot-s.ensures.1 ∙ ap (in_slot start.args.words.now) found.slot-s.ensures.0)
 
 -- there is room for one word more
 room : (c : tie.After-slot-s invariant-loop decreases-loop) → c.loop-i.at < length c.loop-i.out
-room c = omega (arith, c.loop-i.invariant.0, c.loop-i.invariant.1.few, c.loop-i-test.true, (entry (turn c)).requires.0.1)
+room c = omega (arith, c.loop-i.invariant.0, c.loop-i.invariant.1.few, c.loop-i-test.true, c.requires.0.1)
 
 loop-holds : tie.Need-loop-i-init invariant-loop decreases-loop
 loop-holds c = (refl, collected_none _ _ _)
@@ -92,9 +80,9 @@ loop-less c = search rules
 
 loop-again : tie.Need-loop-i-preserved invariant-loop decreases-loop
 loop-again c =
-    let found = slotted c in
-    let at = (turn found).loop-i in
-    (simp length-set at.invariant.0, collected_more _ _ _ _ _ _ at.invariant.1 (tested found).loop-i-test.true (omega arith) (step c) c.crowded-at.ensures.1)
+    let found = c in
+    let at = found.loop-i in
+    (simp length-set at.invariant.0, collected_more _ _ _ _ _ _ at.invariant.1 found.loop-i-test.true (omega arith) (step c) c.crowded-at.ensures.1)
 
 same_length : tie.Need-shape_of-out invariant-loop decreases-loop
 same_length c = c.loop-i.invariant.0

@@ -16,15 +16,6 @@ abbrev decreases-loop : tie.decreases-loop-i
 decreases-loop words slots₀ i₀ slots i = length words - i
 
 -- the places of a turn, from its end back to its test, and the entry of the function
-abbrev tested : tie.After-slice_known-in-loop-i-1 invariant-loop decreases-loop → tie.In-loop-i invariant-loop decreases-loop
-tested c = c.before.before.before
-
-abbrev turn : tie.After-slice_known-in-loop-i-1 invariant-loop decreases-loop → tie.At-loop-i invariant-loop decreases-loop
-turn c = c.before.before.before.before
-
-abbrev entry : tie.At-loop-i invariant-loop decreases-loop → tie.Start invariant-loop decreases-loop
-entry c = c.before.before.before
-
 loop-holds : tie.Need-loop-i-init invariant-loop decreases-loop
 loop-holds c = tallied_none _ _ _ _ c.requires.0
 
@@ -44,7 +35,7 @@ slice-read-slots : tie.Need-bounds-slots-s invariant-loop decreases-loop
 slice-read-slots c = search rules
 
 add-slots : tie.Need-overflow_add-slots invariant-loop decreases-loop
-add-slots c = omega (arith, tallied_le _ _ _ _ _ _ c.loop-i.invariant c.slot-s.ensures.1, (entry (turn c)).requires.1)
+add-slots c = omega (arith, tallied_le _ _ _ _ _ _ c.loop-i.invariant c.slot-s.ensures.1, c.requires.1)
 
 mul-slots-2 : tie.Need-offset_bounds-slots-s-in-loop-i invariant-loop decreases-loop
 mul-slots-2 c = search rules
@@ -64,7 +55,7 @@ loop-again c =
 
 same_length : tie.Need-shape_of-slots invariant-loop decreases-loop
 same_length c =
-    let start = entry c.before in
+    let start = c in
     c.loop-i.invariant.long ∙ sym (tallied_none slot_of slot_count start.args.words.now _ start.requires.0).long
 
 returns : tie.Need-returns invariant-loop decreases-loop

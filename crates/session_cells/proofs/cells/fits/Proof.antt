@@ -7,9 +7,6 @@ use Rattle.session_cells.specs.Passing.{fits}
 use Rattle.session_cells.proofs.cells.fits.Statement.{statement}
 use Rattle.session_cells.proofs.cells.fits.Tie as tie
 
-abbrev entry : tie.Else-to-gt-HIT_LIMIT → tie.Start
-entry d = d.before.before.before
-
 returns : tie.Need-returns-then-part-ne-PART_LENGTH
 unfolding fits
 returns c = simp (ne_eqb _ _ c.if-part-ne-PART_LENGTH.true)
@@ -27,15 +24,15 @@ add-if3 c = search rules
 returns-3 : tie.Need-returns-then-wide-to
 unfolding fits
 returns-3 c =
-    let d = c.before.before in
-    let past : (entry d).args.line.column + 1 < (entry d).args.to = omega arith in
+    let d = c in
+    let past : d.args.line.column + 1 < d.args.to = omega arith in
     simp (eq-eqb _ _ d.if-part-ne-PART_LENGTH.false, le-leb _ _ d.if-to-gt-HIT_LIMIT.false, lt-leb _ _ past)
 
 returns-4 : tie.Need-returns
 unfolding fits
 returns-4 c =
-    let d = c.before.before in
-    let within : (entry d).args.to ≤ (entry d).args.line.column + 1 = omega arith in
+    let d = c in
+    let within : d.args.to ≤ d.args.line.column + 1 = omega arith in
     simp (eq-eqb _ _ d.if-part-ne-PART_LENGTH.false, le-leb _ _ d.if-to-gt-HIT_LIMIT.false, le-leb _ _ within)
 
 pub fits_spec : {M : Type 1} → statement M

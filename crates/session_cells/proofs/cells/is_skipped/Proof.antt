@@ -50,7 +50,7 @@ matters-fraction-requires c κs = search rules
 
 returns-2 : tie.Need-returns-then-line
 returns-2 c =
-    let d = c.before.before.before in
+    let d = c in
     let args = d.args in
     ap not c.matters_fraction.ensures
     ∙ by-bound args.line args.to args.row args.m args.highest _ args.part.now d.rest_end-end.ensures d.if-to-end.false
@@ -61,7 +61,7 @@ score-word-requires c κs = search rules
 returns-3 : tie.Need-returns
 unfolding line_score
 returns-3 c =
-    let d = c.before.before.before in
+    let d = c in
     let args = d.args in
     not-at-most c.score_word.result args.highest
     ∙ ap not (sym (number_matters args.line args.highest args.m _ c.if-line.false _ c.score_word.ensures refl))

@@ -7,15 +7,12 @@ use Rattle.session_cells.proofs.Fitting.{fits_says, pass_fits, pass_none}
 use Rattle.session_cells.proofs.cells.pass.Statement.{statement}
 use Rattle.session_cells.proofs.cells.pass.Tie as tie
 
-abbrev entry : tie.After-fits2 → tie.Start
-entry c = c.before.before.before
-
 fits-requires : tie.Need-fits-requires
 fits-requires c κs = search rules
 
 -- `fits` has said so
-fitting : (d : tie.Then-fits) → (let args = (entry d.before).args in fits args.line args.part.now args.from args.to ≡ true)
-fitting d = sym d.fits2.ensures ∙ d.if1.true
+fitting : (d : tie.Then-fits) → (let args = d.args in fits args.line args.part.now args.from args.to ≡ true)
+fitting d = sym d.fits.ensures ∙ d.if-fits.true
 
 pass-blocks-requires : tie.Need-pass_blocks-requires
 pass-blocks-requires c κs = fits_says _ _ _ _ (fitting c.before)
@@ -27,7 +24,7 @@ returns : tie.Need-returns-then-fits
 returns c =
     let passed = c.before.before in
     let d = passed.before.before in
-    let args = (entry d.before).args in
+    let args = d.args in
     let e = sym (pass_fits args.line args.from args.to args.m args.highest args.part.now (fitting d)) in
     (passed.pass_blocks.ensures.0 ∙ ap (λ (u : Update). u.answer) e, passed.pass_blocks.ensures.1 ∙ ap (λ (u : Update). u.part) e)
 
@@ -39,10 +36,10 @@ same-length-2 c = search rules
 
 returns-2 : tie.Need-returns
 returns-2 c =
-    let d = c.before.before in
-    let args = (entry d).args in
+    let d = c in
+    let args = d.args in
     let e = sym (pass_none args.line args.from args.to args.m args.highest args.part.now
-    (sym d.fits2.ensures ∙ c.if-fits.false)) in
+    (sym d.fits.ensures ∙ c.if-fits.false)) in
     (c.none_passed.ensures ∙ ap (λ (u : Update). u.answer) e, ap (λ (u : Update). u.part) e)
 
 pub pass_spec : {M : Type 1} → statement M

@@ -32,22 +32,22 @@ module _ (d : tie.After-pass_rest-p invariant-loop decreases-loop) where
 
   -- what the turn has done
   abbrev rest : Update
-  rest = pass_rest entry.args.line entry.args.to turn.loop.i turn.loop.m turn.loop.highest turn.loop.part
+  rest = pass_rest entry.args.line entry.args.to turn.loop-i.i turn.loop-i.m turn.loop-i.highest turn.loop-i.part
 
   abbrev update : Update
-  update = record { answer = d.pass_rest.result; part = d.pass_rest.last.0 }
+  update = record { answer = d.pass_rest-p.result; part = d.pass_rest-p.new.part }
 
   is-rest : update ≡ rest
-  is-rest = λ j. record { answer = d.pass_rest.ensures.0 j; part = d.pass_rest.ensures.1 j }
+  is-rest = λ j. record { answer = d.pass_rest-p.ensures.0 j; part = d.pass_rest-p.ensures.1 j }
 
-  finds : {t : Bool} → d.pass_rest.result.found ≡ t → rest.answer.found ≡ t
+  finds : {t : Bool} → d.pass_rest-p.result.found ≡ t → rest.answer.found ≡ t
   finds e = sym (ap (λ (u : Update). u.answer.found) is-rest) ∙ e
 
-  bounds : (suc turn.loop.i ≤ d.pass_rest.result.row) × (d.pass_rest.result.row ≤ entry.args.to)
+  bounds : (suc turn.loop-i.i ≤ d.pass_rest-p.result.row) × (d.pass_rest-p.result.row ≤ entry.args.to)
   bounds =
-      let h = tested.loop-test.true in
+      let h = tested.loop-i-test.true in
       let b = entry.requires.3 in
-      subst (λ (u : Update). (suc turn.loop.i ≤ u.answer.row) × (u.answer.row ≤ entry.args.to)) (sym is-rest)
+      subst (λ (u : Update). (suc turn.loop-i.i ≤ u.answer.row) × (u.answer.row ≤ entry.args.to)) (sym is-rest)
       (rest_moved _ _ _ _ _ _ h b, rest_within _ _ _ _ _ _ h b)
 
 -- the call, once what it left is known
@@ -66,7 +66,7 @@ same_length c = search rules
 returns : tie.Need-returns-then-p invariant-loop decreases-loop
 returns c =
     let d = passed c.before in
-    let e = is-rest d ∙ sym (blocks_stop _ _ _ _ _ _ (tested d).loop-test.true (entry d).requires.3 (finds d c.if-p.true)) ∙ (turn d).loop.invariant.2 in
+    let e = is-rest d ∙ sym (blocks_stop _ _ _ _ _ _ (tested d).loop-i-test.true (entry d).requires.3 (finds d c.if-p.true)) ∙ (turn d).loop-i.invariant.2 in
     (ap (λ (u : Update). u.answer) e, ap (λ (u : Update). u.part) e)
 
 loop-less : tie.Need-loop-i-smaller invariant-loop decreases-loop
@@ -80,9 +80,9 @@ loop-again c =
     let args = (entry d).args in
     let e = ap (λ (u : Update). pass_blocks args.line (args.to - u.answer.row) args.to u.answer.row u.answer.m u.answer.highest u.part)
     (is-rest d)
-    ∙ sym (blocks_on _ _ _ _ _ _ (tested d).loop-test.true (entry d).requires.3 (finds d c.if-p.false))
-    ∙ (turn d).loop.invariant.2 in
-    ((bounds d).1, d.pass_rest-p.auto.part ∙ (turn d).loop.invariant.1, e)
+    ∙ sym (blocks_on _ _ _ _ _ _ (tested d).loop-i-test.true (entry d).requires.3 (finds d c.if-p.false))
+    ∙ (turn d).loop-i.invariant.2 in
+    ((bounds d).1, d.pass_rest-p.auto.part ∙ (turn d).loop-i.invariant.1, e)
 
 none-passed-requires : tie.Need-none_passed-requires invariant-loop decreases-loop
 none-passed-requires c κs = search rules
@@ -92,7 +92,7 @@ same-length-2 c = search rules
 
 returns-2 : tie.Need-returns invariant-loop decreases-loop
 returns-2 c =
-    let t = c.before.before in
+    let t = c in
     let n : t.args.to - t.loop-i.i ≡ 0 = omega arith in
     let e = rw n at t.loop-i.invariant.2 in
     (c.none_passed.ensures ∙ ap (λ (u : Update). u.answer) e, ap (λ (u : Update). u.part) e)

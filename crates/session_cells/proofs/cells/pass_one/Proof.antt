@@ -4,19 +4,15 @@ use native.Mathlib.Omega.{arith}
 use mathlib.Core.Path.{◌≡◌, sym, ap, ◌∙◌}
 use mathlib.Core.Bool.{true}
 use borrow.Author.Rules.{rules}
-use borrow.Author.Tests.{not_true, not-false}
+use borrow.Author.Tests.{not-true, not-false}
 use Rattle.session_cells.specs.Passing.{Update, fits}
 use Rattle.session_cells.proofs.Fitting.{fits_says, fits_past, cell_fits, cell_none}
 use Rattle.session_cells.proofs.cells.pass_one.Statement.{statement}
 use Rattle.session_cells.proofs.cells.pass_one.Tie as tie
 
--- the entry of the function, once `fits` has been asked
-abbrev entry : tie.After-fits2 → tie.Start
-entry c = let tried = c.before.before in tried.before.before
-
 -- `fits` has said so
-fitting : (d : tie.Else-not-fits) → (let args = (entry d.before).args in fits args.line args.part.now args.row (args.row + 1) ≡ true)
-fitting d = sym d.fits2.ensures ∙ not-false _ d.if2.false
+fitting : (d : tie.Else-not-fits) → (let args = d.args in fits args.line args.part.now args.row (args.row + 1) ≡ true)
+fitting d = sym d.fits.ensures ∙ not-false _ d.if-not-fits.false-raw
 
 none-passed-requires : tie.Need-none_passed-requires
 none-passed-requires c κs = search rules
@@ -42,10 +38,10 @@ same_length c = search rules
 
 returns-2 : tie.Need-returns-then-not-fits
 returns-2 c =
-    let d = c.before.before in
-    let args = (entry d).args in
+    let d = c in
+    let args = d.args in
     let e = sym (cell_none args.line args.row args.m args.highest args.part.now
-    (sym d.fits2.ensures ∙ not_true _ c.if-not-fits.true)) in
+    (sym d.fits.ensures ∙ not-true _ c.if-not-fits.true-raw)) in
     (c.none_passed-then-not-fits.ensures ∙ ap (λ (u : Update). u.answer) e, ap (λ (u : Update). u.part) e)
 
 pass-row-fraction-requires : tie.Need-pass_row_fraction-requires
@@ -61,7 +57,7 @@ returns-3 : tie.Need-returns-then-line
 returns-3 c =
     let passed = c.before.before in
     let d = passed.before.before.before in
-    let args = (entry d.before).args in
+    let args = d.args in
     let e = sym (cell_fits args.line args.row args.m args.highest args.part.now (fitting d)) in
     (passed.pass_row_fraction.ensures.0 ∙ ap (λ (u : Update). u.answer) e, passed.pass_row_fraction.ensures.1 ∙ ap (λ (u : Update). u.part) e)
 
@@ -78,7 +74,7 @@ returns-4 : tie.Need-returns
 returns-4 c =
     let passed = c.before.before in
     let d = passed.before.before.before in
-    let args = (entry d.before).args in
+    let args = d.args in
     let e = sym (cell_fits args.line args.row args.m args.highest args.part.now (fitting d)) in
     (passed.pass_row.ensures.0 ∙ ap (λ (u : Update). u.answer) e, passed.pass_row.ensures.1 ∙ ap (λ (u : Update). u.part) e)
 

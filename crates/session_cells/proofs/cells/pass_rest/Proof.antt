@@ -10,7 +10,7 @@ use Rattle.session_cells.proofs.cells.pass_rest.Statement.{statement}
 use Rattle.session_cells.proofs.cells.pass_rest.Tie as tie
 
 abbrev entry : tie.After-is_skipped → tie.Start
-entry d = d.before.before.before
+entry d = d.before.before
 
 abbrev tested : tie.After-smaller-end → tie.Else-is_skipped
 tested c = c.before.before
@@ -33,7 +33,7 @@ module _ (c : tie.After-smaller-end) where
   is-rest =
       let a = began.args in
       ap (λ (n : ℕ). pass_rows a.line (n - a.row) a.row a.m a.highest a.part.now) ends
-      ∙ sym (rest_rows a.line a.to a.row a.m a.highest a.part.now (sym (tested c).is_skipped.ensures ∙ (tested c).if-is_skipped.false))
+      ∙ sym (rest_rows a.line a.to a.row a.m a.highest a.part.now (sym c.is_skipped.ensures ∙ c.if-is_skipped.false))
 
 is-skipped-requires : tie.Need-is_skipped-requires
 is-skipped-requires c κs = search rules
@@ -46,8 +46,8 @@ same_length c = search rules
 
 returns : tie.Need-returns-then-is_skipped
 returns c =
-    let d = c.before.before in
-    let args = (entry d.before).args in
+    let d = c in
+    let args = d.args in
     let e = sym (rest_skip args.line args.to args.row args.m args.highest args.part.now
     (sym d.is_skipped.ensures ∙ d.if-is_skipped.true)) in
     (c.skip.ensures ∙ ap (λ (u : Update). u.answer) e, ap (λ (u : Update). u.part) e)

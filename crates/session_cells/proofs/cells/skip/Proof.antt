@@ -43,7 +43,7 @@ none-passed-requires c κs = search rules
 returns : tie.Need-returns
 unfolding skipped
 returns c =
-    let d = c.before in
+    let d = c in
     c.none_passed.ensures ∙ rw (d.rest_end.ensures, d.greater.ensures, next_start)
 
 pub skip_spec : {M : Type 1} → statement M

@@ -50,7 +50,7 @@ same_length c = search rules
 returns-2 : tie.Need-returns
 unfolding entered
 returns-2 c =
-    let d = c.before.before in
+    let d = c in
     simp (sym d.at_most_fraction.ensures ∙ d.if-at_most_fraction.false, c.greater_fraction-top.ensures)
 
 pub enter_fraction_spec : {M : Type 1} → statement M

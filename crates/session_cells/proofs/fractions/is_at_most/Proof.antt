@@ -15,13 +15,13 @@ in-64-bits a b k l =
 
 mul-result : tie.Need-overflow_mul-result
 mul-result c =
-    let began = c.before in
+    let began = c in
     let l : began.args.top.m ≤ divisor_span = omega (arith, began.requires.2) in
     record { fits = (in-64-bits _ _ began.ranges.d.fits l).1 }
 
 mul-result-2 : tie.Need-overflow_mul-result-2
 mul-result-2 c =
-    let began = c.before.before in
+    let began = c in
     let l : began.args.top.divisor ≤ divisor_span = omega (arith, began.requires.3) in
     record { fits = (in-64-bits _ _ began.ranges.m.fits l).0 }
 

@@ -2,31 +2,24 @@
 use Prim.Native.Nat.{ℕ}
 use mathlib.Core.Path.{◌≡◌, refl, sym, ap, ◌∙◌}
 use borrow.Author.Rules.{rules}
-use borrow.Author.Tests.{not_true, not-false}
+use borrow.Author.Tests.{not-true, not-false}
 use lib.ListN.{get_or}
 use Rattle.session_cells.specs.Passing.{line_score, in_reach, Update}
 use Rattle.session_cells.proofs.Passing.{AtCell, greater_of, entered_of, pass_low, pass_last}
 use Rattle.session_cells.proofs.fractions.pass_row_fraction.Statement.{statement}
 use Rattle.session_cells.proofs.fractions.pass_row_fraction.Tie as tie
 
--- the calls at the cell once it is passed, and the entry of the function
-abbrev compared : tie.After-lowered-rest → tie.After-below-one
-compared d = d.before.before.before
-
-abbrev entry : tie.After-lowered-rest → tie.Start
-entry d = let read = (compared d).before.before in read.before.before
-
 -- what is known at the cell before it is tested, with its score word
 at_cell : (d : tie.After-lowered-rest) (s : ℕ)
-    → s ≡ line_score (entry d).args.line (entry d).args.m (get_or (entry d).args.part.now (entry d).args.row 0)
-    → AtCell (entry d).args.line (entry d).args.row (entry d).args.m (entry d).args.highest (entry d).args.part.now
-    s (compared d).below.result d.greater_fraction.result d.lowered.result
+    → s ≡ line_score d.args.line d.args.m (get_or d.args.part.now d.args.row 0)
+    → AtCell d.args.line d.args.row d.args.m d.args.highest d.args.part.now
+    s d.below-one.result d.greater_fraction-seen.result d.lowered-rest.result
 unfolding in_reach
 at_cell d s e = record {
   score = e;
-  reach = (compared d).below.ensures;
-  known = greater_of (entry d).args.line _ (entry d).requires.2 _ _ d.greater_fraction.ensures;
-  lower = d.lowered.ensures;
+  reach = d.below-one.ensures;
+  known = greater_of d.args.line _ d.requires.2 _ _ d.greater_fraction-seen.ensures;
+  lower = d.lowered-rest.ensures;
 }
 
 mul-x : tie.Need-offset_bounds-part-row
@@ -71,7 +64,7 @@ matters-fraction-requires c κs = search rules
 returns : tie.Need-returns-then-not-matters_fraction
 returns c =
     let t = c.before in
-    let e = sym (pass_low _ _ _ _ _ _ _ _ _ (at_cell t.before _ refl) 0 (sym t.matters_fraction.ensures ∙ not_true _ c.if-not-matters_fraction.true)) in
+    let e = sym (pass_low _ _ _ _ _ _ _ _ _ (at_cell t.before _ refl) 0 (sym t.matters_fraction.ensures ∙ not-true _ c.if-not-matters_fraction.true-raw)) in
     (ap (λ (u : Update). u.answer) e, ap (λ (u : Update). u.part) e)
 
 score-word-requires : tie.Need-score_word-s-requires
@@ -98,10 +91,10 @@ returns-2 c =
     let tested = scored.before in
     let t = tested.before in
     let d = t.before in
-    let line = (entry d).args.line in
-    let kind = (entry d).requires.2 in
+    let line = d.args.line in
+    let kind = d.requires.2 in
     let e = sym (pass_last _ _ _ _ _ _ _ _ _ (at_cell d scored.score_word-s.result scored.score_word-s.ensures)
-    recorded.enter_fraction.new.part c.greater_fraction.result (sym t.matters_fraction.ensures ∙ not-false _ tested.if-not-matters_fraction.false)
+    recorded.enter_fraction.new.part c.greater_fraction.result (sym t.matters_fraction.ensures ∙ not-false _ tested.if-not-matters_fraction.false-raw)
     (entered_of line _ kind _ _ _ _ recorded.enter_fraction.ensures) (greater_of line _ kind _ _ c.greater_fraction.ensures)
     j.is_reasonable.result j.is_reasonable.ensures) in
     (ap (λ (u : Update). u.answer) e, ap (λ (u : Update). u.part) e)

@@ -19,21 +19,14 @@ invariant-loop part₀ line from to m0 highest0 m₀ highest₀ i₀ part m high
 abbrev decreases-loop : tie.decreases-loop-i
 decreases-loop part₀ line from to m0 highest0 m₀ highest₀ i₀ part m highest i = to - i
 
--- a turn that `quiet_fractions` has been called in: its head, and the entry of the function
-abbrev turn : tie.After-quiet_fractions-q invariant-loop decreases-loop → tie.At-loop-i invariant-loop decreases-loop
-turn d = d.before.before.before
-
-abbrev entry : tie.After-quiet_fractions-q invariant-loop decreases-loop → tie.Start invariant-loop decreases-loop
-entry d = (turn d).before.before
-
 -- the pause is behind a row, within the rows that are asked for
 paced : (d : tie.After-quiet_fractions-q invariant-loop decreases-loop)
-    → ((turn d).loop.i < d.quiet_fractions.result.row) × (d.quiet_fractions.result.row ≤ (entry d).args.to)
+    → (d.loop-i.i < d.quiet_fractions-q.result.row) × (d.quiet_fractions-q.result.row ≤ d.args.to)
 paced d =
-    let t = (turn d).loop in
-    let q = d.quiet_fractions in
-    let p = pace (entry d).args.line (entry d).args.to t.i t.m t.highest t.part q.result t.invariant.0 q.ensures in
-    let l = d.loop-test.true in
+    let t = d.loop-i in
+    let q = d.quiet_fractions-q in
+    let p = pace d.args.line d.args.to t.i t.m t.highest t.part q.result t.invariant.0 q.ensures in
+    let l = d.loop-i-test.true in
     (omega (arith, p.moved), omega (arith, p.to, t.invariant.0))
 
 -- the calls of a turn, from the one before its test back to `quiet_fractions`
@@ -59,7 +52,7 @@ sub-enter-fraction c = omega (arith, (paced c.before).0)
 enter-fraction-requires : tie.Need-enter_fraction-requires invariant-loop decreases-loop
 enter-fraction-requires c κs =
     let d = c.before in
-    ((turn d).loop-i.invariant.1, omega (arith, (paced d).0, (paced d).1, (entry d).requires.2))
+    (d.loop-i.invariant.1, omega (arith, (paced d).0, (paced d).1, d.requires.2))
 
 greater-fraction-requires : tie.Need-greater_fraction-highest-requires invariant-loop decreases-loop
 greater-fraction-requires c κs = search rules
@@ -76,18 +69,18 @@ is-reasonable-requires c κs = search rules
 same_length : tie.Need-shape_of-part-then-is_reasonable invariant-loop decreases-loop
 same_length c =
     let b = c.before.before in
-    (recorded b).enter_fraction.auto.0 ∙ (turn (paused b)).loop.invariant.1 ∙ sym (entry (paused b)).requires.0
+    (recorded b).enter_fraction.auto.part ∙ (paused b).loop-i.invariant.1 ∙ sym (paused b).requires.0
 
 returns : tie.Need-returns-then-is_reasonable invariant-loop decreases-loop
 returns c =
     let j = c.before in
     let b = j.before in
     let d = paused b in
-    let line = (entry d).args.line in
-    let kind = (entry d).requires.3 in
-    let e = sym (pause_stop _ _ _ _ _ _ _ (turn d).loop.invariant.0 d.quiet_fractions.ensures _ _ _ b.below.ensures
-    (greater_of line _ kind _ _ (raised b).greater_fraction.ensures)
-    (entered_of line _ kind _ _ _ _ (recorded b).enter_fraction.ensures) (sym j.is_reasonable.ensures ∙ c.if-is_reasonable.true)) ∙ (turn d).loop.invariant.2 in
+    let line = d.args.line in
+    let kind = d.requires.3 in
+    let e = sym (pause_stop _ _ _ _ _ _ _ d.loop-i.invariant.0 d.quiet_fractions-q.ensures _ _ _ b.below.ensures
+    (greater_of line _ kind _ _ (raised b).greater_fraction-highest.ensures)
+    (entered_of line _ kind _ _ _ _ (recorded b).enter_fraction.ensures) (sym j.is_reasonable.ensures ∙ c.if-is_reasonable.true)) ∙ d.loop-i.invariant.2 in
     (ap (λ (u : Update). u.answer) e, ap (λ (u : Update). u.part) e)
 
 loop-less : tie.Need-loop-i-smaller invariant-loop decreases-loop
@@ -100,12 +93,12 @@ loop-again c =
     let j = c.before in
     let b = j.before in
     let d = paused b in
-    let line = (entry d).args.line in
-    let kind = (entry d).requires.3 in
-    let e = sym (pause_on _ _ _ _ _ _ _ (turn d).loop.invariant.0 d.quiet_fractions.ensures _ _ _ b.below.ensures
-    (greater_of line _ kind _ _ (raised b).greater_fraction.ensures)
-    (entered_of line _ kind _ _ _ _ (recorded b).enter_fraction.ensures) (sym j.is_reasonable.ensures ∙ c.if-is_reasonable.false)) ∙ (turn d).loop.invariant.2 in
-    ((paced d).1, (recorded b).enter_fraction.auto.0 ∙ (turn d).loop.invariant.1, e)
+    let line = d.args.line in
+    let kind = d.requires.3 in
+    let e = sym (pause_on _ _ _ _ _ _ _ d.loop-i.invariant.0 d.quiet_fractions-q.ensures _ _ _ b.below.ensures
+    (greater_of line _ kind _ _ (raised b).greater_fraction-highest.ensures)
+    (entered_of line _ kind _ _ _ _ (recorded b).enter_fraction.ensures) (sym j.is_reasonable.ensures ∙ c.if-is_reasonable.false)) ∙ d.loop-i.invariant.2 in
+    ((paced d).1, (recorded b).enter_fraction.auto.part ∙ d.loop-i.invariant.1, e)
 
 same-length-2 : tie.Need-shape_of-part invariant-loop decreases-loop
 same-length-2 c = search rules

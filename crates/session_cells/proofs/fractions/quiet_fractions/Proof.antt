@@ -24,50 +24,41 @@ decreases-loop part line from to m0 highest0 m₀ top₀ i₀ m top i = to - i
 abbrev known : tie.After-lowered-m invariant-loop decreases-loop → tie.After-raised-top invariant-loop decreases-loop
 known d = d.before.before
 
-abbrev tested : tie.After-lowered-m invariant-loop decreases-loop → tie.In-loop-i invariant-loop decreases-loop
-tested d = let row = (known d).before.before in row.before.before
-
-abbrev turn : tie.After-lowered-m invariant-loop decreases-loop → tie.At-loop-i invariant-loop decreases-loop
-turn d = (tested d).before
-
-abbrev entry : tie.After-lowered-m invariant-loop decreases-loop → tie.Start invariant-loop decreases-loop
-entry d = (turn d).before.before.before
-
 module _ (d : tie.After-lowered-m invariant-loop decreases-loop) where
   -- the index of the cell's left end
   abbrev index : ℕ
-  index = get_or (entry d).args.part.now (turn d).loop.i 0
+  index = get_or d.args.part.now d.loop-i.i 0
 
   -- what is known at a cell before it is tested, with its score word
-  at_cell : (s : ℕ) → s ≡ line_score (entry d).args.line (turn d).loop.m index
-      → AtCell (entry d).args.line (turn d).loop.i (turn d).loop.m (turn d).loop.top.word (entry d).args.part.now
-      s d.below.result (known d).raised.result.word d.lowered.result
+  at_cell : (s : ℕ) → s ≡ line_score d.args.line d.loop-i.m index
+      → AtCell d.args.line d.loop-i.i d.loop-i.m d.loop-i.top.word d.args.part.now
+      s d.below.result d.raised-top.result.word d.lowered-m.result
   unfolding in_reach
   at_cell s e = record {
     score = e;
     reach = d.below.ensures;
-    known = greater_of (entry d).args.line _ (entry d).requires.3 _ _ (known d).raised.ensures.0;
-    lower = d.lowered.ensures;
+    known = greater_of d.args.line _ d.requires.3 _ _ d.raised-top.ensures.0;
+    lower = d.lowered-m.ensures;
   }
 
   -- the rows behind this one
   abbrev left : ℕ
-  left = (entry d).args.to - ((turn d).loop.i + 1)
+  left = d.args.to - (d.loop-i.i + 1)
 
   -- the whole, from this row on
-  from-here : quiet_rows (entry d).args.line (suc left) (turn d).loop.i (turn d).loop.m (turn d).loop.top.word (entry d).args.part.now
-      ≡ quiet_rows (entry d).args.line ((entry d).args.to - (entry d).args.from) (entry d).args.from (entry d).args.m0
-      (entry d).args.highest0 (entry d).args.part.now
+  from-here : quiet_rows d.args.line (suc left) d.loop-i.i d.loop-i.m d.loop-i.top.word d.args.part.now
+      ≡ quiet_rows d.args.line (d.args.to - d.args.from) d.args.from d.args.m0
+      d.args.highest0 d.args.part.now
   from-here =
-      let n : (entry d).args.to - (turn d).loop.i ≡ suc left = omega (arith, (tested d).loop-test.true) in
-      rw n at (turn d).loop.invariant.2
+      let n : d.args.to - d.loop-i.i ≡ suc left = omega (arith, d.loop-i-test.true) in
+      rw n at d.loop-i.invariant.2
 
 -- whether the cell matters, by the answer of the test
 told : (t : tie.After-is_at_most invariant-loop decreases-loop) {answer : Bool} → t.is_at_most.result ≡ answer
-    → (let d = t.before.before in matters (entry d).args.line (known d).raised.result.word (turn d).loop.m (index d) ≡ answer)
+    → (let d = t.before.before in matters d.args.line d.raised-top.result.word d.loop-i.m (index d) ≡ answer)
 unfolding line_divisor
 told t e =
-    let began = entry t.before.before in
+    let began = t in
     fraction_matters began.args.line _ _ _ began.requires.3 t.divisor.result t.divisor.ensures
     (sym t.is_at_most.ensures ∙ e)
 
@@ -141,7 +132,7 @@ loop-again : tie.Need-loop-i-preserved invariant-loop decreases-loop
 loop-again c =
     let t = c.before in
     let d = t.before.before in
-    (search rules, (known d).raised-top.ensures.1, sym (quiet_on _ _ _ _ _ _ _ _ _ (at_cell d _ refl) (left d) (told t c.if-is_at_most.false)) ∙ from-here d)
+    (search rules, d.raised-top.ensures.1, sym (quiet_on _ _ _ _ _ _ _ _ _ (at_cell d _ refl) (left d) (told t c.if-is_at_most.false)) ∙ from-here d)
 
 returns-2 : tie.Need-returns invariant-loop decreases-loop
 returns-2 c =

@@ -10,32 +10,22 @@ use Rattle.session_cells.proofs.Passing.{AtCell, greater_of, entered_of, number_
 use Rattle.session_cells.proofs.rows.pass_row.Statement.{statement}
 use Rattle.session_cells.proofs.rows.pass_row.Tie as tie
 
--- the calls at the cell once it is passed, and the entry of the function
-abbrev compared : tie.After-lowered-rest → tie.After-below-one
-compared d = d.before.before.before
-
-abbrev scored : tie.After-lowered-rest → tie.After-score_word-s
-scored d = (compared d).before.before
-
-abbrev entry : tie.After-lowered-rest → tie.Start
-entry d = (scored d).before.before.before
-
 -- what is known at the cell before it is tested
 at_cell : (d : tie.After-lowered-rest)
-    → AtCell (entry d).args.line (entry d).args.row (entry d).args.m (entry d).args.highest (entry d).args.part.now
-    (scored d).score_word.result (compared d).below.result d.greater_number.result d.lowered.result
+    → AtCell d.args.line d.args.row d.args.m d.args.highest d.args.part.now
+    d.score_word-s.result d.below-one.result d.greater_number-seen.result d.lowered-rest.result
 unfolding line_score in_reach
 at_cell d = record {
-  score = (scored d).score_word.ensures;
-  reach = (compared d).below.ensures;
-  known = greater_of (entry d).args.line _ (entry d).requires.2 _ _ d.greater_number.ensures;
-  lower = d.lowered.ensures;
+  score = d.score_word-s.ensures;
+  reach = d.below-one.ensures;
+  known = greater_of d.args.line _ d.requires.2 _ _ d.greater_number-seen.ensures;
+  lower = d.lowered-rest.ensures;
 }
 
 -- whether the cell matters, by the answer of the test
-told : (d : tie.After-lowered-rest) {answer : Bool} → leb d.greater_number.result (scored d).score_word.result ≡ answer
-    → matters (entry d).args.line d.greater_number.result (entry d).args.m (get_or (entry d).args.part.now (entry d).args.row 0) ≡ answer
-told d e = number_matters (entry d).args.line _ _ _ (entry d).requires.2 _ (at_cell d).score e
+told : (d : tie.After-lowered-rest) {answer : Bool} → leb d.greater_number-seen.result d.score_word-s.result ≡ answer
+    → matters d.args.line d.greater_number-seen.result d.args.m (get_or d.args.part.now d.args.row 0) ≡ answer
+told d e = number_matters d.args.line _ _ _ d.requires.2 _ (at_cell d).score e
 
 mul-score-word : tie.Need-offset_bounds-part-row
 mul-score-word c = search rules
@@ -98,8 +88,8 @@ returns-2 c =
     let j = c.before in
     let recorded = j.before.before.before in
     let d = recorded.before.before in
-    let line = (entry d.before).args.line in
-    let kind = (entry d.before).requires.2 in
+    let line = d.args.line in
+    let kind = d.requires.2 in
     let e = sym (pass_last _ _ _ _ _ _ _ _ _ (at_cell d.before) recorded.enter.new.part c.greater_number.result
     (told d.before (le-leb _ _ d.if-s-seen.false)) (entered_of line _ kind _ _ _ _ recorded.enter.ensures)
     (greater_of line _ kind _ _ c.greater_number.ensures) j.is_reasonable.result j.is_reasonable.ensures) in

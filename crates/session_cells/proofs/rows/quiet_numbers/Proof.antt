@@ -25,46 +25,34 @@ decreases-loop part line from to m0 highest0 m₀ highest₀ i₀ m highest i = 
 abbrev known : tie.After-lowered-m invariant-loop decreases-loop → tie.After-greater_number-highest invariant-loop decreases-loop
 known d = d.before.before
 
-abbrev scored : tie.After-lowered-m invariant-loop decreases-loop → tie.After-score_word-s invariant-loop decreases-loop
-scored d = (known d).before.before.before
-
-abbrev tested : tie.After-lowered-m invariant-loop decreases-loop → tie.In-loop-i invariant-loop decreases-loop
-tested d = (scored d).before.before
-
-abbrev turn : tie.After-lowered-m invariant-loop decreases-loop → tie.At-loop-i invariant-loop decreases-loop
-turn d = (tested d).before
-
-abbrev entry : tie.After-lowered-m invariant-loop decreases-loop → tie.Start invariant-loop decreases-loop
-entry d = (turn d).before.before
-
 module _ (d : tie.After-lowered-m invariant-loop decreases-loop) where
   -- what is known at a cell before it is tested
-  at_cell : AtCell (entry d).args.line (turn d).loop.i (turn d).loop.m (turn d).loop.highest (entry d).args.part.now
-      (scored d).score_word.result d.below.result (known d).greater_number.result d.lowered.result
+  at_cell : AtCell d.args.line d.loop-i.i d.loop-i.m d.loop-i.highest d.args.part.now
+      d.score_word-s.result d.below.result d.greater_number-highest.result d.lowered-m.result
   unfolding line_score in_reach
   at_cell = record {
-    score = (scored d).score_word.ensures;
+    score = d.score_word-s.ensures;
     reach = d.below.ensures;
-    known = greater_of (entry d).args.line _ (entry d).requires.3 _ _ (known d).greater_number.ensures;
-    lower = d.lowered.ensures;
+    known = greater_of d.args.line _ d.requires.3 _ _ d.greater_number-highest.ensures;
+    lower = d.lowered-m.ensures;
   }
 
   -- whether the cell matters, by the answer of the test
-  told : {answer : Bool} → leb (known d).greater_number.result (scored d).score_word.result ≡ answer
-      → matters (entry d).args.line (known d).greater_number.result (turn d).loop.m (get_or (entry d).args.part.now (turn d).loop.i 0) ≡ answer
-  told e = number_matters (entry d).args.line _ _ _ (entry d).requires.3 _ at_cell.score e
+  told : {answer : Bool} → leb d.greater_number-highest.result d.score_word-s.result ≡ answer
+      → matters d.args.line d.greater_number-highest.result d.loop-i.m (get_or d.args.part.now d.loop-i.i 0) ≡ answer
+  told e = number_matters d.args.line _ _ _ d.requires.3 _ at_cell.score e
 
   -- the rows behind this one
   abbrev left : ℕ
-  left = (entry d).args.to - ((turn d).loop.i + 1)
+  left = d.args.to - (d.loop-i.i + 1)
 
   -- the whole, from this row on
-  from-here : quiet_rows (entry d).args.line (suc left) (turn d).loop.i (turn d).loop.m (turn d).loop.highest (entry d).args.part.now
-      ≡ quiet_rows (entry d).args.line ((entry d).args.to - (entry d).args.from) (entry d).args.from (entry d).args.m0
-      (entry d).args.highest0 (entry d).args.part.now
+  from-here : quiet_rows d.args.line (suc left) d.loop-i.i d.loop-i.m d.loop-i.highest d.args.part.now
+      ≡ quiet_rows d.args.line (d.args.to - d.args.from) d.args.from d.args.m0
+      d.args.highest0 d.args.part.now
   from-here =
-      let n : (entry d).args.to - (turn d).loop.i ≡ suc left = omega (arith, (tested d).loop-test.true) in
-      rw n at (turn d).loop.invariant.1
+      let n : d.args.to - d.loop-i.i ≡ suc left = omega (arith, d.loop-i-test.true) in
+      rw n at d.loop-i.invariant.1
 
 loop-holds : tie.Need-loop-i-init invariant-loop decreases-loop
 loop-holds c = (search rules, refl)

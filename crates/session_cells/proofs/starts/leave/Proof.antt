@@ -14,16 +14,6 @@ invariant-loop starts₀ back column to b₀ starts b = (back ≤ b * block_rows
 abbrev decreases-loop : tie.decreases-loop-b
 decreases-loop starts₀ back column to b₀ starts b = to - b
 
--- the head of a turn, and the entry of the function
-abbrev turn : tie.After-lowered invariant-loop decreases-loop → tie.At-loop-b invariant-loop decreases-loop
-turn c = c.before.before.before
-
-abbrev bounded : tie.At-loop-b invariant-loop decreases-loop → tie.After-smaller-to invariant-loop decreases-loop
-bounded t = t.before.before
-
-abbrev entry : tie.At-loop-b invariant-loop decreases-loop → tie.Start invariant-loop decreases-loop
-entry t = (bounded t).before.before
-
 add-smaller : tie.Need-overflow_add-column invariant-loop decreases-loop
 add-smaller c = search rules
 
@@ -65,8 +55,8 @@ loop-less c = search rules
 
 loop-again : tie.Need-loop-b-preserved invariant-loop decreases-loop
 loop-again c =
-    let t = turn c in
-    let args = (entry t).args in
+    let t = c in
+    let args = t.args in
     let s = one_lowered args.back args.column t.loop-b.b c.lowered.result args.starts.now t.loop-b.starts t.loop-b.invariant.0 (omega arith)
     (omega arith) c.lowered.ensures t.loop-b.invariant.1 in
     (omega arith, s)
@@ -76,8 +66,8 @@ same_length c = search rules
 
 returns : tie.Need-returns invariant-loop decreases-loop
 returns c =
-    let t = c.before in
-    let args = (entry t).args in
+    let t = c in
+    let args = t.args in
     let last : (k : ℕ) → t.loop-b.b ≤ k → k < length args.starts.now → args.column < k * block_rows = λ k l h. omega arith in
     all_lowered args.back args.column t.loop-b.b args.starts.now t.loop-b.starts last t.loop-b.invariant.1
 

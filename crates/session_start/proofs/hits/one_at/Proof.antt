@@ -10,26 +10,26 @@ use Rattle.session_start.proofs.hits.one_at.Tie as tie
 use Rattle.session_start.proofs.hits.one_at.Reads as reads
 use Rattle.session_start.proofs.hits.one_at.Lts as lts
 
-returns : tie.Need-returns
-returns c = (rw (le-ltb c.before.args.at (length c.before.args.words.now) c.if1.true), zero-le)
+returns : tie.Need-returns-then-words-at
+returns c = (rw (le-ltb c.args.at (length c.args.words.now) c.if-words-at.true), zero-le)
 
-mul-if2 : tie.Need-overflow-mul-if2
+mul-if2 : tie.Need-offset_bounds-words-at
 mul-if2 c = search rules
 
-shared-slice-read-if2 : tie.Need-shared-slice-read-if2
+shared-slice-read-if2 : tie.Need-bounds-words-at
 shared-slice-read-if2 c = search rules
 
-returns-2 : tie.Need-returns-2
+returns-2 : tie.Need-returns-then-words-at-2
 returns-2 c =
-    let inside = c.before.before in
-    let args = inside.before.args in
-    (rw (lt-ltb args.at (length args.words.now) inside.if1.false, eq-eqb _ _ c.if2.true), le_refl 1)
+    let inside = c in
+    let args = inside.args in
+    (rw (lt-ltb args.at (length args.words.now) inside.if-words-at.false, eq-eqb _ _ c.if-words-at-2.true), le_refl 1)
 
-returns-3 : tie.Need-returns-3
+returns-3 : tie.Need-returns-else-words-at-2
 returns-3 c =
-    let inside = c.before.before in
-    let args = inside.before.args in
-    (rw (lt-ltb args.at (length args.words.now) inside.if1.false, ne_eqb _ _ c.if2.false), zero-le)
+    let inside = c in
+    let args = inside.args in
+    (rw (lt-ltb args.at (length args.words.now) inside.if-words-at.false, ne_eqb _ _ c.if-words-at-2.false), zero-le)
 
-pub one-at-spec : {M : Type 1} → statement M
-one-at-spec = tie.close (tie.spec returns mul-if2 shared-slice-read-if2 returns-2 returns-3)
+pub one_at_spec : {M : Type 1} → statement M
+one_at_spec = tie.close (tie.spec returns mul-if2 shared-slice-read-if2 returns-2 returns-3)

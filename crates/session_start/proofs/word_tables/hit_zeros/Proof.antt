@@ -13,5 +13,5 @@ returns : tie.Need-returns
 unfolding zeros
 returns c = (sym (length-replicate {A = ℕ} hit_limit 0), refl)
 
-pub hit-zeros-spec : {M : Type 1} → statement M
-hit-zeros-spec = tie.close (tie.spec returns)
+pub hit_zeros_spec : {M : Type 1} → statement M
+hit_zeros_spec = tie.close (tie.spec returns)

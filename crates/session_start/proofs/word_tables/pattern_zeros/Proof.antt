@@ -13,5 +13,5 @@ returns : tie.Need-returns
 unfolding zeros
 returns c = (sym (length-replicate {A = ℕ} pattern_limit 0), refl)
 
-pub pattern-zeros-spec : {M : Type 1} → statement M
-pattern-zeros-spec = tie.close (tie.spec returns)
+pub pattern_zeros_spec : {M : Type 1} → statement M
+pattern_zeros_spec = tie.close (tie.spec returns)

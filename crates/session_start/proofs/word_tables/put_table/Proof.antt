@@ -10,69 +10,56 @@ use Rattle.session_start.proofs.word_tables.put_table.Tie as tie
 use Rattle.session_start.proofs.word_tables.put_table.Reads as reads
 use Rattle.session_start.proofs.word_tables.put_table.Lts as lts
 
-abbrev invariant-loop : tie.invariant-loop
+abbrev invariant-loop : tie.invariant-loop-i
 invariant-loop words at work₀ i₀ work i = (i ≤ length words) × (length work ≡ length work₀) × Stored at words work₀ i work
 
-abbrev decreases-loop : tie.decreases-loop
+abbrev decreases-loop : tie.decreases-loop-i
 decreases-loop words at work₀ i₀ work i = length words - i
 
-loop-holds : tie.Need-loop-init invariant-loop decreases-loop
+loop-holds : tie.Need-loop-i-init invariant-loop decreases-loop
 loop-holds c = let args = c.args in (zero-le, refl, stored_none args.at args.words.now args.work.now)
 
-mul-work : tie.Need-overflow-mul-work invariant-loop decreases-loop
+mul-work : tie.Need-offset_bounds-words-i invariant-loop decreases-loop
 mul-work c = search rules
 
-shared-slice-read-work : tie.Need-shared-slice-read-work invariant-loop decreases-loop
+shared-slice-read-work : tie.Need-bounds-words-i invariant-loop decreases-loop
 shared-slice-read-work c = search rules
 
-add-work : tie.Need-overflow-add-work invariant-loop decreases-loop
+add-work : tie.Need-overflow_add-work invariant-loop decreases-loop
 add-work c = search rules
 
-mul-work-2 : tie.Need-overflow-mul-work-2 invariant-loop decreases-loop
+mul-work-2 : tie.Need-offset_bounds-work-at invariant-loop decreases-loop
 mul-work-2 c = search rules
 
-slice-write-work : tie.Need-slice-write-work invariant-loop decreases-loop
+slice-write-work : tie.Need-bounds-work-at invariant-loop decreases-loop
 slice-write-work c = search rules
 
-add-i : tie.Need-overflow-add-i invariant-loop decreases-loop
+add-i : tie.Need-overflow_add-i invariant-loop decreases-loop
 add-i c = search rules
 
-loop-less : tie.Need-loop-smaller invariant-loop decreases-loop
+loop-less : tie.Need-loop-i-smaller invariant-loop decreases-loop
 loop-less c = search rules
 
-loop-again : tie.Need-loop-preserved invariant-loop decreases-loop
+loop-again : tie.Need-loop-i-preserved invariant-loop decreases-loop
 loop-again c =
-    let l = c.before.before.loop in
-    let args = c.before.before.before.args in (
+    let l = c.loop-i in
+    let args = c.args in (
       omega arith,
       simp length-set l.invariant.1,
       stored_more args.at args.words.now args.work.now l.i l.work (get_or args.words.now l.i 0) l.invariant.2
-          c.before.loop-test.true refl,
+          c.loop-i-test.true refl,
     )
 
-same_length : tie.Need-same-length invariant-loop decreases-loop
+same_length : tie.Need-shape_of-work invariant-loop decreases-loop
 same_length c = search rules
 
 returns : tie.Need-returns invariant-loop decreases-loop
 returns c =
-    let l = c.before.loop in
-    let args = c.before.before.args in
-    stored_all args.at args.words.now args.work.now l.i l.work l.invariant.2 c.loop-test.false
+    let l = c.loop-i in
+    let args = c.args in
+    stored_all args.at args.words.now args.work.now l.i l.work l.invariant.2 c.loop-i-test.false
 
-pub put-table-spec : {M : Type 1} → statement M
-put-table-spec =
+pub put_table_spec : {M : Type 1} → statement M
+put_table_spec =
     tie.close
-    (tie.spec
-    invariant-loop
-    decreases-loop
-    loop-holds
-    mul-work
-    shared-slice-read-work
-    add-work
-    mul-work-2
-    slice-write-work
-    add-i
-    loop-less
-    loop-again
-    same_length
-    returns)
+    (tie.spec invariant-loop decreases-loop loop-holds mul-work shared-slice-read-work add-work mul-work-2 slice-write-work add-i loop-less loop-again same_length returns)

@@ -18,7 +18,7 @@ content-requires c κs = search rules
 returns-2 : tie.Need-returns-then-content-ge-HEADER_LIMIT
 unfolding is_header
 returns-2 c =
-    let d = c.before.before in
+    let d = c in
     simp (← d.kind.ensures, eq-eqb _ _ d.if-kind-ne0.false, ← c.content.ensures, le-ltb _ _ c.if-content-ge-HEADER_LIMIT.true)
 
 header-k-requires : tie.Need-header_k-requires

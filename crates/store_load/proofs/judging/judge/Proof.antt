@@ -10,7 +10,7 @@ use lib.Dec.{eqb}
 use lib.ListN.{length, drop, get_or, drop_of_length-le}
 use lib.Seq.{drop-cons}
 use borrow.Author.Rules.{rules}
-use borrow.Author.Tests.{eq-eqb, ne_eqb, not_true, not-false}
+use borrow.Author.Tests.{eq-eqb, ne_eqb, not-true, not-false}
 use Rattle.base.specs.Replies.{refused}
 use Rattle.base.proofs.Lists.{and_right}
 use Rattle.store.specs.Words.{kind, content, is_position, is_code_word, is_position_word}
@@ -32,23 +32,11 @@ abbrev decreases-loop : tie.decreases-loop-index
 decreases-loop words k limit index₀ n₀ low₀ index n low = length words - index
 
 -- places, each named for where it leads and from where
-abbrev entry-turn : tie.At-loop-index invariant-loop decreases-loop → tie.Start invariant-loop decreases-loop
-entry-turn c = c.before.before.before
-
 abbrev in-loop-shared-slice-known2 : tie.After-shared_slice_known-in-loop-index-1 invariant-loop decreases-loop → tie.In-loop-index invariant-loop decreases-loop
 in-loop-shared-slice-known2 c = c.before
 
 abbrev in-loop-else1 : tie.Else-kind-eq3 invariant-loop decreases-loop → tie.In-loop-index invariant-loop decreases-loop
 in-loop-else1 c = c.before.before.before
-
-abbrev in-loop-else2 : tie.Else-not-is_code_word invariant-loop decreases-loop → tie.In-loop-index invariant-loop decreases-loop
-in-loop-else2 c = c.before.before.before.before.before
-
-abbrev in-loop-shared-slice-known3 : tie.After-shared_slice_known-in-loop-index-2-1 invariant-loop decreases-loop → tie.In-loop-index invariant-loop decreases-loop
-in-loop-shared-slice-known3 c = c.before.before.before.before.before.before.before
-
-abbrev turn-shared-slice-known3 : tie.After-shared_slice_known-in-loop-index-2-1 invariant-loop decreases-loop → tie.At-loop-index invariant-loop decreases-loop
-turn-shared-slice-known3 c = c.before.before.before.before.before.before.before.before
 
 abbrev else3-shared-slice-known3 : tie.After-shared_slice_known-in-loop-index-2-1 invariant-loop decreases-loop → tie.Else-words-next invariant-loop decreases-loop
 else3-shared-slice-known3 c = c.before
@@ -70,11 +58,11 @@ turn c e =
 code-test :
     (c : tie.After-is_code_word invariant-loop decreases-loop) →
     let d = in-loop-else1 c.before in
-    let a = (entry-turn d.before).args in
+    let a = d.args in
     c.is_code_word.result ≡ is_code_word a.k (get_or a.words.now d.loop-index.index 0)
 code-test c =
     let d = in-loop-else1 c.before in
-    let s = entry-turn d.before in
+    let s = d in
     let x = get_or s.args.words.now d.loop-index.index 0 in
     let limit = d.code_limit-limit in
     c.is_code_word.ensures
@@ -82,15 +70,15 @@ code-test c =
 
 code-word :
     (c : tie.Else-not-is_code_word invariant-loop decreases-loop) →
-    let d = in-loop-else1 c.before.before in
-    let a = (entry-turn d.before).args in
+    let d = c in
+    let a = d.args in
     is_code_word a.k (get_or a.words.now d.loop-index.index 0) ≡ true
-code-word c = sym (code-test c.before) ∙ not-false c.is_code_word.result c.if-not-is_code_word.false
+code-word c = sym (code-test c.before) ∙ not-false c.is_code_word.result c.if-not-is_code_word.false-raw
 
 position-test :
     (c : tie.After-is_position_word invariant-loop decreases-loop) →
-    let d = in-loop-shared-slice-known3 c.before in
-    let a = (entry-turn d.before).args in
+    let d = c in
+    let a = d.args in
     c.is_position_word.result ≡ is_position_word d.loop-index.low (get_or a.words.now (suc d.loop-index.index) 0)
 position-test c = rw (add-one c.loop-index.index) at c.is_position_word.ensures
 
@@ -98,14 +86,14 @@ position-test c = rw (add-one c.loop-index.index) at c.is_position_word.ensures
 turn₂ :
     (c : tie.Else-words-next invariant-loop decreases-loop) {j : Judged} →
     let d = in-loop-else1 c.before.before.before in
-    let a = (entry-turn d.before).args in
+    let a = d.args in
     let l = d.loop-index in
     let ws = a.words.now in
     judge_from a.k l.index l.n l.low (get_or ws l.index 0 ∷ get_or ws (suc l.index) 0 ∷ drop (suc (suc l.index)) ws) ≡ j →
     counted l.n j ≡ counted 0 (judge_from a.k 1 0 0 (drop 1 ws))
 turn₂ c e =
     let d = in-loop-else1 c.before.before.before in
-    let a = (entry-turn d.before).args in
+    let a = d.args in
     let l = d.loop-index in
     let ws = a.words.now in
     let inside : suc l.index < length ws = omega arith in
@@ -133,11 +121,11 @@ judge-last-requires c κs = search rules
 returns : tie.Need-returns-then-kind-eq3 invariant-loop decreases-loop
 returns c =
     let d = in-loop-shared-slice-known2 c.before.before.before in
-    let a = (entry-turn d.before).args in
+    let a = d.args in
     let l = d.loop-index in
     let x = get_or a.words.now l.index 0 in
     let third : eqb (kind x) 3 ≡ true = eq-eqb (kind x) 3 (sym c.kind.ensures ∙ c.if-kind-eq3.true) in
-    c.judge_last_lem.ensures ∙ turn d (judge_last_lem a.k l.index l.n l.low x (drop (suc l.index) a.words.now) third)
+    c.judge_last.ensures ∙ turn d (judge_last_lem a.k l.index l.n l.low x (drop (suc l.index) a.words.now) third)
 
 is-code-word-requires : tie.Need-is_code_word-requires invariant-loop decreases-loop
 is-code-word-requires c κs = search rules
@@ -146,11 +134,11 @@ returns-2 : tie.Need-returns-then-not-is_code_word invariant-loop decreases-loop
 returns-2 c =
     let e = c.before.before in
     let d = e.before.before.before in
-    let a = (entry-turn d.before).args in
+    let a = d.args in
     let l = d.loop-index in
     let x = get_or a.words.now l.index 0 in
     let other : eqb (kind x) 3 ≡ false = ap (λ (t : ℕ). eqb t 3) (sym e.kind.ensures) ∙ ne_eqb e.kind.result 3 e.if-kind-eq3.false in
-    let no_code : is_code_word a.k x ≡ false = sym (code-test c.before) ∙ not_true c.is_code_word.result c.if-not-is_code_word.true in
+    let no_code : is_code_word a.k x ≡ false = sym (code-test c.before) ∙ not-true c.is_code_word.result c.if-not-is_code_word.true-raw in
     turn d (judge_first a.k l.index l.n l.low x (drop (suc l.index) a.words.now) other no_code)
 
 add-next : tie.Need-overflow_add-next invariant-loop decreases-loop
@@ -159,7 +147,7 @@ add-next c = search rules
 returns-3 : tie.Need-returns-then-words-next invariant-loop decreases-loop
 returns-3 c =
     let d = in-loop-else1 c.before.before.before in
-    let a = (entry-turn d.before).args in
+    let a = d.args in
     let l = d.loop-index in
     let x = get_or a.words.now l.index 0 in
     let end : length a.words.now ≤ suc l.index = omega arith in
@@ -180,13 +168,13 @@ is-position-word-requires c κs = search rules
 returns-4 : tie.Need-returns-then-not-is_position_word invariant-loop decreases-loop
 returns-4 c =
     let f = c.before.before.before in
-    let d = in-loop-else1 f.before.before.before in
-    let a = (entry-turn d.before).args in
+    let d = f in
+    let a = d.args in
     let l = d.loop-index in
     let ws = a.words.now in
     let y = get_or ws (suc l.index) 0 in
     let no-position : is_position_word l.low y ≡ false =
-    sym (position-test c.before) ∙ not_true c.is_position_word.result c.if-not-is_position_word.true
+    sym (position-test c.before) ∙ not-true c.is_position_word.result c.if-not-is_position_word.true-raw
     in
     ap (λ (i : ℕ). refused 13 (i ∷ [])) (add-one l.index)
     ∙ turn₂ f
@@ -197,16 +185,16 @@ content-requires c κs = search rules
 
 position-word :
     (c : tie.Else-not-is_position_word invariant-loop decreases-loop) →
-    let d = in-loop-shared-slice-known3 c.before.before in
-    let a = (entry-turn d.before).args in
+    let d = c in
+    let a = d.args in
     is_position_word d.loop-index.low (get_or a.words.now (suc d.loop-index.index) 0) ≡ true
-position-word c = sym (position-test c.before) ∙ not-false c.is_position_word.result c.if-not-is_position_word.false
+position-word c = sym (position-test c.before) ∙ not-false c.is_position_word.result c.if-not-is_position_word.false-raw
 
 add_low : tie.Need-overflow_add-low invariant-loop decreases-loop
 add_low c =
-    let d = in-loop-shared-slice-known3 c.before.before.before in
+    let d = c in
     let l = d.loop-index in
-    let y = get_or (entry-turn d.before).args.words.now (suc l.index) 0 in
+    let y = get_or d.args.words.now (suc l.index) 0 in
     let range = is_position_range l.low (content y) (and_right (eqb (kind y) 2) (is_position l.low (content y)) (position-word c.before)) in
     let same : c.content-low.result ≡ content y = rw (add-one l.index) at c.content-low.ensures in
     omega (arith, range.1)
@@ -223,8 +211,8 @@ loop-less c = search rules
 loop-again : tie.Need-loop-index-preserved invariant-loop decreases-loop
 loop-again c =
     let f = else3-shared-slice-known3 c.before.before.before in
-    let d = in-loop-else1 f.before.before.before in
-    let a = (entry-turn d.before).args in
+    let d = f in
+    let a = d.args in
     let l = d.loop-index in
     let ws = a.words.now in
     let x = get_or ws l.index 0 in

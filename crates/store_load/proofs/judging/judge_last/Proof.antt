@@ -12,12 +12,6 @@ use Rattle.store_load.proofs.judging.judge_last.Statement.{statement}
 use Rattle.store_load.proofs.judging.judge_last.Tie as tie
 
 -- places, each named for where it leads and from where
-abbrev entry-shared-slice-known : tie.After-shared_slice_known-1 → tie.Start
-entry-shared-slice-known c = c.before
-
-abbrev entry-else1 : tie.Else-content-n → tie.Start
-entry-else1 c = c.before.before.before.before
-
 mul-content : tie.Need-offset_bounds-words-index
 mul-content c = search rules
 
@@ -40,8 +34,8 @@ add-next c = search rules
 returns-2 : tie.Need-returns-then-next-words
 unfolding last_word
 returns-2 c =
-    let d = c.before in
-    let a = (entry-else1 d).args in
+    let d = c in
+    let a = d.args in
     let h : suc a.index < length a.words.now = omega arith in
     simp (
       ← d.content.ensures,
@@ -53,8 +47,8 @@ returns-2 c =
 returns-3 : tie.Need-returns
 unfolding last_word
 returns-3 c =
-    let d = c.before in
-    let a = (entry-else1 d).args in
+    let d = c in
+    let a = d.args in
     let h : length a.words.now ≤ suc a.index = omega arith in
     simp (
       ← d.content.ensures,

@@ -25,21 +25,12 @@ abbrev decreases-loop : tie.decreases-loop-i
 decreases-loop words n codes₀ positions₀ i₀ codes positions i = n - i
 
 -- places, each named for where it leads and from where
-abbrev entry-shared-slice-known : tie.After-shared_slice_known-1 invariant-loop decreases-loop → tie.Start invariant-loop decreases-loop
-entry-shared-slice-known c = c.before
-
-abbrev entry-turn : tie.At-loop-i invariant-loop decreases-loop → tie.Start invariant-loop decreases-loop
-entry-turn c = c.before.before.before.before
-
-abbrev entry-shared-slice-known2 : tie.After-shared_slice_known-in-loop-i-1 invariant-loop decreases-loop → tie.Start invariant-loop decreases-loop
-entry-shared-slice-known2 c = c.before.before.before.before.before.before
-
 abbrev turn-shared-slice-known2 : tie.After-shared_slice_known-in-loop-i-1 invariant-loop decreases-loop → tie.At-loop-i invariant-loop decreases-loop
 turn-shared-slice-known2 c = c.before.before
 
 room : (c : tie.At-loop-i invariant-loop decreases-loop) → let a = c.args in length a.words.now ≡ 2 * a.n + 2
 room c =
-    let s = entry-turn c in
+    let s = c in
     let ws = s.args.words.now in
     length_loaded ws (entries_of (judge ws)) s.requires.0 ∙ ap (λ (m : ℕ). 2 * m + 2) s.requires.1.0
 
@@ -97,7 +88,7 @@ loop-less c = search rules
 loop-again : tie.Need-loop-i-preserved invariant-loop decreases-loop
 loop-again c =
     let l = c.loop-i in
-    let s = entry-shared-slice-known2 c.before.before.before in
+    let s = c in
     let ws = s.args.words.now in
     let es = entries_of (judge ws) in
     let in_codes : l.i < length (codes_of es) = omega (arith, length_codes es) in
@@ -119,7 +110,7 @@ same-length-2 c = c.loop-i.invariant.2.same_length
 returns : tie.Need-returns invariant-loop decreases-loop
 returns c =
     let l = c.loop-i in
-    let s = entry-turn c.before in
+    let s = c in
     let es = entries_of (judge s.args.words.now) in
     let end-codes : length (codes_of es) ≤ l.i = omega (arith, length_codes es) in
     let end-positions : length (positionsOf es) ≤ l.i = omega (arith, length_positions es) in (

@@ -7,7 +7,7 @@ use mathlib.Core.Path.{◌≡◌, refl, sym, ◌∙◌}
 use lib.ListN.{length, drop, get_or, drop_of_length-le}
 use lib.Dec.{ltb}
 use borrow.Author.Rules.{rules}
-use borrow.Author.Tests.{lt-ltb, le-ltb, not_true, not-false}
+use borrow.Author.Tests.{lt-ltb, le-ltb, not-true, not-false}
 use Rattle.kmers.specs.Kmers.{entries}
 use Rattle.store.specs.Words.{is_code}
 use Rattle.store.specs.Save.{storable}
@@ -24,15 +24,6 @@ abbrev decreases-loop : tie.decreases-loop-i
 decreases-loop codes positions k limit low₀ i₀ low i = length codes - i
 
 -- places, each named for where it leads and from where
-abbrev entry-shared-slice-known : tie.After-shared_slice_known-1 invariant-loop decreases-loop → tie.Start invariant-loop decreases-loop
-entry-shared-slice-known c = c.before
-
-abbrev entry-turn : tie.At-loop-i invariant-loop decreases-loop → tie.Start invariant-loop decreases-loop
-entry-turn c = c.before.before.before.before
-
-abbrev in-loop-else1 : tie.Else-limit-codes invariant-loop decreases-loop → tie.In-loop-i invariant-loop decreases-loop
-in-loop-else1 c = c.before.before
-
 code-limit-requires : tie.Need-code_limit-limit-requires invariant-loop decreases-loop
 code-limit-requires c κs = search rules
 
@@ -52,14 +43,14 @@ code-test :
     let code = get_or a.codes.now c.loop-i.i 0 in
     is_code a.k code ≡ ltb code c.code_limit-limit.result
 code-test c =
-    let s = entry-turn c.before in
+    let s = c in
     let code = get_or s.args.codes.now c.loop-i.i 0 in
     is_code_limit s.args.k c.code_limit-limit.result code s.requires.0 c.code_limit-limit.ensures
 
 returns : tie.Need-returns-then-limit-codes invariant-loop decreases-loop
 returns c =
     let d = c.before.before in
-    let a = (entry-turn d.before).args in
+    let a = d.args in
     simp (
       ← d.loop-i.invariant.1,
       entries_drop a.codes.now a.positions.now d.loop-i.i (search rules) d.loop-i-test.true,
@@ -80,24 +71,24 @@ returns-2 : tie.Need-returns-then-not-is_position invariant-loop decreases-loop
 returns-2 c =
     let e = c.before.before.before in
     let d = e.before.before in
-    let a = (entry-turn d.before).args in
+    let a = d.args in
     simp (
       ← d.loop-i.invariant.1,
       entries_drop a.codes.now a.positions.now d.loop-i.i (search rules) d.loop-i-test.true,
       code-test d,
       lt-ltb _ _ e.if-limit-codes.false,
       ← c.is_position.ensures,
-      not_true c.is_position.result c.if-not-is_position.true,
+      not-true c.is_position.result c.if-not-is_position.true-raw,
     )
 
 add_low : tie.Need-overflow_add-low invariant-loop decreases-loop
 add_low c =
-    let d = in-loop-else1 c.before.before.before in
-    let p = (entry-turn d.before).args.positions.now in
+    let d = c in
+    let p = d.args.positions.now in
     omega (
       arith,
       is_position_range d.loop-i.low (get_or p d.loop-i.i 0)
-          (sym c.is_position.ensures ∙ not-false c.is_position.result c.if-not-is_position.false),
+          (sym c.is_position.ensures ∙ not-false c.is_position.result c.if-not-is_position.false-raw),
     )
 
 add-i : tie.Need-overflow_add-i invariant-loop decreases-loop
@@ -110,7 +101,7 @@ loop-again : tie.Need-loop-i-preserved invariant-loop decreases-loop
 loop-again c =
     let e = c.before.before.before in
     let d = e.before.before in
-    let a = (entry-turn d.before).args in (
+    let a = d.args in (
       omega arith,
       simp (
         ← d.loop-i.invariant.1,
@@ -118,7 +109,7 @@ loop-again c =
         code-test d,
         lt-ltb _ _ e.if-limit-codes.false,
         ← c.is_position.ensures,
-        not-false c.is_position.result c.if-not-is_position.false,
+        not-false c.is_position.result c.if-not-is_position.false-raw,
         add-one,
       ),
     )

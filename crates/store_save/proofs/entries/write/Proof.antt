@@ -46,12 +46,6 @@ abbrev decreases-loop : tie.decreases-loop-i
 decreases-loop codes positions k w words₀ i₀ words i = length codes - i
 
 -- places, each named for where it leads and from where
-abbrev entry-slice-known : tie.After-slice_known-1 invariant-loop decreases-loop → tie.Start invariant-loop decreases-loop
-entry-slice-known c = c.before.before.before
-
-abbrev in-loop-shared-slice-known3 : tie.After-shared_slice_known-in-loop-i-1 invariant-loop decreases-loop → tie.In-loop-i invariant-loop decreases-loop
-in-loop-shared-slice-known3 c = c.before
-
 header-requires : tie.Need-header-requires invariant-loop decreases-loop
 header-requires c κs = search rules
 
@@ -84,7 +78,7 @@ shared-slice-read-word c = search rules
 word-requires : tie.Need-word-requires invariant-loop decreases-loop
 word-requires c κs =
     let d = c.before in
-    let s = entry-slice-known d.before.before.before in
+    let s = d in
     let i = d.loop-i.i in
     let in-range = storable-index s.args.k s.args.codes.now s.args.positions.now s.requires.1.0 s.requires.1.1.0 i d.loop-i-test.true in
     (lit< tt, code_fits s.args.k (get_or s.args.codes.now i 0) s.requires.0.0 in-range.0)
@@ -110,7 +104,7 @@ shared-slice-read-word-2 c = search rules
 word-requires-2 : tie.Need-word-requires-in-loop-i invariant-loop decreases-loop
 word-requires-2 c κs =
     let d = c.before.before.before in
-    let s = entry-slice-known d.before.before.before in
+    let s = d in
     let i = d.loop-i.i in
     omega (arith, (storable-index s.args.k s.args.codes.now s.args.positions.now s.requires.1.0 s.requires.1.1.0 i d.loop-i-test.true).1)
 
@@ -134,8 +128,8 @@ loop-less c = search rules
 
 loop-again : tie.Need-loop-i-preserved invariant-loop decreases-loop
 loop-again c =
-    let d = in-loop-shared-slice-known3 c.before.before.before in
-    let a = (entry-slice-known d.before.before.before).args in
+    let d = c in
+    let a = d.args in
     let l = d.loop-i in
     let at₁ : suc (2 * l.i + 1) ≡ 2 * l.i + 2 = omega arith in
     let at₂ : suc (2 * l.i + 2) ≡ 2 * suc l.i + 1 = omega arith in
@@ -151,12 +145,12 @@ loop-again c =
 
 cast-word : tie.Need-overflow_cast-i invariant-loop decreases-loop
 cast-word c =
-    let s = entry-slice-known c.before.before.before in
+    let s = c in
     omega (arith, few s.args.k s.args.codes.now s.args.positions.now s.requires.1.0 s.requires.1.1.0)
 
 word-requires-3 : tie.Need-word-requires-2 invariant-loop decreases-loop
 word-requires-3 c κs =
-    let s = entry-slice-known c.before.before.before in
+    let s = c in
     omega (arith, few s.args.k s.args.codes.now s.args.positions.now s.requires.1.0 s.requires.1.1.0)
 
 mul-words-5 : tie.Need-overflow_mul-words-2 invariant-loop decreases-loop
@@ -178,7 +172,7 @@ returns : tie.Need-returns invariant-loop decreases-loop
 returns c =
     let d = c.before in
     let l = d.loop-i in
-    let s = entry-slice-known d.before.before.before in
+    let s = d in
     let a = s.args in
     let text = stored a.k a.w (entries a.codes.now a.positions.now) in
     let some : 0 < length text = omega (arith, length_stored a.k a.w (entries a.codes.now a.positions.now)) in
