@@ -76,7 +76,7 @@ same_length c = search rules
 returns : tie.Need-returns-then-z-ge0
 returns c =
     let at-start = c in
-    same_bytes (digits_are at-start.args.z at-start.fits.z c.if-z-ge0.true)
+    same_bytes (digits_are at-start.args.z at-start.ranges.z c.if-z-ge0.true)
     c.put_decimal.ensures
 
 sub-write-digits : tie.Need-slice_bounds-write_digits-count
@@ -119,7 +119,7 @@ returns-2 c =
     same_bytes
     (all_are
     at-start.args.z
-    at-start.fits.z
+    at-start.ranges.z
     at-digits.if-z-ge0.false
     at-digits.write_digits-from.new.digits
     at-digits.write_digits-from.result
