@@ -27,24 +27,21 @@ returns c =
 
 -- `is_scorable` has said so
 module _ (scorable : tie.Else-not-is_scorable) where
-  abbrev entry : tie.Start
-  entry = scorable.before.before
-
-  yes : is_scorable entry.args.terms entry.args.a entry.args.b entry.args.m ≡ true
+  yes : is_scorable scorable.args.terms scorable.args.a scorable.args.b scorable.args.m ≡ true
   yes = sym scorable.is_scorable.ensures ∙ not-false scorable.is_scorable.result scorable.if-not-is_scorable.false-raw
 
   -- the same of the scoring as the match has it
-  of-scoring : (scoring : Scoring) → entry.args.terms.scoring ≡ scoring
-      → is_scorable (record { scoring = scoring; size = entry.args.terms.size }) entry.args.a entry.args.b entry.args.m ≡ true
+  of-scoring : (scoring : Scoring) → scorable.args.terms.scoring ≡ scoring
+      → is_scorable (record { scoring = scoring; size = scorable.args.terms.size }) scorable.args.a scorable.args.b scorable.args.m ≡ true
   of-scoring scoring e =
-      let args = entry.args in
+      let args = scorable.args in
       ap (λ (s : Scoring). is_scorable (record { scoring = s; size = args.terms.size }) args.a args.b args.m) (sym e) ∙ yes
 
-  same_answer : (scoring : Scoring) → entry.args.terms.scoring ≡ scoring
-      → decided (record { scoring = scoring; size = entry.args.terms.size }) entry.args.a entry.args.b entry.args.m entry.args.cells
-      ≡ decided entry.args.terms entry.args.a entry.args.b entry.args.m entry.args.cells
+  same_answer : (scoring : Scoring) → scorable.args.terms.scoring ≡ scoring
+      → decided (record { scoring = scoring; size = scorable.args.terms.size }) scorable.args.a scorable.args.b scorable.args.m scorable.args.cells
+      ≡ decided scorable.args.terms scorable.args.a scorable.args.b scorable.args.m scorable.args.cells
   same_answer scoring e =
-      let args = entry.args in
+      let args = scorable.args in
       ap (λ (s : Scoring). decided (record { scoring = s; size = args.terms.size }) args.a args.b args.m args.cells) (sym e)
 
 enum-known-scoring : tie.Need-enum_known-scoring
@@ -52,22 +49,22 @@ enum-known-scoring c = search rules
 
 -- where the scoring is known to be linear, and its threshold to be a signed number
 module _ (told : tie.In-Linear) where
-  abbrev linear : tie.In-Linear-2
-  linear = told.before
+  abbrev linear : tie.In-Linear
+  linear = told
 
   abbrev threshold : ℤ
-  threshold = linear.in-Linear.threshold
+  threshold = told.in-Linear.threshold
 
   threshold-read : to_z w32 (of_z w32 threshold) ≡ threshold
   threshold-read = to_z-of_z {w = w32} (sfits_of told.in-Linear.known_told-1-own.given.1.1.0.1)
 
   abbrev scorable : tie.Else-not-is_scorable
-  scorable = linear.before.before
+  scorable = linear.before
 
   -- the scoring as the call has it
-  known : (entry scorable).args.terms.scoring
-      ≡ Linear linear.in-Linear.u linear.in-Linear.v (to_z w32 (of_z w32 threshold))
-  known = linear.in-Linear.is ∙ ap (Linear linear.in-Linear.u linear.in-Linear.v) (sym threshold-read)
+  known : told.args.terms.scoring
+      ≡ Linear told.in-Linear.u told.in-Linear.v (to_z w32 (of_z w32 threshold))
+  known = told.in-Linear.is ∙ ap (Linear told.in-Linear.u told.in-Linear.v) (sym threshold-read)
 
 decided-linear-requires : tie.Need-decided_linear-requires
 decided-linear-requires c κs = of-scoring (scorable c) _ (known c)
@@ -76,15 +73,14 @@ enum-known-scoring-2 : tie.Need-enum_known-scoring-in-Jaccard-1
 enum-known-scoring-2 c = search rules
 
 decided-jaccard-requires : tie.Need-decided_jaccard-requires
-decided-jaccard-requires c κs = let fraction = c.before in of-scoring fraction.before.before _ fraction.in-Jaccard.is
+decided-jaccard-requires c κs = of-scoring c.before _ c.in-Jaccard.is
 
 returns-2 : tie.Need-returns-in-Linear
 returns-2 c = c.decided_linear.ensures ∙ same_answer (scorable c.before) _ (known c.before)
 
 returns-3 : tie.Need-returns-in-Jaccard
 returns-3 c =
-    let fraction = c.before.before in
-    c.decided_jaccard.ensures ∙ same_answer fraction.before.before _ fraction.in-Jaccard.is
+    c.decided_jaccard.ensures ∙ same_answer c.before.before _ c.in-Jaccard.is
 
 pub decided_spec : {M : Type 1} → statement M
 decided_spec =

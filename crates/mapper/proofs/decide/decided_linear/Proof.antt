@@ -54,7 +54,7 @@ unfolding length_of
 score-read c =
     let args = c.args in
     let len : args.b - args.a + 1 ≡ length_of args.a args.b = omega (arith, (counts c.before).ordered) in
-    to_z-of_z {w = w32} (sfits_of c.score-score.type-inv) ∙ c.score-score.ensures ∙ ap (linear args.u args.v args.size args.m) len
+    to_z-of_z {w = w32} (sfits_of c.score-score.type_inv) ∙ c.score-score.ensures ∙ ap (linear args.u args.v args.size args.m) len
 
 threshold-read : (entry : tie.Start) → to_z w32 (of_z w32 entry.args.threshold) ≡ entry.args.threshold
 threshold-read entry = to_z-of_z {w = w32} entry.ranges.threshold

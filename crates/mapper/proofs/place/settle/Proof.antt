@@ -39,7 +39,7 @@ top columns words = place_of (columns - 1) 0 (get_or words starts_from 0) (get_o
 returns-2 : tie.Need-returns
 returns-2 c =
     let read = c.before.before in
-    let left = read.before.before in
+    let left = read in
     let args = left.args in
     let t = left.if-p-columns.false in
     let e = left.leave_column.ensures in (

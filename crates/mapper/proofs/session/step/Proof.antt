@@ -23,9 +23,6 @@ use Rattle.mapper.proofs.session.step.Tie as tie
 abbrev enough : tie.After-bad_words → tie.Else-work-lt-WORK_WORDS
 enough c = c.before
 
-abbrev entry : tie.After-bad_words → tie.Start
-entry c = c.before.before.before
-
 abbrev good : tie.After-wide → tie.Else-bad_words
 good c = c.before.before.before.before
 
@@ -94,36 +91,33 @@ module _ (d : tie.After-one_inside) where
   abbrev hits : tie.After-wide
   hits = (place d).before
 
-  abbrev start : tie.Start
-  start = entry (good hits).before
-
   abbrev work : List ℕ
-  work = start.args.work.now
+  work = d.args.work.now
 
   within : GoodWords work
   within = good_words work (not_bad (good hits))
 
   -- the place lies in a column
   columns_within : hits.wide-columns.result ≤ hit_limit
-  columns_within = omega (arith, d.if-wide-columns.false, hits.wide.ensures.0, within.few_hits)
+  columns_within = omega (arith, d.if-wide-columns.false, d.wide.ensures.0, within.few_hits)
 
   -- what keeps the promise from the place in the words, keeps it from the place as it was read
   read : (walk : ℕ → ℕ → Walk) → (answer : Stepped) (after : List ℕ)
       → answer ≡ (walk hits.wide-columns.result d.wide-row.result).answer
       → after ≡ (walk hits.wide-columns.result d.wide-row.result).words
-      → StepPromise work start.args.budget (walk (get_or work columns_at 0) (get_or work row_at 0)).answer
+      → StepPromise work d.args.budget (walk (get_or work columns_at 0) (get_or work row_at 0)).answer
       (walk (get_or work columns_at 0) (get_or work row_at 0)).words
-      → StepPromise work start.args.budget answer after
+      → StepPromise work d.args.budget answer after
   read walk answer after a b promise =
       let same : walk hits.wide-columns.result d.wide-row.result ≡ walk (get_or work columns_at 0) (get_or work row_at 0) =
       λ i. walk (hits.wide-columns.ensures.0 i) (d.wide-row.ensures.0 i) in
-      subst₂ (StepPromise work start.args.budget) (sym (a ∙ ap (λ (w : Walk). w.answer) same)) (sym (b ∙ ap (λ (w : Walk). w.words) same)) promise
+      subst₂ (StepPromise work d.args.budget) (sym (a ∙ ap (λ (w : Walk). w.answer) same)) (sym (b ∙ ap (λ (w : Walk). w.words) same)) promise
 
 -- the budget is one cell, and its column has a further row
-inside : (e : tie.Then-one_inside) → ((start e.before).args.budget ≡ 1) × (e.wide-row.result + 1 < (hits e.before).wide-columns.result)
+inside : (e : tie.Then-one_inside) → (e.args.budget ≡ 1) × (e.wide-row.result + 1 < (hits e.before).wide-columns.result)
 inside e =
     let d = e.before in
-    one_inside (start d).args.budget d.wide-row.result (hits d).wide-columns.result (sym d.one_inside.ensures ∙ e.if-one_inside.true)
+    one_inside d.args.budget d.wide-row.result (hits d).wide-columns.result (sym d.one_inside.ensures ∙ e.if-one_inside.true)
 
 walk-one-requires : tie.Need-walk_one-requires
 walk-one-requires c κs =
@@ -142,7 +136,7 @@ returns-4 c =
     omega (arith, (inside e).1, (hits d).wide-columns.ensures.0, d.wide-row.ensures.0) in
     read d (λ n r. one_walk (terms_in (work d)) n r (get_or (work d) m_at 0) (get_or (work d) highest_at 0) (work d)) _ _ w.walk_one.ensures.0
     w.walk_one.ensures.1
-    (one_promise (work d) (start d).args.budget (enough (good (hits d)).before).if-work-lt-WORK_WORDS.false (not_bad (good (hits d))) (inside e).0 further)
+    (one_promise (work d) d.args.budget (enough (good (hits d)).before).if-work-lt-WORK_WORDS.false (not_bad (good (hits d))) (inside e).0 further)
 
 same-length-4 : tie.Need-shape_of-work-then-columns-row
 same-length-4 c = search rules
@@ -151,7 +145,7 @@ returns-5 : tie.Need-returns-then-columns-row
 returns-5 c =
     let d = c.before.before in
     let past : (hits d).wide-columns.result < d.wide-row.result = c.if-columns-row.true in
-    lost_promise (work d) (start d).args.budget (enough (good (hits d)).before).if-work-lt-WORK_WORDS.false (not_bad (good (hits d)))
+    lost_promise (work d) d.args.budget (enough (good (hits d)).before).if-work-lt-WORK_WORDS.false (not_bad (good (hits d)))
     (inr (omega (arith, (hits d).wide-columns.ensures.0, d.wide-row.ensures.0)))
 
 wide-requires-4 : tie.Need-wide-requires-2
@@ -172,7 +166,7 @@ returns-6 c =
     let cells = w.before in
     let e = cells.before.before in
     let d = e.before.before in
-    let budget = (start d).args.budget in
+    let budget = d.args.budget in
     let walk : ℕ → ℕ → ℕ → Walk = λ b n r. walk_on (terms_in (work d)) b n r (get_or (work d) m_at 0) (get_or (work d) highest_at 0) b (work d) in
     let given = ap (λ (b : ℕ). walk b (hits d).wide-columns.result d.wide-row.result) cells.wide-2.ensures.0 in
     read d (walk budget) _ _ (w.walk.ensures.0 ∙ ap (λ (x : Walk). x.answer) given) (w.walk.ensures.1 ∙ ap (λ (x : Walk). x.words) given)

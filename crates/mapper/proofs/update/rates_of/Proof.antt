@@ -11,10 +11,7 @@ use Rattle.mapper.proofs.update.rates_of.Statement.{statement}
 use Rattle.mapper.proofs.update.rates_of.Tie as tie
 
 -- where the scoring is known to be linear, with u and v
-module _ (linear : tie.In-Linear-2) where
-  abbrev entry : tie.Start
-  entry = linear.before.before
-
+module _ (linear : tie.In-Linear) where
   abbrev u : ℕ
   u = linear.in-Linear.u
 
@@ -22,16 +19,16 @@ module _ (linear : tie.In-Linear-2) where
   v = linear.in-Linear.v
 
   small : (v ≤ weight_limit) × (u + 2 * v < word_limit)
-  small = subst SmallRates linear.in-Linear.is entry.requires
+  small = subst SmallRates linear.in-Linear.is linear.requires
 
 enum-known-scoring : tie.Need-enum_known-scoring
 enum-known-scoring c = search rules
 
 mul-t5 : tie.Need-overflow_mul-result
-mul-t5 c = omega (arith, (small c.before).0)
+mul-t5 c = omega (arith, (small c).0)
 
 add-t6 : tie.Need-overflow_add-result
-add-t6 c = omega (arith, (small c.before).1)
+add-t6 c = omega (arith, (small c).1)
 
 cast-t7 : tie.Need-overflow_cast-result
 cast-t7 c = search rules

@@ -18,7 +18,7 @@ returns-2 : tie.Need-returns
 returns-2 c =
     let args = c.args in
     rw (ne_eqb args.kind 1 c.if-kind-eq1.false)
-    (ap (Linear args.first args.second) (to_z-of_z {w = w32} (sfits_of c.unbiased.type-inv) ∙ c.unbiased.ensures))
+    (ap (Linear args.first args.second) (to_z-of_z {w = w32} (sfits_of c.unbiased.type_inv) ∙ c.unbiased.ensures))
 
 pub scoring_of_spec : {M : Type 1} → statement M
 scoring_of_spec = tie.close (tie.spec returns unbiased-requires returns-2)

@@ -12,7 +12,7 @@ use Rattle.mapper.specs.declared.update.Terms.{Terms}
 use Rattle.mapper.specs.Walking.{settled_words, settled, Walk, terms_in, found_walk, walk_on}
 use Rattle.mapper.proofs.Deciding.{SmallRates}
 use Rattle.mapper.proofs.Walking.{small_terms, settled_within, Stops, update_stops, spent_rest, less_left}
-use Rattle.mapper.proofs.Walking.{walk_finished, walk_spent, walk_found, walk_on}
+use Rattle.mapper.proofs.Walking.{walk_finished, walk_spent, walk_found, walk_on_lem}
 use Rattle.mapper.proofs.walk.walk.Statement.{statement}
 use Rattle.mapper.proofs.walk.walk.Tie as tie
 
@@ -35,26 +35,20 @@ decreases-loop work₀ budget terms place₀ left₀ work place left = place.col
 -- ---- a turn's head, and the entry of the function
 
 module _ (t : tie.At-loop-place invariant-loop decreases-loop) where
-  abbrev read : tie.After-terms_of-terms invariant-loop decreases-loop
-  read = t.before
-
-  abbrev entry : tie.Start invariant-loop decreases-loop
-  entry = read.before.before
-
   abbrev terms : Terms
-  terms = read.terms_of-terms.result
+  terms = t.terms_of-terms.result
 
   small : SmallRates terms.scoring
-  small = small_terms entry.args.work.now terms read.terms_of-terms.ensures entry.requires.1
+  small = small_terms t.args.work.now terms t.terms_of-terms.ensures t.requires.1
 
   -- what is left of the walk comes to the whole of it
-  whole : {walk : Walk} → walk_from terms entry.args.budget t.loop-place.place t.loop-place.left t.loop-place.work ≡ walk
-      → walk ≡ walk_from (terms_in entry.args.work.now) entry.args.budget entry.args.start entry.args.budget entry.args.work.now
+  whole : {walk : Walk} → walk_from terms t.args.budget t.loop-place.place t.loop-place.left t.loop-place.work ≡ walk
+      → walk ≡ walk_from (terms_in t.args.work.now) t.args.budget t.args.start t.args.budget t.args.work.now
   whole e =
-      let args = entry.args in
+      let args = t.args in
       sym e
       ∙ t.loop-place.invariant.5
-      ∙ ap (λ (ts : Terms). walk_from ts args.budget args.start args.budget args.work.now) read.terms_of-terms.ensures
+      ∙ ap (λ (ts : Terms). walk_from ts args.budget args.start args.budget args.work.now) t.terms_of-terms.ensures
 
 -- ---- behind the column's update
 
@@ -65,15 +59,15 @@ module _ (updated : tie.After-update-p invariant-loop decreases-loop) where
   abbrev turn : tie.At-loop-place invariant-loop decreases-loop
   turn = some.before.before.before
 
-  abbrev inside : 0 < turn.loop-place.place.columns
-  inside = some.loop-place-test.true
+  abbrev inside : 0 < updated.loop-place.place.columns
+  inside = updated.loop-place-test.true
 
   -- where it has stopped
-  stops : Stops turn.loop-place.place.columns turn.loop-place.place.row turn.loop-place.left updated.update-p.result
-  stops = update_stops (terms turn) _ _ _ _ _ _ _ inside turn.loop-place.invariant.3 updated.update-p.ensures.0
+  stops : Stops updated.loop-place.place.columns updated.loop-place.place.row updated.loop-place.left updated.update-p.result
+  stops = update_stops (terms turn) _ _ _ _ _ _ _ inside updated.loop-place.invariant.3 updated.update-p.ensures.0
 
   long : work_words ≤ length updated.update-p.new.work
-  long = let n = updated.update-p.auto.work in omega (arith, turn.loop-place.invariant.0)
+  long = let n = updated.update-p.auto.work in omega (arith, updated.loop-place.invariant.0)
 
 abbrev update-of : tie.After-slice_known-in-loop-place-1 invariant-loop decreases-loop → tie.After-update-p invariant-loop decreases-loop
 update-of c = c.before.before
@@ -88,26 +82,26 @@ module _ (c : tie.After-settle-place invariant-loop decreases-loop) where
   updated = update-of known.before
 
   -- where it has settled
-  within : (c.settle-place.result.columns ≤ (turn updated).loop-place.place.columns) × (c.settle-place.result.row ≤ updated.update-p.result.row)
+  within : (c.settle-place.result.columns ≤ c.loop-place.place.columns) × (c.settle-place.result.row ≤ c.update-p.result.row)
       × (c.settle-place.result.row ≤ c.settle-place.result.columns)
   within =
-      let u = updated.update-p in
-      let columns = (turn updated).loop-place.place.columns in
+      let u = c.update-p in
+      let columns = c.loop-place.place.columns in
       let s = settled_within u.new.work columns u.result in
       subst (λ (q : Place). (q.columns ≤ columns) × (q.row ≤ u.result.row) × (q.row ≤ q.columns)) (sym c.settle-place.ensures.0)
       (s.0, s.1, s.2 (stops updated).within)
 
   -- a walk that ends at the place as it has settled
   at_place : (terms : Terms) (cells : ℕ)
-      → found_walk terms c.settle-place.new.work (turn updated).loop-place.place.columns updated.update-p.result c.settle-place.result cells
-      ≡ found_walk terms (settled_words updated.update-p.new.work (turn updated).loop-place.place.columns updated.update-p.result)
-      (turn updated).loop-place.place.columns updated.update-p.result
-      (settled updated.update-p.new.work (turn updated).loop-place.place.columns updated.update-p.result) cells
+      → found_walk terms c.settle-place.new.work c.loop-place.place.columns c.update-p.result c.settle-place.result cells
+      ≡ found_walk terms (settled_words c.update-p.new.work c.loop-place.place.columns c.update-p.result)
+      c.loop-place.place.columns c.update-p.result
+      (settled c.update-p.new.work c.loop-place.place.columns c.update-p.result) cells
   at_place terms cells =
-      λ i. found_walk terms (c.settle-place.ensures.1 i) (turn updated).loop-place.place.columns updated.update-p.result (c.settle-place.ensures.0 i) cells
+      λ i. found_walk terms (c.settle-place.ensures.1 i) c.loop-place.place.columns c.update-p.result (c.settle-place.ensures.0 i) cells
 
-  settled-long : length c.settle-place.new.work ≡ length (turn updated).loop-place.work
-  settled-long = c.settle-place.auto.work ∙ updated.update-p.auto.work
+  settled-long : length c.settle-place.new.work ≡ length c.loop-place.work
+  settled-long = c.settle-place.auto.work ∙ c.update-p.auto.work
 
 terms-of-requires : tie.Need-terms_of-terms-requires invariant-loop decreases-loop
 terms-of-requires c κs = search rules
@@ -144,7 +138,7 @@ sub-left-2 c = (stops (update-of c.before.before)).spends
 settle-requires : tie.Need-settle-place-requires invariant-loop decreases-loop
 settle-requires c κs =
     let d = update-of c.before.before.before in
-    (long d, (turn d).loop-place.invariant.2, inside d)
+    (long d, d.loop-place.invariant.2, inside d)
 
 sub-found : tie.Need-overflow_sub-budget invariant-loop decreases-loop
 sub-found c = search rules
@@ -156,10 +150,10 @@ found-requires c κs =
     let d = updated s in
     let stopped = stops d in
     let moved = stopped.moved candidate.if-p.true in
-    let inv = (turn d).loop-place.invariant in
+    let inv = d.loop-place.invariant in
     let n = settled-long s in
     let w = within s in (
-      (omega arith, inside d, inv.2, omega arith, omega (arith, stopped.within), omega (arith, (entry (turn d)).requires.0.1)),
+      (omega arith, inside d, inv.2, omega arith, omega (arith, stopped.within), omega (arith, d.requires.0.1)),
       (omega arith, omega (arith, stopped.within)),
     )
 
@@ -168,7 +162,7 @@ same-length-2 c =
     let f = c.before.before in
     let candidate = f.before.before in
     let s = candidate.before.before.before in
-    f.found.auto.work ∙ settled-long s ∙ (turn (updated s)).loop-place.invariant.1
+    f.found.auto.work ∙ settled-long s ∙ s.loop-place.invariant.1
 
 returns-2 : tie.Need-returns-then-p invariant-loop decreases-loop
 returns-2 c =
@@ -178,7 +172,7 @@ returns-2 c =
     let d = updated s in
     let u = d.update-p in
     let e =
-    whole (turn d) (walk_found _ _ _ _ _ _ _ _ (inside d) (some d).if-left-eq0.false u.result u.new.work u.ensures.0 u.ensures.1 candidate.if-p.true
+    whole (turn d) (walk_found _ _ _ _ _ _ _ _ (inside d) d.if-left-eq0.false u.result u.new.work u.ensures.0 u.ensures.1 candidate.if-p.true
     ∙ sym (at_place s _ _)) in
     (f.found.ensures.0 ∙ ap (λ (w : Walk). w.answer) e, f.found.ensures.1 ∙ ap (λ (w : Walk). w.words) e)
 
@@ -187,10 +181,10 @@ loop-less c =
     let s = c.before.before.before in
     let d = updated s in
     let u = d.update-p in
-    let place = (turn d).loop-place.place in
+    let place = d.loop-place.place in
     let less =
-    less_left place.columns place.row (turn d).loop-place.left u.result (stops d) c.if-p.false u.new.work (inside d) (some d).if-left-eq0.false in
-    subst (λ (q : Place). q.columns + ((turn d).loop-place.left - (u.result.row - place.row)) < place.columns + (turn d).loop-place.left)
+    less_left place.columns place.row d.loop-place.left u.result (stops d) c.if-p.false u.new.work (inside d) d.if-left-eq0.false in
+    subst (λ (q : Place). q.columns + (d.loop-place.left - (u.result.row - place.row)) < place.columns + d.loop-place.left)
     (sym s.settle-place.ensures.0) less
 
 loop-again : tie.Need-loop-place-preserved invariant-loop decreases-loop
@@ -198,18 +192,18 @@ loop-again c =
     let s = c.before.before.before in
     let d = updated s in
     let u = d.update-p in
-    let inv = (turn d).loop-place.invariant in
+    let inv = d.loop-place.invariant in
     let n = settled-long s in
     let w = within s in
     let stopped = stops d in
-    let place = (turn d).loop-place.place in
-    let rest = (turn d).loop-place.left - (u.result.row - place.row) in
+    let place = d.loop-place.place in
+    let rest = d.loop-place.left - (u.result.row - place.row) in
     let none = c.if-p.false in
     let goes =
-    walk_on (terms (turn d)) _ _ _ _ _ _ _ (inside d) (some d).if-left-eq0.false u.result u.new.work u.ensures.0 u.ensures.1 none inv.4
-    (spent_rest place.columns place.row (turn d).loop-place.left u.result stopped none) in
+    walk_on_lem (terms (turn d)) _ _ _ _ _ _ _ (inside d) d.if-left-eq0.false u.result u.new.work u.ensures.0 u.ensures.1 none inv.4
+    (spent_rest place.columns place.row d.loop-place.left u.result stopped none) in
     let walked =
-    (λ i. walk_from (terms (turn d)) (entry (turn d)).args.budget (s.settle-place.ensures.0 i) rest (s.settle-place.ensures.1 i)) ∙ sym goes in (
+    (λ i. walk_from (terms (turn d)) d.args.budget (s.settle-place.ensures.0 i) rest (s.settle-place.ensures.1 i)) ∙ sym goes in (
       omega arith,
       n ∙ inv.1,
       omega arith,
