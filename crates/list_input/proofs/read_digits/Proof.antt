@@ -9,8 +9,8 @@ use lib.ListN.{length, get_or, drop, drop_of_length-le}
 use lib.Seq.{drop-cons}
 use Rattle.list_input.specs.Input.{is_digit}
 use Rattle.list_input.specs.Answers.{digits_of}
-use Rattle.list_input.specs.declared.Number.TheVariants.{Malformed as noNumber, Value as number}
-use Rattle.list_input.proofs.Numbers.{below_digit, above_digit, is_digit, digits_bad, digits_next, digits_over, digits_end}
+use Rattle.list_input.specs.declared.Number.TheVariants.{Malformed as no_number, Value as number}
+use Rattle.list_input.proofs.Numbers.{below_digit, above_digit, is_digit_lem, digits_bad, digits_next, digits_over, digits_end}
 use Rattle.list_input.proofs.read_digits.Statement.{statement}
 use Rattle.list_input.proofs.read_digits.Tie as tie
 
@@ -22,14 +22,14 @@ decreases-loop bytes limit value₀ i₀ value i = length bytes - i
 
 -- places, each named for where it leads and from where
 module _ (limit value : ℕ) (l : List ℕ) (i : ℕ) where
-  bad : i < length l → is_digit (get_or l i 0) ≡ false → digits_of limit value (drop i l) ≡ noNumber
+  bad : i < length l → is_digit (get_or l i 0) ≡ false → digits_of limit value (drop i l) ≡ no_number
   bad h e = ap (digits_of limit value) (drop-cons l i 0 h) ∙ digits_bad limit value (get_or l i 0) (drop (suc i) l) e
 
   next : i < length l → 48 ≤ get_or l i 0 → get_or l i 0 ≤ 57
       → digits_of limit value (drop i l) ≡ digits_of limit (10 * value + (get_or l i 0 - 48)) (drop (i + 1) l)
   next h low high =
       ap (digits_of limit value) (drop-cons l i 0 h)
-      ∙ digits_next limit value (get_or l i 0) (drop (suc i) l) (is_digit (get_or l i 0) low high)
+      ∙ digits_next limit value (get_or l i 0) (drop (suc i) l) (is_digit_lem (get_or l i 0) low high)
       ∙ ap (λ (n : ℕ). digits_of limit (10 * value + (get_or l i 0 - 48)) (drop n l)) (sym (add-one i))
 
   none : length l ≤ i → value ≤ limit → digits_of limit value (drop i l) ≡ number value

@@ -12,7 +12,7 @@ use Rattle.list_input.specs.Input.{fields}
 use Rattle.list_input.specs.Answers.{field_of, last_field_of, first_line_of}
 use Rattle.list_input.specs.declared.Field.TheVariants.{Malformed as no_field, Given as field}
 use Rattle.list_input.specs.declared.LastField.{LastField}
-use Rattle.list_input.specs.declared.FirstLine.TheVariants.{Malformed as noFirstLine}
+use Rattle.list_input.specs.declared.FirstLine.TheVariants.{Malformed as no_first_line}
 use Rattle.list_line.proofs.Buffers.{part_to_end}
 use Rattle.list_input.proofs.Fields.{left, left_all, left_field, next_inside, left_malformed, as_first_line, left_last}
 use Rattle.list_input.proofs.read_first_line.Statement.{statement}
@@ -40,7 +40,7 @@ module _ (line numbers : List ℕ) (at i : ℕ) (long : length numbers ≡ 5)
       ∙ sym (left_field line at (5 - (i + 1)) (take i numbers) e)
       ∙ one_more h
 
-  no-field : i < 5 → field_of line at ≡ no_field → noFirstLine ≡ first_line_of (fields line)
+  no-field : i < 5 → field_of line at ≡ no_field → no_first_line ≡ first_line_of (fields line)
   no-field h e = sym (left_malformed line at (5 - (i + 1)) (take i numbers) e) ∙ one_more h
 
   -- what the last field makes of the fourth and the fifth number

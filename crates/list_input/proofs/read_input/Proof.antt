@@ -9,7 +9,7 @@ use Rattle.base.specs.Bytes.{line_feed}
 use Rattle.list_input.specs.Input.{lines}
 use Rattle.list_input.specs.Answers.{request_at, request_from, request_of}
 use Rattle.list_input.specs.declared.FirstLine.{FirstLine}
-use Rattle.list_input.specs.declared.Request.TheVariants.{Malformed as noRequest}
+use Rattle.list_input.specs.declared.Request.TheVariants.{Malformed as no_request}
 use Rattle.list_input.proofs.Parts.{parts, found_inside, found_end, found_more}
 use Rattle.list_input.proofs.Lines.{as_request, few_lines, long_text, long_read, by_first_line, some_part, first_inside, first_end, first_more}
 use borrow.Author.Rules.{rules}
@@ -17,7 +17,7 @@ use Rattle.list_input.proofs.read_input.Statement.{statement}
 use Rattle.list_input.proofs.read_input.Tie as tie
 
 -- a refusal, from the lines
-refused : (bytes : List ℕ) {ls : List (List ℕ)} → lines bytes ≡ ls → request_from ls ≡ noRequest → noRequest ≡ request_of bytes
+refused : (bytes : List ℕ) {ls : List (List ℕ)} → lines bytes ≡ ls → request_from ls ≡ no_request → no_request ≡ request_of bytes
 unfolding request_of
 refused bytes e m = sym (ap request_from e ∙ m)
 
@@ -223,7 +223,7 @@ returns-5 : tie.Need-returns-then-read_length-gt-PATTERN_LIMIT
 returns-5 c = refused _ (lines₃ c.before.before) (long_read _ (omega (arith, length-read c.before.before, c.if-read_length-gt-PATTERN_LIMIT.true)))
 
 slice-aggregate-read-first-line : tie.Need-slice_bounds-read_first_line-end
-slice-aggregate-read-first-line c = let third = c.before.before.before in sym (length-take-le _ _ (inside₁ (found₁ (found₂ third.before))))
+slice-aggregate-read-first-line c = sym (length-take-le _ _ (inside₁ (found₁ (found₂ c.before.before.before))))
 
 read-first-line-requires : tie.Need-read_first_line-requires
 read-first-line-requires c κs = search rules

@@ -4,6 +4,7 @@ use mathlib.Core.Path.{◌≡◌, sym, ap, ◌∙◌}
 use mathlib.Core.Bool.{Bool}
 use mathlib.Core.List.{List}
 use lib.IntN.{ℤ}
+use mir.Syntax.{w32}
 use mir.Facts.{to_z-of_z}
 use borrow.Author.Rules.{rules, sfits_of}
 use Rattle.mappings.specs.declared.Scoring.TheVariants.{Linear}
@@ -16,9 +17,6 @@ use Rattle.list_input.proofs.read_last_field.Statement.{statement}
 use Rattle.list_input.proofs.read_last_field.Tie as tie
 
 -- places, each named for where it leads and from where
-abbrev entry : tie.After-same → tie.Start
-entry c = c.before.before.before.before
-
 abbrev else1-read-signed : tie.After-read_signed → tie.Else-same
 else1-read-signed c = c.before
 
@@ -36,17 +34,11 @@ module _ (c : tie.After-read_signed) where
   abbrev compared : tie.After-same
   compared = (else1-read-signed c).before
 
-  abbrev start : tie.Start
-  start = entry compared
-
   read : {other : Threshold} → c.read_signed.result ≡ other
-      → as_linear start.args.fourth start.args.fifth other ≡ last_field_of start.args.fourth start.args.fifth (bytes compared)
+      → as_linear c.args.fourth c.args.fifth other ≡ last_field_of c.args.fourth c.args.fifth (bytes compared)
   read e =
-      ap (as_linear start.args.fourth start.args.fifth) (sym e ∙ c.read_signed.ensures)
+      ap (as_linear c.args.fourth c.args.fifth) (sym e ∙ c.read_signed.ensures)
       ∙ sym (last_threshold _ _ _ (tested compared c.if-same.false))
-
-slice-aggregate-same : tie.Need-slice-aggregate-same
-slice-aggregate-same c = search rules
 
 same-requires : tie.Need-same-requires
 same-requires c κs = search rules
@@ -69,8 +61,8 @@ returns-2 c = read c.before c.in-Malformed.is
 returns-3 : tie.Need-returns-in-Value
 returns-3 c =
     let at-signed = c.before in
-    let args = (start at-signed).args in
-    ap (λ (z : ℤ). scored (Linear args.fourth args.fifth z)) (to_z-of_z (sfits_of c.in-Value.known_told-1-own.given.0.1))
+    let args = at-signed.args in
+    ap (λ (z : ℤ). scored (Linear args.fourth args.fifth z)) (to_z-of_z {w = w32} (sfits_of c.in-Value.known_told-1-own.given.0.1))
     ∙ read at-signed c.in-Value.is
 
 pub read_last_field_spec : {M : Type 1} → statement M

@@ -14,7 +14,7 @@ use Rattle.base.specs.Bytes.{minus}
 use Rattle.list_input.specs.Answers.{number_of, threshold_of}
 use Rattle.list_input.specs.declared.Number.{Number}
 use Rattle.list_input.specs.declared.Number.TheVariants.{Value as number}
-use Rattle.list_input.specs.declared.Threshold.TheVariants.{Malformed as noSigned, Value as signedNumber}
+use Rattle.list_input.specs.declared.Threshold.TheVariants.{Malformed as no_signed, Value as signed_number}
 use Rattle.list_line.proofs.Buffers.{part_to_end}
 use Rattle.list_input.proofs.Numbers.{number_le, as_negative, as_positive, threshold_none, threshold_minus, threshold_plain}
 use borrow.Author.Rules.{rules, sfits_of}
@@ -34,11 +34,11 @@ module _ (l : List ℕ) (some : length l ≡ 0 → ⊥) (first : get_or l 0 0 �
   behind-le : {v : ℕ} → read ≡ number v → v ≤ 2 ^ 31
   behind-le {v} e = number_le (2 ^ 31) v (drop 1 l) (sym behind-is ∙ e)
 
-  behind-zero : {v : ℕ} → read ≡ number v → v ≡ 0 → noSigned ≡ threshold_of l
-  behind-zero {v} e z = ap (λ (t : Bool). cond t noSigned (signedNumber (neg_ℤ (pos v)))) (sym (eq-eqb v 0 z)) ∙ behind e
+  behind-zero : {v : ℕ} → read ≡ number v → v ≡ 0 → no_signed ≡ threshold_of l
+  behind-zero {v} e z = ap (λ (t : Bool). cond t no_signed (signed_number (neg_ℤ (pos v)))) (sym (eq-eqb v 0 z)) ∙ behind e
 
-  behind-some : {v : ℕ} → read ≡ number v → (v ≡ 0 → ⊥) → signedNumber (neg_ℤ (pos v)) ≡ threshold_of l
-  behind-some {v} e ne = ap (λ (t : Bool). cond t noSigned (signedNumber (neg_ℤ (pos v)))) (sym (ne_eqb v 0 ne)) ∙ behind e
+  behind-some : {v : ℕ} → read ≡ number v → (v ≡ 0 → ⊥) → signed_number (neg_ℤ (pos v)) ≡ threshold_of l
+  behind-some {v} e ne = ap (λ (t : Bool). cond t no_signed (signed_number (neg_ℤ (pos v)))) (sym (ne_eqb v 0 ne)) ∙ behind e
 
 -- what the number read without a minus makes
 module _ (l : List ℕ) (some : length l ≡ 0 → ⊥) (first : get_or l 0 0 ≡ minus → ⊥) {read : Number}
@@ -94,7 +94,7 @@ negative-requires c κs =
     c.in-Value.is
 
 returns-4 : tie.Need-returns-in-Value
-returns-4 c = ap signedNumber (to_z-of_z (sfits_of c.negative.type-inv) ∙ c.negative.ensures)
+returns-4 c = ap signed_number (to_z-of_z {w = w32} (sfits_of c.negative.type_inv) ∙ c.negative.ensures)
     ∙ behind-some c.args.bytes.now c.if-bytes-eq0.false
     c.if-bytes-eq-MINUS.true c.read_number.ensures
     c.in-Value.is c.if-value-eq0.false
@@ -121,7 +121,7 @@ returns-5 c =
 
 returns-6 : tie.Need-returns-in-Value-read_number
 returns-6 c =
-    ap signedNumber
+    ap signed_number
     (to_z_pos w32
     (plain-lt c.args.bytes.now
     c.if-bytes-eq0.false c.if-bytes-eq-MINUS.false

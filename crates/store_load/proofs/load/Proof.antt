@@ -12,7 +12,7 @@ use borrow.Author.Tests.{lt-ltb, ltb-false, not-true, not-false}
 use Rattle.base.specs.Replies.{Reply, refused, after}
 use Rattle.base.proofs.Lists.{or_left, or_right}
 use Rattle.base.specs.Limits.{k_limit}
-use Rattle.kmers.specs.Kmers.{codes as codes_of, positions as positionsOf}
+use Rattle.kmers.specs.Kmers.{codes as codes_of, positions as positions_of}
 use Rattle.store.specs.Words.{header_k, is_header}
 use Rattle.store.specs.Load.{Judged, good, bad, judge_from, judge, store_k, store_w, load_room, judged_reply, load_reply, entries_of, load_codes, load_positions}
 use Rattle.store_load.specs.Verdicts.{counted, verdict_reply}
@@ -39,7 +39,7 @@ module _ (ws cs ps : List ℕ) where
     sym e,
     (
       sym (ap (λ (r : Reply). after r (codes_of (entries_of (judge ws))) cs) e),
-      sym (ap (λ (r : Reply). after r (positionsOf (entries_of (judge ws))) ps) e),
+      sym (ap (λ (r : Reply). after r (positions_of (entries_of (judge ws))) ps) e),
     ),
   )
 

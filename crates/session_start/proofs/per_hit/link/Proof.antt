@@ -8,7 +8,7 @@ use native.Mathlib.Nat.{mul-le-mul_left}
 use Prim.Native.Nat.{◌+◌, ◌<◌}
 use Rattle.session_start.proofs.Ring.{Ring, ring_none}
 use Rattle.base.proofs.Writing.{Written, written_more, written_all}
-use Rattle.session_start.specs.Noting.{words_at, backs as backsOf}
+use Rattle.session_start.specs.Noting.{words_at, backs as backs_of}
 use lib.ListN.{length}
 use mathlib.Core.Path.{◌≡◌, refl}
 use native.Mathlib.Omega.{arith}
@@ -23,7 +23,7 @@ use Rattle.session_words.proofs.wide.Reads as wide-reads
 abbrev invariant-loop : tie.invariant-loop-j
 invariant-loop sorted slots turns₀ ring₀ backs₀ j₀ turns ring backs j =
     (j ≤ length slots) × (length turns ≡ length turns₀) × (length ring ≡ length ring₀) × (length backs ≡ length backs₀)
-    × Ring sorted (words_at sorted slots) turns ring j × Written (backsOf sorted (words_at sorted slots)) backs₀ j backs
+    × Ring sorted (words_at sorted slots) turns ring j × Written (backs_of sorted (words_at sorted slots)) backs₀ j backs
 
 abbrev decreases-loop : tie.decreases-loop-j
 decreases-loop sorted slots turns₀ ring₀ backs₀ j₀ turns ring backs j = length slots - j
@@ -137,14 +137,14 @@ loop-again c =
     let slot = w.wide-slot in
     let turned = c.wide in
     let h : at.j < length slots = w.loop-j-test.true in
-    let n : length (backsOf sorted (words_at sorted slots)) ≡ length slots = length_backs sorted (words_at sorted slots) ∙ length_words_at sorted slots in (
+    let n : length (backs_of sorted (words_at sorted slots)) ≡ length slots = length_backs sorted (words_at sorted slots) ∙ length_words_at sorted slots in (
       omega arith,
       simp length-set at.invariant.1,
       simp length-set at.invariant.2,
       simp length-set at.invariant.3,
       links_more sorted slots begin at.turns at.ring at.j slot.result turned.result at.invariant.4 h slot.ensures.0 turned.ensures.0
           c.one_at.result c.one_at.ensures.0 (omega arith) (omega arith),
-      written_more (backsOf sorted (words_at sorted slots)) start.args.backs.now at.j at.backs
+      written_more (backs_of sorted (words_at sorted slots)) start.args.backs.now at.j at.backs
           (get_or at.ring (slot.result + turned.result) 0) at.invariant.5 (omega arith) (omega arith)
           (finds_back sorted slots begin at.turns at.ring at.j slot.result turned.result at.invariant.4 h slot.ensures.0 turned.ensures.0),
     )
@@ -164,8 +164,8 @@ returns c =
     let args = c.args in
     let sorted = args.sorted.now in
     let slots = args.slots.now in
-    let n : length (backsOf sorted (words_at sorted slots)) ≡ length slots = length_backs sorted (words_at sorted slots) ∙ length_words_at sorted slots in
-    written_all (backsOf sorted (words_at sorted slots)) args.backs.now at.j at.backs at.invariant.5 (omega arith) (omega arith)
+    let n : length (backs_of sorted (words_at sorted slots)) ≡ length slots = length_backs sorted (words_at sorted slots) ∙ length_words_at sorted slots in
+    written_all (backs_of sorted (words_at sorted slots)) args.backs.now at.j at.backs at.invariant.5 (omega arith) (omega arith)
 
 pub link_spec : {M : Type 1} → statement M
 link_spec =

@@ -2,7 +2,7 @@
 use borrow.Author.Rules.{rules}
 use Rattle.session_start.proofs.Storing.{store_all}
 use Rattle.session_start.proofs.Reaching.{length_with_pair, Told, told_filled, told_next, told_end}
-use Rattle.session_start.specs.Noting.{AllIn, backs as backsOf}
+use Rattle.session_start.specs.Noting.{AllIn, backs as backs_of}
 use lib.ListN.{length, replicate, length-replicate}
 use mathlib.Core.List.{List}
 use mathlib.Core.Path.{◌≡◌, refl, sym, ap, ◌∙◌}
@@ -19,7 +19,7 @@ use Rattle.session_words.proofs.wide.Reads as wide-reads
 abbrev invariant-loop : tie.invariant-loop-j
 invariant-loop backs reach₀ j₀ reach j =
     (j ≤ length backs) × (length reach ≡ length backs)
-    × ((p g : List ℕ) → AllIn p g → backs ≡ backsOf p g → Told p g j reach)
+    × ((p g : List ℕ) → AllIn p g → backs ≡ backs_of p g → Told p g j reach)
 
 abbrev decreases-loop : tie.decreases-loop-j
 decreases-loop backs reach₀ j₀ reach j = length backs - j
