@@ -58,10 +58,9 @@ same_length c = search rules
 
 returns : tie.Need-returns-in-Found
 returns c =
-    let found = c.before.before.before in
     let z = to_z-of_z {w = w32} {z = c.shown.result} (sfits_of c.shown.type_inv) ∙ c.shown.ensures in
-    told found.before.before _ found.in-Found.is _ c.found_kind.ensures _
-    (ap (λ (y : ℤ). lent found.in-Found.a found.in-Found.b y found.in-Found.m) z) _ refl
+    told c.before.before.before _ c.in-Found.is _ c.found_kind.ensures _
+    (ap (λ (y : ℤ). lent c.in-Found.a c.in-Found.b y c.in-Found.m) z) _ refl
 
 same-length-2 : tie.Need-shape_of-work-in-Finished
 same-length-2 c = search rules

@@ -34,7 +34,7 @@ cast-result : tie.Need-overflow_cast-result
 cast-result c = search rules
 
 returns-2 : tie.Need-returns-in-Number
-returns-2 c = to_z-of_z (sfits_of c.in-Number.known_told-1-own.given.0.1) ∙ sym (ap shown c.in-Number.is)
+returns-2 c = to_z-of_z {w = w32} (sfits_of c.in-Number.known_told-1-own.given.0.1) ∙ sym (ap shown c.in-Number.is)
 
 returns-3 : tie.Need-returns-else-divisor-ge-SIGNED_LIMIT
 returns-3 c = to_z_pos w32 c.if-divisor-ge-SIGNED_LIMIT.false ∙ as-divisor _ _ _ c.in-Fraction.is c.if-divisor-ge-SIGNED_LIMIT.false
