@@ -91,10 +91,9 @@ same-length-2 c = search rules
 
 returns : tie.Need-returns-then-count-ge-FOUND_LIMIT invariant-loop decreases-loop
 returns c =
-    let told = c.before.before in
-    let at_turn = at-loop told.before.before.before in
-    fills_stopped _ _ _ _ _ _ _ _ _ _ _ at_turn.loop-out.invariant.0 at_turn.loop-out.invariant.2 (roomy told.before.before.before) at_turn.loop-out.invariant.3
-    at_turn.loop-out.invariant.1 c.stopped.result _ _ _ _ _ _ (promise told.before.before.before told.in-Found.is)
+    let at = c.before.before.before in
+    fills_stopped _ _ _ _ _ _ _ _ _ _ _ c.loop-out.invariant.0 c.loop-out.invariant.2 (roomy at) c.loop-out.invariant.3
+    c.loop-out.invariant.1 c.stopped.result _ _ _ _ _ _ (promise at c.in-Found.is)
     (too_many _ _ _ _ _ c.if-count-ge-FOUND_LIMIT.true) _ refl c.stopped.ensures.0 c.stopped.ensures.1 c.stopped.ensures.2
 
 put-mapping-requires : tie.Need-put_mapping-next-requires invariant-loop decreases-loop
@@ -169,7 +168,7 @@ returns-4 c =
     let at = c.before.before in
     let at_turn = at-loop at in
     fills_other _ _ _ _ _ _ _ _ _ _ _ at_turn.loop-out.invariant.0 at_turn.loop-out.invariant.2 (roomy at) at_turn.loop-out.invariant.3 at_turn.loop-out.invariant.1
-    c.stopped-in_default.result _ (others at.step.result c.in-Found.in-Found-own.keys3) _ at.step.ensures c.stopped-in_default.ensures.0
+    c.stopped-in_default.result _ (others at.step.result c.in_default.in_default-own.keys3) _ at.step.ensures c.stopped-in_default.ensures.0
     c.stopped-in_default.ensures.1 c.stopped-in_default.ensures.2
 
 cells-left-requires : tie.Need-cells_left-requires invariant-loop decreases-loop

@@ -130,7 +130,7 @@ abbrev some : tie.After-shared_slice_known-2-1 → tie.Else-end-lt1
 some c = c.before.before.before
 
 shared-slice-read-first : tie.Need-bounds-positions-from
-shared-slice-read-first c = let b = bounds (some c).before c.if-end-lt1.false in omega (arith, b.0, b.1)
+shared-slice-read-first c = let b = bounds c.before.before.before.before c.if-end-lt1.false in omega (arith, b.0, b.1)
 
 slice-aggregate-line : tie.Need-slice_bounds-line-end
 slice-aggregate-line c = search rules
@@ -142,7 +142,7 @@ cast-line-2 : tie.Need-overflow_cast-thousandths
 cast-line-2 c =
     let d = c in
     let p = d.per_mille-thousandths in
-    cast_fits p.result (sfits_of p.ok) d.if-thousandths-lt0.false
+    cast_fits p.result (sfits_of p.type_inv) d.if-thousandths-lt0.false
 
 line-requires : tie.Need-line-part-requires
 line-requires c κs = search rules
@@ -173,7 +173,7 @@ module _ (c : tie.After-line-part) where
       c.args.mapping.b c.args.mapping.score c.args.mapping.m _ _ _
       (ap (λ (j : ℕ). get_or c.args.positions.now j 0) c.wide-from.ensures.0)
       (last_letter (ended per) h)
-      (abs_is c.per_mille-thousandths.result (sfits_of c.per_mille-thousandths.ok) _ (per-mille-known per h l s))
+      (abs_is c.per_mille-thousandths.result (sfits_of c.per_mille-thousandths.type_inv) _ (per-mille-known per h l s))
 
   -- where the line is written, its numbers hold the mapping
   never-unheld : is_held c.args.positions.now c.args.k c.args.size c.args.mapping.a c.args.mapping.b
@@ -181,7 +181,7 @@ module _ (c : tie.After-line-part) where
       → ⊥
   never-unheld t =
       let h = held-here (ended per) read.if-end-lt1.false in
-      let s = per_mille_back c.per_mille-thousandths.result (sfits_of c.per_mille-thousandths.ok) c.args.mapping.m c.args.mapping.a
+      let s = per_mille_back c.per_mille-thousandths.result (sfits_of c.per_mille-thousandths.type_inv) c.args.mapping.m c.args.mapping.a
       c.args.mapping.b (from (ended per)) (to (ended per)) c.args.size c.wide-from.ensures.0
       c.wide-to.ensures.0
       h.ordered c.per_mille-thousandths.ensures c.if-thousandths-lt0.false in
@@ -190,9 +190,8 @@ module _ (c : tie.After-line-part) where
 
 returns-3 : tie.Need-returns
 returns-3 c =
-    let wrote = c.before.before.before in
-    let made = wrote.before.before.before in
-    let w = wrote.put_bytes.ensures in
+    let made = c.before.before.before.before.before in
+    let w = c.put_bytes.ensures in
     record {
       inside = λ h. written_inside w h;
       onward = written_onward w;
