@@ -17,7 +17,7 @@ fn main() {
     let library = folder.join("libexports.a");
     println!("cargo:rerun-if-changed={}", library.display());
     if !library.is_file() {
-        eprintln!("{} is missing: `rt lib` in crates/exports makes it, and host/test makes all that is needed", library.display());
+        eprintln!("{} is missing: `rt lib` in crates/exports makes it, and host/test all that is needed", library.display());
         exit(1);
     }
     println!("cargo:rustc-link-lib=static=exports");

@@ -16,7 +16,11 @@ pub fn maplist() -> PathBuf {
         Some(path) => PathBuf::from(path),
         None => Path::new(env!("CARGO_MANIFEST_DIR")).join("../crates/maplist/out/maplist"),
     };
-    assert!(path.is_file(), "{} is missing: `rt run` in crates/maplist makes it, and host/test makes all that is needed", path.display());
+    assert!(
+        path.is_file(),
+        "{} is missing: `rt run` in crates/maplist makes it, and host/test all that is needed",
+        path.display()
+    );
     path
 }
 
