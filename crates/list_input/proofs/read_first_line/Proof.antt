@@ -39,8 +39,8 @@ module _ (line numbers : List ℕ) (at i : ℕ) (long : length numbers ≡ 5)
       ∙ sym (left_field line at (5 - (i + 1)) (take i numbers) e)
       ∙ one_more h
 
-  no_field : i < 5 → field_of line at ≡ no_field → no_first_line ≡ first_line_of (fields line)
-  no_field h e = sym (left_malformed line at (5 - (i + 1)) (take i numbers) e) ∙ one_more h
+  malformed_field : i < 5 → field_of line at ≡ no_field → no_first_line ≡ first_line_of (fields line)
+  malformed_field h e = sym (left_malformed line at (5 - (i + 1)) (take i numbers) e) ∙ one_more h
 
   -- what the last field makes of the fourth and the fifth number
   abbrev last_of : List ℕ → LastField
@@ -66,7 +66,7 @@ enum_told-1 : tie.Need-enum_told-1 invariant-loop decreases-loop
 enum_told-1 c = search rules
 
 returns-in-Malformed : tie.Need-returns-in-Malformed invariant-loop decreases-loop
-returns-in-Malformed c = no_field c.args.line.now c.loop-i.numbers
+returns-in-Malformed c = malformed_field c.args.line.now c.loop-i.numbers
     c.loop-i.at c.loop-i.i c.loop-i.invariant.2
     c.loop-i.invariant.3 c.loop-i-test.true
     (sym c.read_field.ensures ∙ c.in-Malformed.is)
