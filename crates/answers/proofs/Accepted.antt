@@ -35,25 +35,25 @@ past : (b : Bool) (n : ℕ) (values : List ℕ) {r : Reply} → Tells r → Tell
 past true n values t = record { tells = λ e. absurd (omega (arith, e)) }
 past false n values t = t
 
-room_tells : (n codeRoom positionRoom : ℕ) → Tells (room_for n codeRoom positionRoom)
+room_tells : (n code_room position_room : ℕ) → Tells (room_for n code_room position_room)
 unfolding room_for
-room_tells n codeRoom positionRoom = past (ltb codeRoom n || ltb positionRoom n) 3 (n ∷ []) (value_tells n)
+room_tells n code_room position_room = past (ltb code_room n || ltb position_room n) 3 (n ∷ []) (value_tells n)
 
-pub sketch_tells : (k w : ℕ) (letters : List ℕ) (codeRoom positionRoom : ℕ) → Tells (sketch_reply k w letters codeRoom positionRoom)
+pub sketch_tells : (k w : ℕ) (letters : List ℕ) (code_room position_room : ℕ) → Tells (sketch_reply k w letters code_room position_room)
 unfolding sketch_reply checked_letters
-sketch_tells k w letters codeRoom positionRoom =
+sketch_tells k w letters code_room position_room =
     past (outside 1 k_limit k) 0 []
     (past (outside 1 w_limit w) 1 []
     (past (ltb letter_limit (length letters)) 2 []
-    (room_tells (length (sketch k w letters)) codeRoom positionRoom)))
+    (room_tells (length (sketch k w letters)) code_room position_room)))
 
-pub strike_tells : (deciding cs ps : List ℕ) (c codeRoom positionRoom : ℕ) → Tells (strike_reply deciding cs ps c codeRoom positionRoom)
+pub strike_tells : (deciding cs ps : List ℕ) (c code_room position_room : ℕ) → Tells (strike_reply deciding cs ps c code_room position_room)
 unfolding strike_reply
-strike_tells deciding cs ps c codeRoom positionRoom =
+strike_tells deciding cs ps c code_room position_room =
     past (not (eqb (length cs) (length ps))) 4 []
     (past (ltb text_limit (length deciding)) 7 []
     (past (outside 1 text_limit c) 5 []
-    (room_tells (length (strike deciding c (entries cs ps))) codeRoom positionRoom)))
+    (room_tells (length (strike deciding c (entries cs ps))) code_room position_room)))
 
 pub complement_tells : (read : List ℕ) (room : ℕ) → Tells (complement_reply read room)
 unfolding complement_reply
@@ -114,10 +114,10 @@ judge_numbered (x ∷ rest) = go (is_header x) (way_numbered (way (header_k x) 1
     go true h = h
     go false h = omega arith
 
-pub load_tells : (words : List ℕ) (codeRoom positionRoom : ℕ) → number_of (load_reply words codeRoom positionRoom) ≡ 0
-    → load_reply words codeRoom positionRoom ≡ accepted (store_k words ∷ store_w words ∷ value_of (load_reply words codeRoom positionRoom) ∷ [])
+pub load_tells : (words : List ℕ) (code_room position_room : ℕ) → number_of (load_reply words code_room position_room) ≡ 0
+    → load_reply words code_room position_room ≡ accepted (store_k words ∷ store_w words ∷ value_of (load_reply words code_room position_room) ∷ [])
 unfolding load_reply load_room
-load_tells words codeRoom positionRoom = go (judge words) (judge_numbered words)
+load_tells words code_room position_room = go (judge words) (judge_numbered words)
   where
     room : (b : Bool) (n : ℕ) → number_of (cond b (refused 4 (n ∷ [])) (accepted (store_k words ∷ store_w words ∷ n ∷ []))) ≡ 0
         → cond b (refused 4 (n ∷ [])) (accepted (store_k words ∷ store_w words ∷ n ∷ []))
@@ -125,8 +125,8 @@ load_tells words codeRoom positionRoom = go (judge words) (judge_numbered words)
     room true n e = absurd (omega (arith, e))
     room false n e = refl
 
-    go : (j : Judged) → Numbered j → number_of (judged_reply (store_k words) (store_w words) j codeRoom positionRoom) ≡ 0
-        → judged_reply (store_k words) (store_w words) j codeRoom positionRoom
-        ≡ accepted (store_k words ∷ store_w words ∷ value_of (judged_reply (store_k words) (store_w words) j codeRoom positionRoom) ∷ [])
+    go : (j : Judged) → Numbered j → number_of (judged_reply (store_k words) (store_w words) j code_room position_room) ≡ 0
+        → judged_reply (store_k words) (store_w words) j code_room position_room
+        ≡ accepted (store_k words ∷ store_w words ∷ value_of (judged_reply (store_k words) (store_w words) j code_room position_room) ∷ [])
     go (bad number index) h e = absurd (omega (arith, h, e))
-    go (good es) h e = room (ltb codeRoom (length es) || ltb positionRoom (length es)) (length es) e
+    go (good es) h e = room (ltb code_room (length es) || ltb position_room (length es)) (length es) e

@@ -4,7 +4,7 @@
 
 ghost use Rattle.std.specs.Prelude.{◌≡◌};
 ghost use Rattle.sketch.specs.Answers.{reply_of as sketchedReply};
-ghost use Rattle.strike.specs.Answers.{reply_of as struckReply};
+ghost use Rattle.strike.specs.Answers.{reply_of as struck_reply};
 ghost use Rattle.strands.specs.Answers.{reply_of as complementedReply};
 ghost use Rattle.store.specs.Answers.{saved_reply, loaded_reply};
 ghost use Rattle.session_start.specs.Answers.{started_reply};
@@ -33,7 +33,7 @@ pub fn of_sketch(answer: Sketched) -> Numbers
 }
 
 pub fn of_strike(answer: Struck) -> Numbers
-    ensures { (result.0 ≡ number_of (struckReply answer)) × (result.1 ≡ value_of (struckReply answer)) }
+    ensures { (result.0 ≡ number_of (struck_reply answer)) × (result.1 ≡ value_of (struck_reply answer)) }
 {
     match answer {
         Struck::Entries(n) => Numbers(0, n),

@@ -19,9 +19,9 @@ use Rattle.list_input.specs.Input.{fields, is_first_line, settings_of}
 use Rattle.list_input.specs.Answers.{first_part, field_of, last_field_of, first_line_of}
 use Rattle.list_input.specs.declared.Field.TheVariants.{Malformed as no_field, Given as field}
 use Rattle.list_input.specs.declared.LastField.{LastField}
-use Rattle.list_input.specs.declared.LastField.TheVariants.{Malformed as noLastField, Given as scored}
+use Rattle.list_input.specs.declared.LastField.TheVariants.{Malformed as no_last_field, Given as scored}
 use Rattle.list_input.specs.declared.FirstLine.{FirstLine}
-use Rattle.list_input.specs.declared.FirstLine.TheVariants.{Malformed as noFirstLine, Given as first_line}
+use Rattle.list_input.specs.declared.FirstLine.TheVariants.{Malformed as no_first_line, Given as first_line}
 use Rattle.list_input.proofs.Numbers.{after_cond, signed_tests, word_is}
 use Rattle.list_input.proofs.Parts.{parts, first_more, parts_one, parts_more, first_le}
 
@@ -43,15 +43,15 @@ abbrev scoring_by : List ℕ → List ℕ → Scoring
 scoring_by ns p = scoring_of (get_or ns 3 0) (get_or ns 4 0) p
 
 abbrev last_field : List ℕ → List (List ℕ) → FirstLine
-last_field ns [] = noFirstLine
-last_field ns (p ∷ []) = cond (is_last_field p) (made ns (scoring_by ns p)) noFirstLine
-last_field ns (p ∷ q ∷ ps) = noFirstLine
+last_field ns [] = no_first_line
+last_field ns (p ∷ []) = cond (is_last_field p) (made ns (scoring_by ns p)) no_first_line
+last_field ns (p ∷ q ∷ ps) = no_first_line
 
 -- n numbers and the last field are left
 abbrev pub left : ℕ → List ℕ → List (List ℕ) → FirstLine
 left zero ns fs = last_field ns fs
-left (suc n) ns [] = noFirstLine
-left (suc n) ns (p ∷ ps) = cond (is_unsigned p) (left n (ns ++ decimal_value 0 p ∷ []) ps) noFirstLine
+left (suc n) ns [] = no_first_line
+left (suc n) ns (p ∷ ps) = cond (is_unsigned p) (left n (ns ++ decimal_value 0 p ∷ []) ps) no_first_line
 
 -- all is left
 pub left_all : (fs : List (List ℕ)) → left 5 [] fs ≡ first_line_of fs
@@ -67,20 +67,20 @@ left_all (a ∷ b ∷ c ∷ d ∷ e ∷ f ∷ g ∷ fs) = simp (cond_same, ne_eq
 
 -- ---- one field more
 
-left_none : (n : ℕ) (ns : List ℕ) → left n ns [] ≡ noFirstLine
+left_none : (n : ℕ) (ns : List ℕ) → left n ns [] ≡ no_first_line
 left_none zero ns = refl
 left_none (suc n) ns = refl
 
 module _ (n : ℕ) (ns : List ℕ) (l : List ℕ) where
   -- no space is left: the fields run out
-  left_end : length (first_part space l) ≡ length l → left (suc n) ns (fields l) ≡ noFirstLine
+  left_end : length (first_part space l) ≡ length l → left (suc n) ns (fields l) ≡ no_first_line
   unfolding fields
   left_end e =
       ap (left (suc n) ns) (parts_one space l e)
-      ∙ ap (λ (a : FirstLine). cond (is_unsigned l) a noFirstLine) (left_none n (ns ++ decimal_value 0 l ∷ []))
-      ∙ cond_same (is_unsigned l) noFirstLine
+      ∙ ap (λ (a : FirstLine). cond (is_unsigned l) a no_first_line) (left_none n (ns ++ decimal_value 0 l ∷ []))
+      ∙ cond_same (is_unsigned l) no_first_line
 
-  left_bad : length (first_part space l) < length l → is_unsigned (first_part space l) ≡ false → left (suc n) ns (fields l) ≡ noFirstLine
+  left_bad : length (first_part space l) < length l → is_unsigned (first_part space l) ≡ false → left (suc n) ns (fields l) ≡ no_first_line
   unfolding fields
   left_bad h e = ap (left (suc n) ns) (parts_more space l h) ∙ rw e
 
@@ -146,7 +146,7 @@ module _ (line : List ℕ) (from : ℕ) where
       let place : next ≡ from + length p + 1 = good.2 in
       omega arith
 
-  pub left_malformed : (n : ℕ) (ns : List ℕ) → field_of line from ≡ no_field → left (suc n) ns (fields (drop from line)) ≡ noFirstLine
+  pub left_malformed : (n : ℕ) (ns : List ℕ) → field_of line from ≡ no_field → left (suc n) ns (fields (drop from line)) ≡ no_first_line
   left_malformed n ns e = go (decided (ltb (length (first_part space (drop from line))) (length (drop from line))))
     where
       l : List ℕ
@@ -155,7 +155,7 @@ module _ (line : List ℕ) (from : ℕ) where
       p : List ℕ
       p = first_part space l
 
-      go : (ltb (length p) (length l) ≡ true) ⊎ (ltb (length p) (length l) ≡ false) → left (suc n) ns (fields l) ≡ noFirstLine
+      go : (ltb (length p) (length l) ≡ true) ⊎ (ltb (length p) (length l) ≡ false) → left (suc n) ns (fields l) ≡ no_first_line
       go (inl t) = left_bad n ns l (ltb-true (length p) (length l) t) (rw t at (read_bad e))
       go (inr t) =
           let short : length p ≤ length l = first_le space l in
@@ -198,11 +198,11 @@ last_whole l e = go (is_jaccard l) refl
     go true t = ap (λ (w : List ℕ). length (first_part space w)) (word_is l t) ∙ sym (ap length (word_is l t))
     go false t = signed_whole l (rw t at e)
 
-more_than_one : (ns p : List ℕ) (l : List ℕ) → last_field ns (p ∷ parts space l) ≡ noFirstLine
+more_than_one : (ns p : List ℕ) (l : List ℕ) → last_field ns (p ∷ parts space l) ≡ no_first_line
 more_than_one ns p [] = refl
 more_than_one ns p (b ∷ l) = go (eqb b space) refl (parts space l) refl
   where
-    go : (t : Bool) → eqb b space ≡ t → (ps : List (List ℕ)) → parts space l ≡ ps → last_field ns (p ∷ parts space (b ∷ l)) ≡ noFirstLine
+    go : (t : Bool) → eqb b space ≡ t → (ps : List (List ℕ)) → parts space l ≡ ps → last_field ns (p ∷ parts space (b ∷ l)) ≡ no_first_line
     go true t ps e = rw t
     go false t [] e = rw (t, e)
     go false t (q ∷ qs) e = rw (t, e)
@@ -210,16 +210,16 @@ more_than_one ns p (b ∷ l) = go (eqb b space) refl (parts space l) refl
 module _ (ns l : List ℕ) where
   -- a space is left: there are too many fields, and what has a space is no last field
   too_many : length (first_part space l) < length l → (t : Bool) → is_last_field l ≡ t
-      → last_field ns (parts space l) ≡ cond t (made ns (scoring_by ns l)) noFirstLine
+      → last_field ns (parts space l) ≡ cond t (made ns (scoring_by ns l)) no_first_line
   too_many h true s = absurd (omega (arith, last_whole l s))
   too_many h false s = ap (last_field ns) (parts_more space l h) ∙ more_than_one ns (first_part space l) (drop (suc (length (first_part space l))) l)
 
-  left_end_of_line : left 0 ns (fields l) ≡ cond (is_last_field l) (made ns (scoring_by ns l)) noFirstLine
+  left_end_of_line : left 0 ns (fields l) ≡ cond (is_last_field l) (made ns (scoring_by ns l)) no_first_line
   unfolding fields
   left_end_of_line = go (decided (ltb (length (first_part space l)) (length l)))
     where
       go : (ltb (length (first_part space l)) (length l) ≡ true) ⊎ (ltb (length (first_part space l)) (length l) ≡ false)
-          → last_field ns (parts space l) ≡ cond (is_last_field l) (made ns (scoring_by ns l)) noFirstLine
+          → last_field ns (parts space l) ≡ cond (is_last_field l) (made ns (scoring_by ns l)) no_first_line
       go (inl h) = too_many (ltb-true (length (first_part space l)) (length l) h) (is_last_field l) refl
       go (inr h) =
           let short : length (first_part space l) ≤ length l = first_le space l in
@@ -228,9 +228,9 @@ module _ (ns l : List ℕ) where
 
 -- the answer from the numbers and what was read of the last field
 abbrev pub as_first_line : List ℕ → LastField → FirstLine
-as_first_line ns noLastField = noFirstLine
+as_first_line ns no_last_field = no_first_line
 as_first_line ns (scored scoring) = made ns scoring
 
 pub left_last : (ns l : List ℕ) → left 0 ns (fields l) ≡ as_first_line ns (last_field_of (get_or ns 3 0) (get_or ns 4 0) l)
 unfolding last_field_of
-left_last ns l = left_end_of_line ns l ∙ sym (after_cond (as_first_line ns) (is_last_field l) (scored (scoring_by ns l)) noLastField)
+left_last ns l = left_end_of_line ns l ∙ sym (after_cond (as_first_line ns) (is_last_field l) (scored (scoring_by ns l)) no_last_field)

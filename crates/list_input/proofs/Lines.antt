@@ -13,9 +13,9 @@ use Rattle.list_input.specs.Input.{fields, lines, is_first_line, is_well_formed,
 use Rattle.base.specs.Bytes.{line_feed}
 use Rattle.list_input.specs.Answers.{first_part, answer_of, first_line_of, request_at, request_from}
 use Rattle.list_input.specs.declared.Request.{Request}
-use Rattle.list_input.specs.declared.Request.TheVariants.{Malformed as noRequest}
+use Rattle.list_input.specs.declared.Request.TheVariants.{Malformed as no_request}
 use Rattle.list_input.specs.declared.FirstLine.{FirstLine}
-use Rattle.list_input.specs.declared.FirstLine.TheVariants.{Malformed as noFirstLine, Given as first_line}
+use Rattle.list_input.specs.declared.FirstLine.TheVariants.{Malformed as no_first_line, Given as first_line}
 use Rattle.list_line.proofs.Buffers.{part_to_end}
 use Rattle.list_input.proofs.Parts.{parts, two_parts, parts_more, found_inside, found_end, found_more}
 use Rattle.list_input.proofs.Numbers.{and_false, and_true, after_cond}
@@ -30,19 +30,19 @@ input_from_lem bytes = refl
 
 -- the request from what was read of the first line, with the lengths of the three lines
 abbrev pub as_request : FirstLine → ℕ → ℕ → ℕ → Request
-as_request noFirstLine first text read = noRequest
+as_request no_first_line first text read = no_request
 as_request (first_line k w c scoring) first text read = request_at (record { k = k; w = w; c = c; scoring = scoring }) first text read
 
 module _ (ls : List (List ℕ)) where
-  pub few_lines : length ls < 4 → request_from ls ≡ noRequest
+  pub few_lines : length ls < 4 → request_from ls ≡ no_request
   unfolding is_well_formed
   few_lines h = rw (lt-leb 4 (length ls) h)
 
-  pub long_text : line_limit < length (get_or ls 1 []) → request_from ls ≡ noRequest
+  pub long_text : line_limit < length (get_or ls 1 []) → request_from ls ≡ no_request
   unfolding is_well_formed
   long_text h = simp (lt-leb (length (get_or ls 1 [])) line_limit h, and_false)
 
-  pub long_read : line_limit < length (get_or ls 2 []) → request_from ls ≡ noRequest
+  pub long_read : line_limit < length (get_or ls 2 []) → request_from ls ≡ no_request
   unfolding is_well_formed
   long_read h = simp (lt-leb (length (get_or ls 2 [])) line_limit h, and_false)
 
@@ -56,7 +56,7 @@ module _ (ls : List (List ℕ)) where
       (sym
       (after_cond (λ (a : FirstLine). as_request a (length (get_or ls 0 [])) (length (get_or ls 1 [])) (length (get_or ls 2 []))) (is_first_line fs)
       (answer_of (settings_of fs))
-      noFirstLine))
+      no_first_line))
 
 -- what a well-formed input has
 pub well_formed_lines : (ls : List (List ℕ)) → is_well_formed ls ≡ true

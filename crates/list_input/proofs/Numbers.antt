@@ -17,11 +17,11 @@ use Rattle.mappings.specs.declared.Scoring.TheVariants.{Linear, Jaccard}
 use Rattle.list_input.specs.Input.{is_digit, is_decimal, decimal_value, is_unsigned, is_signed, signed_value, same_bytes, jaccard_word, is_jaccard, scoring_of}
 use Rattle.list_input.specs.Answers.{first_part, digits_of, number_of, field_of, threshold_of, last_field_of}
 use Rattle.list_input.specs.declared.Number.{Number}
-use Rattle.list_input.specs.declared.Number.TheVariants.{Malformed as noNumber, Value as number}
+use Rattle.list_input.specs.declared.Number.TheVariants.{Malformed as no_number, Value as number}
 use Rattle.list_input.specs.declared.Threshold.{Threshold}
-use Rattle.list_input.specs.declared.Threshold.TheVariants.{Malformed as noSigned, Value as signedNumber}
+use Rattle.list_input.specs.declared.Threshold.TheVariants.{Malformed as no_signed, Value as signed_number}
 use Rattle.list_input.specs.declared.LastField.{LastField}
-use Rattle.list_input.specs.declared.LastField.TheVariants.{Malformed as noLastField, Given as scored}
+use Rattle.list_input.specs.declared.LastField.TheVariants.{Malformed as no_last_field, Given as scored}
 use Rattle.list_input.specs.declared.Field.{Field}
 use Rattle.list_input.specs.declared.Field.TheVariants.{Malformed as no_field, Given as field}
 
@@ -42,11 +42,11 @@ below_digit b h = rw (lt-leb 48 b h)
 pub above_digit : (b : ℕ) → 57 < b → is_digit b ≡ false
 above_digit b h = rw (lt-leb b 57 h) (and_false (leb 48 b))
 
-pub is_digit : (b : ℕ) → 48 ≤ b → b ≤ 57 → is_digit b ≡ true
-is_digit b h k = rw (le-leb 48 b h, le-leb b 57 k)
+pub is_digit_lem : (b : ℕ) → 48 ≤ b → b ≤ 57 → is_digit b ≡ true
+is_digit_lem b h k = rw (le-leb 48 b h, le-leb b 57 k)
 
 module _ (limit n : ℕ) where
-  pub digits_bad : (b : ℕ) (l : List ℕ) → is_digit b ≡ false → digits_of limit n (b ∷ l) ≡ noNumber
+  pub digits_bad : (b : ℕ) (l : List ℕ) → is_digit b ≡ false → digits_of limit n (b ∷ l) ≡ no_number
   unfolding digits_of
   digits_bad b l e = rw e
 
@@ -54,7 +54,7 @@ module _ (limit n : ℕ) where
   unfolding digits_of
   digits_next b l e = rw e
 
-  pub digits_over : (l : List ℕ) → limit < n → digits_of limit n l ≡ noNumber
+  pub digits_over : (l : List ℕ) → limit < n → digits_of limit n l ≡ no_number
   unfolding digits_of
   digits_over l h =
       let v : n ≤ decimal_value n l = value_le n l in
@@ -77,7 +77,7 @@ decimal_lead b [] ne = sym (and_true (is_digit b))
 decimal_lead b (x ∷ l) ne = rw (ne_eqb b 48 ne)
 
 module _ (limit : ℕ) where
-  pub number_none : (l : List ℕ) → length l ≡ 0 → number_of limit l ≡ noNumber
+  pub number_none : (l : List ℕ) → length l ≡ 0 → number_of limit l ≡ no_number
   unfolding number_of
   number_none [] e = refl
   number_none (b ∷ l) e = absurd (omega arith)
@@ -88,7 +88,7 @@ module _ (limit : ℕ) where
   number_lead (b ∷ l) some ne = rw (decimal_lead b l ne)
 
   -- a zero with more behind it
-  pub number_long : (l : List ℕ) → get_or l 0 0 ≡ 48 → 1 < length l → number_of limit l ≡ noNumber
+  pub number_long : (l : List ℕ) → get_or l 0 0 ≡ 48 → 1 < length l → number_of limit l ≡ no_number
   unfolding number_of
   number_long [] e h = absurd (omega arith)
   number_long (b ∷ []) e h = absurd (omega arith)
@@ -138,7 +138,7 @@ number_le limit v l e = go (is_decimal l && leb (decimal_value 0 l) limit) refl
         let h : decimal_value 0 l ≤ limit = leb-true (decimal_value 0 l) limit (and_right (is_decimal l) (leb (decimal_value 0 l) limit) t) in
         omega arith
     go false t =
-        let read : noNumber ≡ number v = rw t at e in
+        let read : no_number ≡ number v = rw t at e in
         let clash : ◌≡◌ {A = ℕ} 0 1 = cc in
         absurd (omega arith)
 
@@ -152,7 +152,7 @@ below_suc b v limit = ap (λ (t : Bool). b && t) (leb-suc-suc v limit)
 
 -- a field, from the number in front of the space
 abbrev pub as_field : ℕ → Number → Field
-as_field next noNumber = no_field
+as_field next no_number = no_field
 as_field next (number v) = field v next
 
 pub field_none : (line : List ℕ) (from : ℕ) → length (first_part space (drop from line)) ≡ length (drop from line) → field_of line from ≡ no_field
@@ -167,25 +167,25 @@ field_some line from h =
     let next : ℕ = from + length p + 1 in
     rw (lt-ltb (length (first_part space (drop from line))) (length (drop from line)) h)
     (ap (λ (t : Bool). cond t (field (decimal_value 0 p) next) no_field) (below_suc (is_decimal p) (decimal_value 0 p) (word_limit - 1))
-    ∙ sym (after_cond (as_field next) (is_decimal p && leb (decimal_value 0 p) (word_limit - 1)) (number (decimal_value 0 p)) noNumber))
+    ∙ sym (after_cond (as_field next) (is_decimal p && leb (decimal_value 0 p) (word_limit - 1)) (number (decimal_value 0 p)) no_number))
 
 -- a threshold, from the number behind a minus
 abbrev pub as_negative : Number → Threshold
-as_negative noNumber = noSigned
-as_negative (number v) = cond (eqb v 0) noSigned (signedNumber (neg_ℤ (pos v)))
+as_negative no_number = no_signed
+as_negative (number v) = cond (eqb v 0) no_signed (signed_number (neg_ℤ (pos v)))
 
 -- and from one without a minus
 abbrev pub as_positive : Number → Threshold
-as_positive noNumber = noSigned
-as_positive (number v) = signedNumber (pos v)
+as_positive no_number = no_signed
+as_positive (number v) = signed_number (pos v)
 
-pub threshold_none : (l : List ℕ) → length l ≡ 0 → threshold_of l ≡ noSigned
+pub threshold_none : (l : List ℕ) → length l ≡ 0 → threshold_of l ≡ no_signed
 unfolding threshold_of is_signed
 threshold_none [] e = refl
 threshold_none (b ∷ l) e = absurd (omega arith)
 
 -- the order of the tests does not matter
-minus_tests : (d e : Bool) (v : ℕ) → cond (d && ltb 0 v && e) (signedNumber (neg_ℤ (pos v))) noSigned ≡ cond (d && e) (as_negative (number v)) noSigned
+minus_tests : (d e : Bool) (v : ℕ) → cond (d && ltb 0 v && e) (signed_number (neg_ℤ (pos v))) no_signed ≡ cond (d && e) (as_negative (number v)) no_signed
 minus_tests false e v = refl
 minus_tests true false zero = refl
 minus_tests true true zero = refl
@@ -197,7 +197,7 @@ threshold_minus [] some e = absurd (some refl)
 threshold_minus (b ∷ l) some e =
     rw (eq-eqb b minus e)
     (minus_tests (is_decimal l) (leb (decimal_value 0 l) (2 ^ 31)) (decimal_value 0 l)
-    ∙ sym (after_cond as_negative (is_decimal l && leb (decimal_value 0 l) (2 ^ 31)) (number (decimal_value 0 l)) noNumber))
+    ∙ sym (after_cond as_negative (is_decimal l && leb (decimal_value 0 l) (2 ^ 31)) (number (decimal_value 0 l)) no_number))
 
 pub threshold_plain : (l : List ℕ) → (length l ≡ 0 → ⊥) → (get_or l 0 0 ≡ minus → ⊥)
     → threshold_of l ≡ as_positive (number_of (signed_limit - 1) l)
@@ -206,8 +206,8 @@ threshold_plain [] some ne = absurd (some refl)
 threshold_plain (b ∷ l) some ne =
     let v : ℕ = decimal_value 0 (b ∷ l) in
     rw (ne_eqb b minus ne)
-    (ap (λ (t : Bool). cond t (signedNumber (pos v)) noSigned) (below_suc (is_decimal (b ∷ l)) v (signed_limit - 1))
-    ∙ sym (after_cond as_positive (is_decimal (b ∷ l) && leb v (signed_limit - 1)) (number v) noNumber))
+    (ap (λ (t : Bool). cond t (signed_number (pos v)) no_signed) (below_suc (is_decimal (b ∷ l)) v (signed_limit - 1))
+    ∙ sym (after_cond as_positive (is_decimal (b ∷ l) && leb v (signed_limit - 1)) (number v) no_number))
 
 -- ---- the last field: the word, or a threshold
 
@@ -225,8 +225,8 @@ word_is l e = same_is l jaccard_word e
 
 -- how mappings are scored, from the two numbers before the last field and the threshold that was read of it
 abbrev pub as_linear : ℕ → ℕ → Threshold → LastField
-as_linear fourth fifth noSigned = noLastField
-as_linear fourth fifth (signedNumber threshold) = scored (Linear fourth fifth threshold)
+as_linear fourth fifth no_signed = no_last_field
+as_linear fourth fifth (signed_number threshold) = scored (Linear fourth fifth threshold)
 
 module _ (fourth fifth : ℕ) (l : List ℕ) where
   pub last_word : is_jaccard l ≡ true → last_field_of fourth fifth l ≡ scored (Jaccard fourth fifth)
@@ -235,4 +235,4 @@ module _ (fourth fifth : ℕ) (l : List ℕ) where
 
   pub last_threshold : is_jaccard l ≡ false → last_field_of fourth fifth l ≡ as_linear fourth fifth (threshold_of l)
   unfolding last_field_of scoring_of threshold_of
-  last_threshold e = rw e (sym (after_cond (as_linear fourth fifth) (is_signed l) (signedNumber (signed_value l)) noSigned))
+  last_threshold e = rw e (sym (after_cond (as_linear fourth fifth) (is_signed l) (signed_number (signed_value l)) no_signed))

@@ -7,17 +7,17 @@ use Rattle.base.specs.Bytes.{space}
 use Rattle.list_input.specs.Input.{is_digit, is_decimal, decimal_value, is_unsigned, is_signed, signed_value, lines, fields, is_first_line, is_well_formed}
 use Rattle.list_input.specs.Input.{is_last_field, scoring_of, settings_of, Input, malformed, given}
 use Rattle.list_input.specs.declared.Number.{Number}
-use Rattle.list_input.specs.declared.Number.TheVariants.{Malformed as noNumber, Value as number}
+use Rattle.list_input.specs.declared.Number.TheVariants.{Malformed as no_number, Value as number}
 use Rattle.list_input.specs.declared.Threshold.{Threshold}
-use Rattle.list_input.specs.declared.Threshold.TheVariants.{Malformed as noSigned, Value as signedNumber}
+use Rattle.list_input.specs.declared.Threshold.TheVariants.{Malformed as no_signed, Value as signed_number}
 use Rattle.list_input.specs.declared.LastField.{LastField}
-use Rattle.list_input.specs.declared.LastField.TheVariants.{Malformed as noLastField, Given as last_field}
+use Rattle.list_input.specs.declared.LastField.TheVariants.{Malformed as no_last_field, Given as last_field}
 use Rattle.list_input.specs.declared.Field.{Field}
 use Rattle.list_input.specs.declared.Field.TheVariants.{Malformed as no_field, Given as field}
 use Rattle.list_input.specs.declared.FirstLine.{FirstLine}
-use Rattle.list_input.specs.declared.FirstLine.TheVariants.{Malformed as noFirstLine, Given as first_line}
+use Rattle.list_input.specs.declared.FirstLine.TheVariants.{Malformed as no_first_line, Given as first_line}
 use Rattle.list_input.specs.declared.Request.{Request}
-use Rattle.list_input.specs.declared.Request.TheVariants.{Malformed as noRequest, Given as request}
+use Rattle.list_input.specs.declared.Request.TheVariants.{Malformed as no_request, Given as request}
 
 -- what stands before the first byte b: all bytes where there is none
 unfoldable pub first_part : ℕ → List ℕ → List ℕ
@@ -25,18 +25,18 @@ first_part b bytes = get_or (parts_between (λ (x : ℕ). eqb x b) bytes) 0 []
 
 -- the number with these digits behind the ones of n, at most the limit
 unfoldable pub digits_of : ℕ → ℕ → List ℕ → Number
-digits_of limit n bytes = cond (every is_digit bytes && leb (decimal_value n bytes) limit) (number (decimal_value n bytes)) noNumber
+digits_of limit n bytes = cond (every is_digit bytes && leb (decimal_value n bytes) limit) (number (decimal_value n bytes)) no_number
 
 -- a number in decimal, at most the limit
 unfoldable pub number_of : ℕ → List ℕ → Number
-number_of limit bytes = cond (is_decimal bytes && leb (decimal_value 0 bytes) limit) (number (decimal_value 0 bytes)) noNumber
+number_of limit bytes = cond (is_decimal bytes && leb (decimal_value 0 bytes) limit) (number (decimal_value 0 bytes)) no_number
 
 unfoldable pub threshold_of : List ℕ → Threshold
-threshold_of bytes = cond (is_signed bytes) (signedNumber (signed_value bytes)) noSigned
+threshold_of bytes = cond (is_signed bytes) (signed_number (signed_value bytes)) no_signed
 
 -- how mappings are scored, from the last field and the two numbers before it
 unfoldable pub last_field_of : ℕ → ℕ → List ℕ → LastField
-last_field_of fourth fifth bytes = cond (is_last_field bytes) (last_field (scoring_of fourth fifth bytes)) noLastField
+last_field_of fourth fifth bytes = cond (is_last_field bytes) (last_field (scoring_of fourth fifth bytes)) no_last_field
 
 -- a number of 32 bits from an index on with a space behind it, and the index behind the space
 unfoldable pub field_of : List ℕ → ℕ → Field
@@ -51,7 +51,7 @@ answer_of s = first_line s.k s.w s.c s.scoring
 
 -- what a first line with these fields asks for
 unfoldable pub first_line_of : List (List ℕ) → FirstLine
-first_line_of fs = cond (is_first_line fs) (answer_of (settings_of fs)) noFirstLine
+first_line_of fs = cond (is_first_line fs) (answer_of (settings_of fs)) no_first_line
 
 -- what the first line asks for, and where the text line and the read line stand, from the lengths of the first three lines: each begins
 -- behind the line feed of the one before it
@@ -64,7 +64,7 @@ abbrev pub request_from : List (List ℕ) → Request
 request_from ls =
     cond (is_well_formed ls)
     (request_at (settings_of (fields (get_or ls 0 []))) (length (get_or ls 0 [])) (length (get_or ls 1 [])) (length (get_or ls 2 [])))
-    noRequest
+    no_request
 
 -- what `read_input` answers
 unfoldable pub request_of : List ℕ → Request
@@ -76,7 +76,7 @@ part from end bytes = take (end - from) (drop from bytes)
 
 -- the input that a request stands for
 abbrev pub request_input : Request → List ℕ → Input
-request_input noRequest bytes = malformed
+request_input no_request bytes = malformed
 request_input (request k w c scoring text text-end read read-end) bytes =
     given (record { k = k; w = w; c = c; scoring = scoring }) (part text text-end bytes) (part read read-end bytes)
 
@@ -90,5 +90,5 @@ pub record LinesInside (text text-end read read-end : ℕ) (bytes : List ℕ) : 
   pub read_short : read-end - read ≤ line_limit
 
 abbrev pub Inside : Request → List ℕ → Type 0
-Inside noRequest bytes = Unit {0}
+Inside no_request bytes = Unit {0}
 Inside (request k w c scoring text text-end read read-end) bytes = LinesInside text text-end read read-end bytes

@@ -21,7 +21,7 @@ use Rattle.mapper.specs.Answers.{answer_of}
 use Rattle.mapper.specs.Step.{too_few_words}
 use Rattle.mapper.specs.Promise.{Accepts, StepPromise}
 use Rattle.mapper.proofs.Accepted.{Admitted, admitted}
-use Rattle.mapper.proofs.StepPromise.{in-session}
+use Rattle.mapper.proofs.StepPromise.{in_session}
 use Rattle.list_line.specs.Line.{line}
 use Rattle.list_line.specs.Writing.{Written}
 use Rattle.list_line.proofs.Buffers.{written_index}

@@ -10,7 +10,7 @@ use Rattle.kmers.specs.Kmers.{codes, positions, entries}
 use Rattle.kmers.proofs.Entries.{length_codes}
 use Rattle.requests.specs.declared.Settings.{Settings}
 use Rattle.strike.specs.Strike.{strike, strike_reply, strike_codes, strike_positions}
-use Rattle.strike.specs.Answers.{reply_of as struckReply}
+use Rattle.strike.specs.Answers.{reply_of as struck_reply}
 use Rattle.strike.specs.declared.Struck.{Struck}
 use Rattle.sketch.proofs.Accepted.{Held}
 use Rattle.strike.proofs.Accepted.{strike_held}
@@ -30,18 +30,18 @@ use Rattle.list_open.proofs.Replies.{and_refused, refused_opened, refused_only, 
 
 pub record StrikeMade (deciding cs ps : List ℕ) (c : ℕ) (codes₀ places₀ : List ℕ) (r : Struck) (codes₁ places₁ : List ℕ) (n m : ℕ) :
     Type 0 where
-  pub answer : struckReply r ≡ strike_reply deciding cs ps c (length codes₀) (length places₀)
+  pub answer : struck_reply r ≡ strike_reply deciding cs ps c (length codes₀) (length places₀)
   pub codes_after : codes₁ ≡ strike_codes deciding cs ps c codes₀ places₀
   pub positions_after : places₁ ≡ strike_positions deciding cs ps c codes₀ places₀
-  pub number : n ≡ number_of (struckReply r)
-  pub count : m ≡ value_of (struckReply r)
+  pub number : n ≡ number_of (struck_reply r)
+  pub count : m ≡ value_of (struck_reply r)
 
 module _ (deciding cs ps : List ℕ) (c : ℕ) (codes₀ places₀ : List ℕ) (r : Struck) (codes₁ places₁ : List ℕ) (n m : ℕ)
     (made : StrikeMade deciding cs ps c codes₀ places₀ r codes₁ places₁ n m) (long : length codes₀ ≡ line_limit) where
   abbrev reply : Reply
   reply = strike_reply deciding cs ps c line_limit (length places₀)
 
-  replied : struckReply r ≡ reply
+  replied : struck_reply r ≡ reply
   replied = rw long at made.answer
 
   pub strike_number : n ≡ number_of reply

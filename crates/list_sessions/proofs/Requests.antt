@@ -6,7 +6,7 @@ use Rattle.mappings.specs.declared.Scoring.{Scoring}
 use Rattle.list_input.specs.Input.{Input, malformed, given, input_of}
 use Rattle.list_input.specs.Answers.{part, request_input, request_of, LinesInside, Inside}
 use Rattle.list_input.specs.declared.Request.{Request}
-use Rattle.list_input.specs.declared.Request.TheVariants.{Malformed as noRequest, Given as request}
+use Rattle.list_input.specs.declared.Request.TheVariants.{Malformed as no_request, Given as request}
 use Rattle.list_input.proofs.Places.{request_input_lem, request_inside}
 use Rattle.list_sessions.specs.Sessions.{sessions_of, places_after, forward_after, reverse_after, OpensBoth}
 use Rattle.list_sessions.specs.declared.Sessions.{Sessions}
@@ -16,7 +16,7 @@ module _ (bytes : List ℕ) (answer : Request) (read : answer ≡ request_of byt
   stands_for : request_input answer bytes ≡ input_of bytes
   stands_for = ap (λ (a : Request). request_input a bytes) read ∙ request_input_lem bytes
 
-  pub opens_malformed : answer ≡ noRequest → (places forward reverse : List ℕ)
+  pub opens_malformed : answer ≡ no_request → (places forward reverse : List ℕ)
       → OpensBoth (input_of bytes) places forward reverse Malformed places forward reverse
   unfolding sessions_of places_after forward_after reverse_after
   opens_malformed e places forward reverse =

@@ -116,10 +116,10 @@ module _ (terms : Terms) (budget columns row m highest left : ℕ) (work : List 
     walk_next f r = unrolled ∙ second p.found _ _ f ∙ second (ltb p.row columns) _ _ (le-ltb p.row columns r)
 
     -- where no candidate was met the walk goes on from where the place settles: in this column the budget is then spent
-    pub walk_on : p.found ≡ false → left ≤ budget → (p.row < columns → rest ≡ 0)
+    pub walk_on_lem : p.found ≡ false → left ≤ budget → (p.row < columns → rest ≡ 0)
         → walk_on terms budget columns row m highest left work
         ≡ walk_on terms budget place.columns place.row place.m place.highest rest (settled_words words columns p)
-    walk_on f few none = go (ltb p.row columns) refl
+    walk_on_lem f few none = go (ltb p.row columns) refl
       where
         spent_here : walk_on terms budget columns p.row p.m p.highest 0 words ≡ spent_walk words (place_in columns p) budget
         spent_here = rw (suc_pred columns h)
@@ -182,9 +182,9 @@ module _ (columns row left : ℕ) (p : Passed) (s : Stops columns row left p) (f
 -- ---- a column as the code passes it
 
 -- the part that a column is lent has all its tables
-part_length : (work : List ℕ) → work_words ≤ length work → length (part_of work) ≡ part_length
+part_length_lem : (work : List ℕ) → work_words ≤ length work → length (part_of work) ≡ part_length
 unfolding middle
-part_length work l = length-take-le part_length (drop index_from work) (let n = length-drop index_from work in omega arith)
+part_length_lem work l = length-take-le part_length (drop index_from work) (let n = length-drop index_from work in omega arith)
 
 module _ (terms : Terms) (columns row m highest : ℕ) (work : List ℕ) (line : Line) (small : columns ≤ hit_limit) (long : work_words ≤ length work)
     (l : line ≡ line_of work terms (columns - 1)) where
@@ -199,14 +199,14 @@ module _ (terms : Terms) (columns row m highest : ℕ) (work : List ℕ) (line :
       let last : row + n ≤ line.column + 1 = omega (arith, column_is) in
       let g : row + n - row ≡ n = omega arith in
       let e : n ≡ min left (suc (columns - 1) - row) = omega arith in
-      pass_fits line row (row + n) m highest (part_of work) (fits_all line (part_of work) row (row + n) (part_length work long) (omega arith) (omega arith) last)
+      pass_fits line row (row + n) m highest (part_of work) (fits_all line (part_of work) row (row + n) (part_length_lem work long) (omega arith) (omega arith) last)
       ∙ rw (g, l, e)
 
   pub cell_is : row < columns → cell_pass line row m highest (part_of work) ≡ cell_update terms (columns - 1) row m highest work
   unfolding cell_update
   cell_is r =
       let last : row + 1 ≤ line.column + 1 = omega (arith, column_is) in
-      cell_fits line row m highest (part_of work) (fits_all line (part_of work) row (row + 1) (part_length work long) (omega arith) (omega arith) last)
+      cell_fits line row m highest (part_of work) (fits_all line (part_of work) row (row + 1) (part_length_lem work long) (omega arith) (omega arith) last)
       ∙ rw l
 
 -- ---- the place saved: no other word changes

@@ -12,7 +12,7 @@ use borrow.Author.Tests.{le-leb}
 use Rattle.base.specs.Limits.{text_limit, pattern_limit, weight_limit, hit_limit, word_limit}
 use Rattle.mappings.specs.declared.Scoring.{Scoring}
 use Rattle.mappings.specs.declared.Scoring.TheVariants.{Linear, Jaccard}
-use Rattle.mappings.specs.Score.{Task, divisor, scored, threshold_of, at_most as scoreAtMost, length_of, shared_of, score_of, ThresholdFits}
+use Rattle.mappings.specs.Score.{Task, divisor, scored, threshold_of, at_most as score_at_most, length_of, shared_of, score_of, ThresholdFits}
 use Rattle.mappings.specs.Bias.{bias, biased}
 use Rattle.mappings.specs.Cells.{hits, hit_count}
 use Rattle.mappings.proofs.Hits.{hit_within, hit_at_most}
@@ -156,7 +156,7 @@ within : (task : Task) → Limited task → (a b : ℕ) → b < length task.text
 within task limited a b l some = record { some = some; short = lengths task limited a b l; twice = twice_shared task a b l }
 
 words_order : (scoring : Scoring) → SmallNumbers scoring → (size m len m' len' : ℕ) → Within size m len → Within size m' len'
-    → scoreAtMost (scored scoring size m len) (scored scoring size m' len')
+    → score_at_most (scored scoring size m len) (scored scoring size m' len')
     ≡ at_most (by_fractions scoring) (score_word scoring size m len) (score_word scoring size m' len')
 unfolding divisor at_most
 words_order (Linear u v threshold) numbers size m len m' len' w w' =
@@ -173,14 +173,14 @@ words_order (Jaccard f g) numbers size m len m' len' w w' =
 
 pub scores_order : (task : Task) → Limited task → (a b c d : ℕ) → b < length task.text → d < length task.text
     → 1 ≤ shared_of task a b → 1 ≤ shared_of task c d
-    → scoreAtMost (score_of task a b) (score_of task c d) ≡ order_of task (score_word_of task a b) (score_word_of task c d)
+    → score_at_most (score_of task a b) (score_of task c d) ≡ order_of task (score_word_of task a b) (score_word_of task c d)
 unfolding score_of score_word_of
 scores_order task limited a b c d h k s t =
     words_order task.scoring limited.small_numbers (length task.pattern) (shared_of task a b) (length_of a b) (shared_of task c d) (length_of c d)
     (within task limited a b h s) (within task limited c d k t)
 
 threshold_word_lem : (scoring : Scoring) → SmallNumbers scoring → ThresholdFits scoring → (size m len : ℕ) → Within size m len
-    → scoreAtMost (threshold_of scoring) (scored scoring size m len)
+    → score_at_most (threshold_of scoring) (scored scoring size m len)
     ≡ at_most (by_fractions scoring) (threshold_word scoring) (score_word scoring size m len)
 unfolding divisor at_most
 threshold_word_lem (Linear u v threshold) numbers fits size m len w =
@@ -199,7 +199,7 @@ threshold_word_lem (Jaccard (suc f) g) numbers fits size m len w =
 
 -- and against the threshold
 pub threshold_order : (task : Task) → Limited task → ThresholdFits task.scoring → (a b : ℕ) → b < length task.text → 1 ≤ shared_of task a b
-    → scoreAtMost (threshold_of task.scoring) (score_of task a b) ≡ order_of task (threshold_word task.scoring) (score_word_of task a b)
+    → score_at_most (threshold_of task.scoring) (score_of task a b) ≡ order_of task (threshold_word task.scoring) (score_word_of task a b)
 unfolding score_of score_word_of
 threshold_order task limited fits a b h s =
     threshold_word_lem task.scoring limited.small_numbers fits (length task.pattern) (shared_of task a b) (length_of a b) (within task limited a b h s)

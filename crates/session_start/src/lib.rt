@@ -14,7 +14,7 @@ ghost use Rattle.mappings.specs.Score.{Task, task_with};
 ghost use Rattle.session_start.specs.WorkWords.{session_words};
 ghost use Rattle.session_start.specs.Start.{bad_fraction, start_reply, start_words, after_start};
 ghost use Rattle.session_start.specs.Answers.{started_reply};
-ghost use Rattle.session_start.specs.Noting.{bad_scoring, scoring_reply, hit_reply, words_at, Begin, backs as backsOf, Prepared};
+ghost use Rattle.session_start.specs.Noting.{bad_scoring, scoring_reply, hit_reply, words_at, Begin, backs as backs_of, Prepared};
 
 use crate::hits::collect;
 use crate::per_hit::{put_back, put_reach};
@@ -98,7 +98,7 @@ fn put_session(sorted: &[u32], index: &[u32], slots: &[u32], scoring: Scoring, w
     requires sorted_len_bound { (length sorted.now ≤ pattern_limit) × (length index.now ≤ hit_limit) × (length slots.now ≡ length index.now)
         × (work_words ≤ length work.old) × (bad_scoring scoring ≡ false) }
     ensures { (task : Task) → Prepared task scoring (length sorted.now) index.now
-        (backsOf sorted.now (words_at sorted.now slots.now))
+        (backs_of sorted.now (words_at sorted.now slots.now))
         → work.new ≡ session_words task work.old 0 }
 {
     let h = slots.len();

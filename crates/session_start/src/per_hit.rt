@@ -3,7 +3,7 @@ ghost use Rattle.std.specs.Prelude.{◌≡◌, List, ℕ, ◌+◌, ◌≤◌, �
 ghost use Rattle.std.proofs.lemmas.List.Edits.{sets};
 ghost use Rattle.base.specs.Limits.{pattern_limit, hit_limit, work_words};
 ghost use Rattle.session_words.specs.Layout.{reach_from};
-ghost use Rattle.session_start.specs.Noting.{words_at, Begin, AllIn, backs as backsOf, reaches, with_pair};
+ghost use Rattle.session_start.specs.Noting.{words_at, Begin, AllIn, backs as backs_of, reaches, with_pair};
 
 use crate::hits::one_at;
 use crate::word_tables::{fill, pattern_zeros};
@@ -16,7 +16,7 @@ fn link(sorted: &[u32], slots: &[u32], turns: &mut [u32], ring: &mut [u32], back
     requires sorted_len_bound { (length sorted.now ≤ pattern_limit) × (length slots.now ≤ hit_limit) × (length backs.old ≡ length slots.now) }
     requires turns_len { (length turns.old ≡ length sorted.now) × ((k : ℕ) → get_or turns.old k 0 ≡ 0) }
     requires ring_len { (length ring.old ≡ length sorted.now) × ((k : ℕ) → get_or ring.old k 0 ≡ 0) }
-    ensures { backs.new ≡ backsOf sorted.now (words_at sorted.now slots.now) }
+    ensures { backs.new ≡ backs_of sorted.now (words_at sorted.now slots.now) }
 {
     let mut j = 0;
     while j < slots.len() {
@@ -33,7 +33,7 @@ fn link(sorted: &[u32], slots: &[u32], turns: &mut [u32], ring: &mut [u32], back
 pub(crate) fn put_back(sorted: &[u32], slots: &[u32], backs: &mut [u32])
     requires begin { Begin sorted.now slots.now }
     requires sorted_len_bound { (length sorted.now ≤ pattern_limit) × (length slots.now ≤ hit_limit) × (length backs.old ≡ length slots.now) }
-    ensures { backs.new ≡ backsOf sorted.now (words_at sorted.now slots.now) }
+    ensures { backs.new ≡ backs_of sorted.now (words_at sorted.now slots.now) }
 {
     let n = sorted.len();
     let mut turns = pattern_zeros();
@@ -55,7 +55,7 @@ fn put_pair(back: usize, j: u32, reach: &mut [u32])
 fn put_pairs(backs: &[u32], reach: &mut [u32])
     requires backs_len_bound { (length backs.now ≤ hit_limit) × (length reach.old ≡ length backs.now) }
     requires by_index { (k : ℕ) → k < length backs.now → get_or backs.now k 0 ≤ k }
-    ensures { (p g : List ℕ) → AllIn p g → backs.now ≡ backsOf p g → reach.new ≡ reaches p g }
+    ensures { (p g : List ℕ) → AllIn p g → backs.now ≡ backs_of p g → reach.new ≡ reaches p g }
 {
     fill(backs.len() as u32, backs.len(), 0, reach);
     let mut j = 0;
@@ -69,7 +69,7 @@ fn put_pairs(backs: &[u32], reach: &mut [u32])
 pub(crate) fn put_reach(backs: &[u32], work: &mut [u32])
     requires backs_len_bound { (length backs.now ≤ hit_limit) × (work_words ≤ length work.old) }
     requires by_index { (k : ℕ) → k < length backs.now → get_or backs.now k 0 ≤ k }
-    ensures { (p g : List ℕ) → AllIn p g → backs.now ≡ backsOf p g
+    ensures { (p g : List ℕ) → AllIn p g → backs.now ≡ backs_of p g
         → work.new ≡ sets work.old reach_from (reaches p g) }
 {
     put_pairs(backs, &mut work[REACH..REACH + backs.len()]);

@@ -19,10 +19,10 @@ use Rattle.minimizers.proofs.Laws.{positions_strictly, positions_inside}
 use Rattle.sketch.specs.Replies.{checked_letters, room_for, sketch_reply, sketch_codes, sketch_positions}
 
 -- the entries answered are those needed, and both buffers hold them
-pub record Held (n codeRoom positionRoom m : ℕ) : Type 0 where
+pub record Held (n code_room position_room m : ℕ) : Type 0 where
   pub number : m ≡ n
-  pub in_codes : m ≤ codeRoom
-  pub in_positions : m ≤ positionRoom
+  pub in_codes : m ≤ code_room
+  pub in_positions : m ≤ position_room
 
 pub room_held : (n a b m : ℕ) → room_for n a b ≡ accepted (m ∷ []) → Held n a b m
 unfolding room_for

@@ -15,11 +15,11 @@ checked_letters k w letters rest =
 
 -- 4 with the n entries needed, where the buffer for codes or that for positions is shorter; else n
 unfoldable pub room_for : ℕ → ℕ → ℕ → Reply
-room_for n codeRoom positionRoom = cond (ltb codeRoom n || ltb positionRoom n) (refused 4 (n ∷ [])) (accepted (n ∷ []))
+room_for n code_room position_room = cond (ltb code_room n || ltb position_room n) (refused 4 (n ∷ [])) (accepted (n ∷ []))
 
 -- what sketch answers, given the lengths of the two buffers: 1, 2, 3, 4, or the number of entries
 unfoldable pub sketch_reply : ℕ → ℕ → List ℕ → ℕ → ℕ → Reply
-sketch_reply k w letters codeRoom positionRoom = checked_letters k w letters (room_for (length (sketch k w letters)) codeRoom positionRoom)
+sketch_reply k w letters code_room position_room = checked_letters k w letters (room_for (length (sketch k w letters)) code_room position_room)
 
 -- the two buffers after sketch, given both as they came
 unfoldable pub sketch_codes : ℕ → ℕ → List ℕ → List ℕ → List ℕ → List ℕ

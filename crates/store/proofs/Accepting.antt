@@ -71,41 +71,41 @@ unfolding save_words
 save_fills k w cs ps words₀ s = rw (save_accepts k w cs ps (length words₀) s)
 
 -- what load's acceptance says of the words, and the other way round
-pub record Loads (words : List ℕ) (es : List Entry) (codeRoom positionRoom : ℕ) : Type 0 where
+pub record Loads (words : List ℕ) (es : List Entry) (code_room position_room : ℕ) : Type 0 where
   pub judged : judge words ≡ good es
-  pub code_enough : length es ≤ codeRoom
-  pub position_enough : length es ≤ positionRoom
+  pub code_enough : length es ≤ code_room
+  pub position_enough : length es ≤ position_room
 
-module _ (words : List ℕ) (codeRoom positionRoom : ℕ) where
-  pub load_accepts : (es : List Entry) → Loads words es codeRoom positionRoom
-      → load_reply words codeRoom positionRoom ≡ accepted (store_k words ∷ store_w words ∷ length es ∷ [])
+module _ (words : List ℕ) (code_room position_room : ℕ) where
+  pub load_accepts : (es : List Entry) → Loads words es code_room position_room
+      → load_reply words code_room position_room ≡ accepted (store_k words ∷ store_w words ∷ length es ∷ [])
   unfolding load_reply load_room
-  load_accepts es l = rw l.judged (rw (le-ltb codeRoom (length es) l.code_enough, le-ltb positionRoom (length es) l.position_enough))
+  load_accepts es l = rw l.judged (rw (le-ltb code_room (length es) l.code_enough, le-ltb position_room (length es) l.position_enough))
 
   pub load_accepted :
       {answer : List ℕ} →
-      load_reply words codeRoom positionRoom ≡ accepted answer →
-      (es : List Entry) × Loads words es codeRoom positionRoom × (answer ≡ store_k words ∷ store_w words ∷ length es ∷ [])
+      load_reply words code_room position_room ≡ accepted answer →
+      (es : List Entry) × Loads words es code_room position_room × (answer ≡ store_k words ∷ store_w words ∷ length es ∷ [])
   unfolding load_reply load_room
   load_accepted {answer} e = go (judge words) refl
     where
       go : (j : Judged) → judge words ≡ j
-          → (es : List Entry) × Loads words es codeRoom positionRoom × (answer ≡ store_k words ∷ store_w words ∷ length es ∷ [])
+          → (es : List Entry) × Loads words es code_room position_room × (answer ≡ store_k words ∷ store_w words ∷ length es ∷ [])
       go (bad number index) h =
           let refusal : refused number (index ∷ []) ≡ accepted answer = rw h at e in
           let z : ◌≡◌ {A = ℕ} 0 1 = cc in
           absurd (omega arith)
       go (good es) h =
-          let short = ltb codeRoom (length es) || ltb positionRoom (length es) in
+          let short = ltb code_room (length es) || ltb position_room (length es) in
           let answered : cond short (refused 4 (length es ∷ [])) (accepted (store_k words ∷ store_w words ∷ length es ∷ [])) ≡ accepted answer =
           rw h at e in
           let p = past short 4 (length es ∷ []) answered in
-          let rooms = or_neither (ltb codeRoom (length es)) (ltb positionRoom (length es)) p.0 in (
+          let rooms = or_neither (ltb code_room (length es)) (ltb position_room (length es)) p.0 in (
             es,
             record {
               judged = h;
-              code_enough = ltb-false codeRoom (length es) rooms.0;
-              position_enough = ltb-false positionRoom (length es) rooms.1;
+              code_enough = ltb-false code_room (length es) rooms.0;
+              position_enough = ltb-false position_room (length es) rooms.1;
             },
             cc,
           )

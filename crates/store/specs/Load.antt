@@ -55,16 +55,16 @@ store_w (x ∷ rest) = header_w x
 
 -- n entries, with k and w before them; 4 with the entries needed where a buffer is shorter
 unfoldable pub load_room : ℕ → ℕ → ℕ → ℕ → ℕ → Reply
-load_room k w n codeRoom positionRoom =
-    cond (ltb codeRoom n || ltb positionRoom n) (refused 4 (n ∷ [])) (accepted (k ∷ w ∷ n ∷ []))
+load_room k w n code_room position_room =
+    cond (ltb code_room n || ltb position_room n) (refused 4 (n ∷ [])) (accepted (k ∷ w ∷ n ∷ []))
 
 abbrev pub judged_reply : ℕ → ℕ → Judged → ℕ → ℕ → Reply
-judged_reply k w (bad number index) codeRoom positionRoom = refused number (index ∷ [])
-judged_reply k w (good es) codeRoom positionRoom = load_room k w (length es) codeRoom positionRoom
+judged_reply k w (bad number index) code_room position_room = refused number (index ∷ [])
+judged_reply k w (good es) code_room position_room = load_room k w (length es) code_room position_room
 
 -- what load answers, given the lengths of the two buffers: 12, 13 or 14 as met, then 4, or k, w and the number of entries
 unfoldable pub load_reply : List ℕ → ℕ → ℕ → Reply
-load_reply words codeRoom positionRoom = judged_reply (store_k words) (store_w words) (judge words) codeRoom positionRoom
+load_reply words code_room position_room = judged_reply (store_k words) (store_w words) (judge words) code_room position_room
 
 -- the entries of a store that loads
 abbrev pub entries_of : Judged → List Entry

@@ -2,7 +2,7 @@
 ghost use Rattle.std.specs.Prelude.{◌≡◌, suc, ◌≤◌, ◌<◌, length, drop, get_or};
 ghost use Rattle.base.specs.Replies.{over};
 ghost use Rattle.base.specs.Limits.{k_limit};
-ghost use Rattle.kmers.specs.Kmers.{codes as codes_of, positions as positionsOf};
+ghost use Rattle.kmers.specs.Kmers.{codes as codes_of, positions as positions_of};
 ghost use Rattle.store.specs.Load.{good, last_word, judge_from, judge, entries_of};
 ghost use Rattle.store_load.specs.Verdicts.{verdict_reply, counted};
 
@@ -69,7 +69,7 @@ pub(crate) fn read(words: &[u32], n: usize, codes: &mut [u32], positions: &mut [
     requires words_len { length (entries_of (judge words.now)) ≡ n }
     requires n_in_bounds { (n ≤ length codes.old) × (n ≤ length positions.old) }
     ensures codes_after { codes.new ≡ over (codes_of (entries_of (judge words.now))) codes.old }
-    ensures positions_after { positions.new ≡ over (positionsOf (entries_of (judge words.now))) positions.old }
+    ensures positions_after { positions.new ≡ over (positions_of (entries_of (judge words.now))) positions.old }
 {
     let mut i = 0;
     while i < n {

@@ -17,7 +17,7 @@ use Rattle.strands.proofs.Reversing.{parts_reverse}
 
 -- of four tests the first that passes picks its number
 abbrev four : (a c g t : Bool) → ℕ → ℕ → ℕ → ℕ → ℕ → ℕ
-four a c g t forA forC forG forT other = cond a forA (cond c forC (cond g forG (cond t forT other)))
+four a c g t for_a for_c for_g for_t other = cond a for_a (cond c for_c (cond g for_g (cond t for_t other)))
 
 -- one of the eight in upper case, its complement and its value
 data Paired : ℕ → ℕ → ℕ → Type 0 where
@@ -39,12 +39,12 @@ paired b h = go (either_case 65 97 b) (either_case 67 99 b) (either_case 71 103 
     go false false false false e = clash refl e
 
 -- where the value is none of the four, no test picks
-none_picked : (a c g t : Bool) (forA forC forG forT b : ℕ) → eqb (four a c g t 0 1 2 3 4) 4 ≡ true → four a c g t forA forC forG forT b ≡ b
-none_picked true c g t forA forC forG forT b e = clash e refl
-none_picked false true g t forA forC forG forT b e = clash e refl
-none_picked false false true t forA forC forG forT b e = clash e refl
-none_picked false false false true forA forC forG forT b e = clash e refl
-none_picked false false false false forA forC forG forT b e = refl
+none_picked : (a c g t : Bool) (for_a for_c for_g for_t b : ℕ) → eqb (four a c g t 0 1 2 3 4) 4 ≡ true → four a c g t for_a for_c for_g for_t b ≡ b
+none_picked true c g t for_a for_c for_g for_t b e = clash e refl
+none_picked false true g t for_a for_c for_g for_t b e = clash e refl
+none_picked false false true t for_a for_c for_g for_t b e = clash e refl
+none_picked false false false true for_a for_c for_g for_t b e = clash e refl
+none_picked false false false false for_a for_c for_g for_t b e = refl
 
 -- other bytes are kept
 pub foreign_kept : (b : ℕ) → is_foreign b ≡ true → complement b ≡ b

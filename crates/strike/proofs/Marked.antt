@@ -203,13 +203,13 @@ module _ (f : ℕ → Bool) where
       length_add_if (f c) (record { code = c; position = p }) (kept cs ps) ∙ ap (λ (n : ℕ). bit (f c) + n) (kept_number cs ps (omega arith))
 
 module _ (deciding : List ℕ) (c : ℕ) (cs ps : List ℕ) (paired : length cs ≡ length ps) where
-  pub strike_codes : codes (strike deciding c (entries cs ps)) ≡ marked_words (marks_of deciding c cs) cs
+  pub strike_codes_lem : codes (strike deciding c (entries cs ps)) ≡ marked_words (marks_of deciding c cs) cs
   unfolding strike kept marks
-  strike_codes = kept_codes (λ (x : ℕ). leb (occ x deciding) c) cs ps paired
+  strike_codes_lem = kept_codes (λ (x : ℕ). leb (occ x deciding) c) cs ps paired
 
-  pub strike_positions : positions (strike deciding c (entries cs ps)) ≡ marked_words (marks_of deciding c cs) ps
+  pub strike_positions_lem : positions (strike deciding c (entries cs ps)) ≡ marked_words (marks_of deciding c cs) ps
   unfolding strike kept marks
-  strike_positions = kept_positions (λ (x : ℕ). leb (occ x deciding) c) cs ps paired
+  strike_positions_lem = kept_positions (λ (x : ℕ). leb (occ x deciding) c) cs ps paired
 
   pub strike_number : length (strike deciding c (entries cs ps)) ≡ sum (marks_of deciding c cs)
   unfolding strike kept marks

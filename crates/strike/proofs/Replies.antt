@@ -17,7 +17,7 @@ use Rattle.sketch.specs.Replies.{room_for}
 use Rattle.marking.specs.Marks.{marks_of}
 use Rattle.strike.specs.Strike.{strike, strike_reply, strike_codes, strike_positions}
 use Rattle.strike.specs.Marked.{marked_words, lacking}
-use Rattle.strike.proofs.Marked.{strike_codes, strike_positions, strike_number, sum_marks_le}
+use Rattle.strike.proofs.Marked.{strike_codes_lem, strike_positions_lem, strike_number, sum_marks_le}
 
 -- ---- the entries that lack room
 
@@ -130,9 +130,9 @@ module _ (deciding cs ps : List ℕ) (c : ℕ) (codes₀ positions₀ : List ℕ
   kept_written paired n codes₁ positions₁ e f g = (
     sym e,
     (
-      f ∙ ap (λ (l : List ℕ). over l codes₀) (sym (strike_codes deciding c cs ps paired))
+      f ∙ ap (λ (l : List ℕ). over l codes₀) (sym (strike_codes_lem deciding c cs ps paired))
           ∙ sym (ap (λ (r : Reply). after r (codes (strike deciding c (entries cs ps))) codes₀) e),
-      g ∙ ap (λ (l : List ℕ). over l positions₀) (sym (strike_positions deciding c cs ps paired))
+      g ∙ ap (λ (l : List ℕ). over l positions₀) (sym (strike_positions_lem deciding c cs ps paired))
           ∙ sym (ap (λ (r : Reply). after r (positions (strike deciding c (entries cs ps))) positions₀) e),
     ),
   )

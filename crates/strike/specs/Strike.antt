@@ -18,11 +18,11 @@ struck c es = strike (codes es) c es
 -- what a strike answers, given the codes that decide, the codes and positions to strike, c, and the lengths of the two output
 -- buffers: 5, 8, 6, 4, or the number of entries kept
 unfoldable pub strike_reply : List ℕ → List ℕ → List ℕ → ℕ → ℕ → ℕ → Reply
-strike_reply deciding cs ps c codeRoom positionRoom =
+strike_reply deciding cs ps c code_room position_room =
     cond (not (eqb (length cs) (length ps))) (refused 5 [])
     (cond (ltb text_limit (length deciding)) (refused 8 [])
     (cond (outside 1 text_limit c) (refused 6 [])
-    (room_for (length (strike deciding c (entries cs ps))) codeRoom positionRoom)))
+    (room_for (length (strike deciding c (entries cs ps))) code_room position_room)))
 
 -- the two output buffers after a strike, given both as they came
 unfoldable pub strike_codes : List ℕ → List ℕ → List ℕ → ℕ → List ℕ → List ℕ → List ℕ

@@ -4,20 +4,20 @@ use Rattle.exports.proofs.Telling.{tells_of}
 use Rattle.exports.proofs.huddlewool_reverse_complement.Statement.{statement}
 use Rattle.exports.proofs.huddlewool_reverse_complement.Tie as tie
 
-reverse-complement-requires : tie.Need-reverse-complement-requires
+reverse-complement-requires : tie.Need-reverse_complement-requires
 reverse-complement-requires c κs = search rules
 
-of-complement-requires : tie.Need-of-complement-requires
+of-complement-requires : tie.Need-of_complement-answer-requires
 of-complement-requires c κs = search rules
 
-same_length : tie.Need-same-length
+same_length : tie.Need-shape_of-out
 same_length c = search rules
 
 returns : tie.Need-returns
 returns c =
-    let s = c.before.before.before.reverse-complement.ensures in
-    record { tells = tells_of s.0 c.of-complement.ensures; out_after = s.1 }
+    let s = c.reverse_complement.ensures in
+    record { tells = tells_of s.0 c.of_complement-answer.ensures; out_after = s.1 }
 
-pub huddlewool-reverse-complement-spec : {M : Type 1} → statement M
-huddlewool-reverse-complement-spec =
+pub huddlewool_reverse_complement_spec : {M : Type 1} → statement M
+huddlewool_reverse_complement_spec =
     tie.close (tie.spec reverse-complement-requires of-complement-requires same_length returns)

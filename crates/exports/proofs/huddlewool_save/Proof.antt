@@ -7,16 +7,16 @@ use Rattle.exports.proofs.huddlewool_save.Tie as tie
 save-requires : tie.Need-save-requires
 save-requires c κs = search rules
 
-of-save-requires : tie.Need-of-save-requires
+of-save-requires : tie.Need-of_save-answer-requires
 of-save-requires c κs = search rules
 
-same_length : tie.Need-same-length
+same_length : tie.Need-shape_of-words
 same_length c = search rules
 
 returns : tie.Need-returns
 returns c =
-    let s = c.before.before.before.save.ensures in
-    record { tells = tells_of s.0 c.of-save.ensures; words_after = s.1 }
+    let s = c.save.ensures in
+    record { tells = tells_of s.0 c.of_save-answer.ensures; words_after = s.1 }
 
-pub huddlewool-save-spec : {M : Type 1} → statement M
-huddlewool-save-spec = tie.close (tie.spec save-requires of-save-requires same_length returns)
+pub huddlewool_save_spec : {M : Type 1} → statement M
+huddlewool_save_spec = tie.close (tie.spec save-requires of-save-requires same_length returns)

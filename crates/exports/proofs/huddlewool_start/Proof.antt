@@ -13,37 +13,25 @@ use Rattle.exports.proofs.huddlewool_start.Statement.{statement}
 use Rattle.exports.proofs.huddlewool_start.Tie as tie
 
 -- the places that the proofs below speak of, each from a later one
-abbrev at-start : tie.After-of-start → tie.After-start
-at-start c = c.before.before.before
-
-abbrev at-start-arg : tie.After-of-start → tie.After-start-arg
-at-start-arg c = (at-start c).before
-
-abbrev at-shared-slice-known : tie.After-of-start → tie.After-shared-slice-known
-at-shared-slice-known c = (at-start-arg c).before.before.before
-
-abbrev entry : tie.After-of-start → tie.Start
-entry c = (at-shared-slice-known c).before
-
 start-requires : tie.Need-start-requires
 start-requires c κs = search rules
 
-of-start-requires : tie.Need-of-start-requires
+of-start-requires : tie.Need-of_start-answer-requires
 of-start-requires c κs = search rules
 
-same_length : tie.Need-same-length
+same_length : tie.Need-shape_of-work
 same_length c = search rules
 
 returns : tie.Need-returns
 returns c =
-    let args = (entry c).args in
-    let s = (at-start c).start.ensures in
+    let args = c.args in
+    let s = c.start.ensures in
     let task : ℤ → Task = λ z. task_with args.text.now args.pattern.now (Linear args.u args.v z) in
-    let same = to_z-of_z w32 args.threshold (entry c).ranges.threshold in
+    let same = to_z-of_z w32 args.threshold c.ranges.threshold in
     record {
-      tells = tells_of (s.0 ∙ ap (λ (z : ℤ). start_reply (task z) (length args.work.now)) same) c.of-start.ensures;
+      tells = tells_of (s.0 ∙ ap (λ (z : ℤ). start_reply (task z) (length args.work.now)) same) c.of_start-answer.ensures;
       work_after = s.1 ∙ ap (λ (z : ℤ). start_words (task z) args.work.now) same;
     }
 
-pub huddlewool-start-spec : {M : Type 1} → statement M
-huddlewool-start-spec = tie.close (tie.spec start-requires of-start-requires same_length returns)
+pub huddlewool_start_spec : {M : Type 1} → statement M
+huddlewool_start_spec = tie.close (tie.spec start-requires of-start-requires same_length returns)

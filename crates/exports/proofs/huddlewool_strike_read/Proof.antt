@@ -4,30 +4,23 @@ use Rattle.exports.proofs.Telling.{tells_of}
 use Rattle.exports.proofs.huddlewool_strike_read.Statement.{statement}
 use Rattle.exports.proofs.huddlewool_strike_read.Tie as tie
 
--- the first of the two buffers is back, and before that the call of strike_read
-abbrev one-back : tie.After-of-strike → tie.After-slice-known3
-one-back c = c.before.before.before
-
-abbrev struck : tie.After-of-strike → tie.After-strike-read
-struck c = (one-back c).before.before
-
-strike-read-requires : tie.Need-strike-read-requires
+strike-read-requires : tie.Need-strike_read-requires
 strike-read-requires c κs = search rules
 
-of-strike-requires : tie.Need-of-strike-requires
+of-strike-requires : tie.Need-of_strike-answer-requires
 of-strike-requires c κs = search rules
 
-same_length : tie.Need-same-length
+same_length : tie.Need-shape_of-codes_out
 same_length c = search rules
 
-same-length-2 : tie.Need-same-length-2
+same-length-2 : tie.Need-shape_of-positions_out
 same-length-2 c = search rules
 
 returns : tie.Need-returns
 returns c =
-    let s = (struck c).strike_read.ensures in
-    record { tells = tells_of s.0 c.of-strike.ensures; codes_after = s.1.0; positions_after = s.1.1 }
+    let s = c.strike_read.ensures in
+    record { tells = tells_of s.0 c.of_strike-answer.ensures; codes_after = s.1.0; positions_after = s.1.1 }
 
-pub huddlewool-strike-read-spec : {M : Type 1} → statement M
-huddlewool-strike-read-spec =
+pub huddlewool_strike_read_spec : {M : Type 1} → statement M
+huddlewool_strike_read_spec =
     tie.close (tie.spec strike-read-requires of-strike-requires same_length same-length-2 returns)

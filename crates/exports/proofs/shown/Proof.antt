@@ -21,23 +21,23 @@ module _ (score : Score) (m divisor : ℕ) (is : score ≡ Fraction m divisor) w
   as-divisor : divisor < signed_limit → pos divisor ≡ shown score
   as-divisor l = rw (is, lt-ltb divisor signed_limit l)
 
-enum-known-score : tie.Need-enum-known-score
+enum-known-score : tie.Need-enum_known-score
 enum-known-score c = search rules
 
-enum-known-score-2 : tie.Need-enum-known-score-2
+enum-known-score-2 : tie.Need-enum_known-score-in-Fraction-1
 enum-known-score-2 c = search rules
 
-returns : tie.Need-returns
-returns c = too-high _ _ _ c.before.before.score2.given.1 c.if1.true
+returns : tie.Need-returns-then-divisor-ge-SIGNED_LIMIT
+returns c = too-high _ _ _ c.in-Fraction.is c.if-divisor-ge-SIGNED_LIMIT.true
 
-cast-result : tie.Need-overflow-cast-result
+cast-result : tie.Need-overflow_cast-result
 cast-result c = search rules
 
-returns-2 : tie.Need-returns-2
-returns-2 c = to_z-of_z (sfits_of c.known-told.given.0.1) ∙ sym (ap shown c.before.score.given.1)
+returns-2 : tie.Need-returns-in-Number
+returns-2 c = to_z-of_z {w = w32} (sfits_of c.in-Number.known_told-1-own.given.0.1) ∙ sym (ap shown c.in-Number.is)
 
-returns-3 : tie.Need-returns-3
-returns-3 c = to_z_pos w32 c.if1.false ∙ as-divisor _ _ _ c.before.before.score2.given.1 c.if1.false
+returns-3 : tie.Need-returns-else-divisor-ge-SIGNED_LIMIT
+returns-3 c = to_z_pos w32 c.if-divisor-ge-SIGNED_LIMIT.false ∙ as-divisor _ _ _ c.in-Fraction.is c.if-divisor-ge-SIGNED_LIMIT.false
 
-pub shown-spec : {M : Type 1} → statement M
-shown-spec = tie.close (tie.spec enum-known-score enum-known-score-2 returns cast-result returns-2 returns-3)
+pub shown_spec : {M : Type 1} → statement M
+shown_spec = tie.close (tie.spec enum-known-score enum-known-score-2 returns cast-result returns-2 returns-3)

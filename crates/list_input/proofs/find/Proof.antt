@@ -12,10 +12,10 @@ use Rattle.list_input.proofs.Parts.{first_at, first_more}
 use Rattle.list_input.proofs.find.Statement.{statement}
 use Rattle.list_input.proofs.find.Tie as tie
 
-abbrev invariant-loop : tie.invariant-loop
+abbrev invariant-loop : tie.invariant-loop-i
 invariant-loop bytes b i₀ i = (i ≤ length bytes) × (i + length (first_part b (drop i bytes)) ≡ length (first_part b bytes))
 
-abbrev decreases-loop : tie.decreases-loop
+abbrev decreases-loop : tie.decreases-loop-i
 decreases-loop bytes b i₀ i = length bytes - i
 
 module _ (b : ℕ) (l : List ℕ) (i : ℕ) where
@@ -33,45 +33,36 @@ module _ (b : ℕ) (l : List ℕ) (i : ℕ) where
   unfolding first_part
   left_none h = ap (λ (r : List ℕ). length (first_part b r)) (drop_of_length-le l h)
 
-loop-holds : tie.Need-loop-init invariant-loop decreases-loop
+loop-holds : tie.Need-loop-i-init invariant-loop decreases-loop
 loop-holds c = omega arith
 
-shared-slice-read-if1 : tie.Need-shared-slice-read-if1 invariant-loop decreases-loop
+shared-slice-read-if1 : tie.Need-bounds-bytes-i invariant-loop decreases-loop
 shared-slice-read-if1 c = omega arith
 
-returns : tie.Need-returns invariant-loop decreases-loop
+returns : tie.Need-returns-then-bytes-i invariant-loop decreases-loop
 returns c =
-    let at-loop = c.before.before.before in
-    let args = at-loop.before.args in
-    omega (arith, left_at args.b args.bytes.now at-loop.loop.i c.before.before.loop-test.true c.if1.true)
+    let at-loop = c in
+    let args = at-loop.args in
+    omega (arith, left_at args.b args.bytes.now at-loop.loop-i.i c.loop-i-test.true c.if-bytes-i.true)
 
-add-i : tie.Need-overflow-add-i invariant-loop decreases-loop
+add-i : tie.Need-overflow_add-i invariant-loop decreases-loop
 add-i c = omega arith
 
-loop-less : tie.Need-loop-smaller invariant-loop decreases-loop
+loop-less : tie.Need-loop-i-smaller invariant-loop decreases-loop
 loop-less c = omega arith
 
-loop-again : tie.Need-loop-preserved invariant-loop decreases-loop
+loop-again : tie.Need-loop-i-preserved invariant-loop decreases-loop
 loop-again c =
-    let at-loop = c.before.before.before in
-    let args = at-loop.before.args in
-    omega (arith, left_more args.b args.bytes.now at-loop.loop.i c.before.before.loop-test.true c.if1.false)
+    let at-loop = c in
+    let args = at-loop.args in
+    omega (arith, left_more args.b args.bytes.now at-loop.loop-i.i c.loop-i-test.true c.if-bytes-i.false)
 
-returns-2 : tie.Need-returns-2 invariant-loop decreases-loop
+returns-2 : tie.Need-returns invariant-loop decreases-loop
 returns-2 c =
-    let args = c.before.before.args in
-    omega (arith, left_none args.b args.bytes.now c.before.loop.i c.loop-test.false)
+    let args = c.args in
+    omega (arith, left_none args.b args.bytes.now c.loop-i.i c.loop-i-test.false)
 
 pub find_spec : {M : Type 1} → statement M
 find_spec =
     tie.close
-    (tie.spec
-    invariant-loop
-    decreases-loop
-    loop-holds
-    shared-slice-read-if1
-    returns
-    add-i
-    loop-less
-    loop-again
-    returns-2)
+    (tie.spec invariant-loop decreases-loop loop-holds shared-slice-read-if1 returns add-i loop-less loop-again returns-2)

@@ -33,17 +33,17 @@ module _ (n : ℕ) (small : n ≤ 2 ^ 31) where
   cast_fits : SFits w32 (to_z w64 (of_z w64 number))
   cast_fits = subst (SFits w32) (sym read_is) (record { sfits = mag-negative n small })
 
-cast-result : tie.Need-overflow-cast-result
+cast-result : tie.Need-overflow_cast-result
 cast-result c = search rules
 
-sub-result : tie.Need-overflow-sub-result
+sub-result : tie.Need-overflow_sub-result
 sub-result c = number_fits c.args.magnitude c.requires
 
-cast-result-2 : tie.Need-overflow-cast-result-2
+cast-result-2 : tie.Need-overflow_cast-result-2
 cast-result-2 c = cast_fits c.args.magnitude c.requires
 
 returns : tie.Need-returns
 returns c = to_z-of_z (cast_fits c.args.magnitude c.requires) ∙ read_is c.args.magnitude c.requires
 
-pub negative-spec : {M : Type 1} → statement M
-negative-spec = tie.close (tie.spec cast-result sub-result cast-result-2 returns)
+pub negative_spec : {M : Type 1} → statement M
+negative_spec = tie.close (tie.spec cast-result sub-result cast-result-2 returns)

@@ -18,18 +18,6 @@ use Rattle.list_input.proofs.read_field.Statement.{statement}
 use Rattle.list_input.proofs.read_field.Tie as tie
 
 -- places, each named for where it leads and from where
-abbrev entry-rest : tie.After-rest → tie.Start
-entry-rest c = c.before.before
-
-abbrev entry-else1 : tie.Else1 → tie.Start
-entry-else1 c = entry-rest c.before.before
-
-abbrev entry-read-number : tie.After-read-number → tie.Start
-entry-read-number c = entry-else1 c.before.before
-
-abbrev else1-read-number : tie.After-read-number → tie.Else1
-else1-read-number c = c.before.before
-
 module _ (line : List ℕ) (from n : ℕ) (inside : from ≤ length line)
     (found : n ≡ length (first_part space (take (length line - from) (drop from line)))) where
   abbrev rest : List ℕ
@@ -54,81 +42,68 @@ module _ (line : List ℕ) (from n : ℕ) (inside : from ≤ length line)
       ∙ ap (λ (j : ℕ). as_field (from + j + 1) (number_of (word_limit - 1) (first_part space (drop from line)))) place
       ∙ sym (field_some line from (omega arith))
 
-sub-rest : tie.Need-overflow-sub-rest
+sub-rest : tie.Need-slice_bounds-rest-count
 sub-rest c = search rules
 
-part-rest-start : tie.Need-slice-bounds-rest-start
+part-rest-start : tie.Need-slice_bounds-rest-start
 part-rest-start c = search rules
 
-part-rest-end : tie.Need-slice-bounds-rest-end
+part-rest-end : tie.Need-slice_bounds-rest-end
 part-rest-end c = search rules
 
-find-requires : tie.Need-find-requires
+find-requires : tie.Need-find-n-requires
 find-requires c κs = search rules
 
-returns : tie.Need-returns
-returns c = none (entry-rest c.before.before).args.line.now (entry-rest c.before.before).args.from c.before.find.result
-    (entry-rest c.before.before).requires c.before.find.ensures c.if1.true
+returns : tie.Need-returns-then-n-rest
+returns c = none c.args.line.now c.args.from c.find-n.result
+    c.requires c.find-n.ensures c.if-n-rest.true
 
-slice-aggregate-read-number : tie.Need-slice-aggregate-read-number
+slice-aggregate-read-number : tie.Need-slice_bounds-read_number-end
 slice-aggregate-read-number c =
-    sym (length-take-le c.before.before.find.result _
-    (short (entry-rest c.before.before.before).args.line.now (entry-rest c.before.before.before).args.from
-    c.before.before.find.result (entry-rest c.before.before.before).requires c.before.before.find.ensures))
+    sym (length-take-le c.find-n.result _
+    (short c.args.line.now c.args.from
+    c.find-n.result c.requires c.find-n.ensures))
 
-read-number-requires : tie.Need-read-number-requires
+read-number-requires : tie.Need-read_number-requires
 read-number-requires c κs = search rules
 
-enum_told : tie.Need-enum-told
+enum_told : tie.Need-enum_told-1
 enum_told c = search rules
 
-enum-known-value : tie.Need-enum-known-value
+enum-known-value : tie.Need-enum_known-value
 enum-known-value c = search rules
 
-add-t14 : tie.Need-overflow-add-t14
+add-t14 : tie.Need-overflow_add-result
 add-t14 c = omega (
   arith,
-  found_inside space (entry-read-number c.before.before.before).args.line.now (entry-read-number c.before.before.before).args.from
-      (else1-read-number c.before.before.before).before.find.result (entry-read-number c.before.before.before).requires
-      (else1-read-number c.before.before.before).before.find.ensures,
+  found_inside space c.args.line.now c.args.from
+      c.find-n.result c.requires
+      c.find-n.ensures,
 )
 
-add-t15 : tie.Need-overflow-add-t15
+add-t15 : tie.Need-overflow_add-result-in-Value
 add-t15 c = omega (
   arith,
-  found_inside space (entry-read-number c.before.before.before).args.line.now (entry-read-number c.before.before.before).args.from
-      (else1-read-number c.before.before.before).before.find.result (entry-read-number c.before.before.before).requires
-      (else1-read-number c.before.before.before).before.find.ensures,
+  found_inside space c.args.line.now c.args.from
+      c.find-n.result c.requires
+      c.find-n.ensures,
 )
 
-returns-2 : tie.Need-returns-2
+returns-2 : tie.Need-returns-in-Malformed
 returns-2 c =
-    some (entry-read-number c.before.before).args.line.now (entry-read-number c.before.before).args.from
-    (else1-read-number c.before.before).before.find.result (entry-read-number c.before.before).requires
-    (else1-read-number c.before.before).before.find.ensures (else1-read-number c.before.before).if1.false
-    c.before.before.read_number.ensures c.enum_told.given.1
+    some c.args.line.now c.args.from
+    c.find-n.result c.requires
+    c.find-n.ensures c.if-n-rest.false
+    c.read_number.ensures c.in-Malformed.is
 
-returns-3 : tie.Need-returns-3
+returns-3 : tie.Need-returns-in-Value
 returns-3 c =
-    some (entry-read-number c.before.before.before).args.line.now (entry-read-number c.before.before.before).args.from
-    (else1-read-number c.before.before.before).before.find.result (entry-read-number c.before.before.before).requires
-    (else1-read-number c.before.before.before).before.find.ensures (else1-read-number c.before.before.before).if1.false
-    c.before.before.before.read_number.ensures c.before.value.given.1
+    some c.args.line.now c.args.from
+    c.find-n.result c.requires
+    c.find-n.ensures c.if-n-rest.false
+    c.read_number.ensures c.in-Value.is
 
-pub read-field-spec : {M : Type 1} → statement M
-read-field-spec =
+pub read_field_spec : {M : Type 1} → statement M
+read_field_spec =
     tie.close
-    (tie.spec
-    sub-rest
-    part-rest-start
-    part-rest-end
-    find-requires
-    returns
-    slice-aggregate-read-number
-    read-number-requires
-    enum_told
-    enum-known-value
-    add-t14
-    add-t15
-    returns-2
-    returns-3)
+    (tie.spec sub-rest part-rest-start part-rest-end find-requires returns slice-aggregate-read-number read-number-requires enum_told enum-known-value add-t14 add-t15 returns-2 returns-3)

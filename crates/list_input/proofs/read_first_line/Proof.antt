@@ -12,38 +12,20 @@ use Rattle.list_input.specs.Input.{fields}
 use Rattle.list_input.specs.Answers.{field_of, last_field_of, first_line_of}
 use Rattle.list_input.specs.declared.Field.TheVariants.{Malformed as no_field, Given as field}
 use Rattle.list_input.specs.declared.LastField.{LastField}
-use Rattle.list_input.specs.declared.FirstLine.TheVariants.{Malformed as noFirstLine}
+use Rattle.list_input.specs.declared.FirstLine.TheVariants.{Malformed as no_first_line}
 use Rattle.list_line.proofs.Buffers.{part_to_end}
 use Rattle.list_input.proofs.Fields.{left, left_all, left_field, next_inside, left_malformed, as_first_line, left_last}
 use Rattle.list_input.proofs.read_first_line.Statement.{statement}
 use Rattle.list_input.proofs.read_first_line.Tie as tie
 
-abbrev invariant-loop : tie.invariant-loop
+abbrev invariant-loop : tie.invariant-loop-i
 invariant-loop line numbers₀ at₀ i₀ numbers at i = (i ≤ 5) × (at ≤ length line) × (length numbers ≡ 5)
     × (left (5 - i) (take i numbers) (fields (drop at line)) ≡ first_line_of (fields line))
 
-abbrev decreases-loop : tie.decreases-loop
+abbrev decreases-loop : tie.decreases-loop-i
 decreases-loop line numbers₀ at₀ i₀ numbers at i = 5 - i
 
 -- places, each named for where it leads and from where
-abbrev turn-read-field : tie.After-read-field invariant-loop decreases-loop → tie.At-loop invariant-loop decreases-loop
-turn-read-field c = c.before.before
-
-abbrev entry-read-field : tie.After-read-field invariant-loop decreases-loop → tie.Start invariant-loop decreases-loop
-entry-read-field c = (turn-read-field c).before.before
-
-abbrev in-loop-read-field : tie.After-read-field invariant-loop decreases-loop → tie.In-loop invariant-loop decreases-loop
-in-loop-read-field c = c.before
-
-abbrev turn-read-last-field : tie.After-read-last-field invariant-loop decreases-loop → tie.At-loop invariant-loop decreases-loop
-turn-read-last-field c = c.before.before.before
-
-abbrev entry-read-last-field : tie.After-read-last-field invariant-loop decreases-loop → tie.Start invariant-loop decreases-loop
-entry-read-last-field c = (turn-read-last-field c).before.before
-
-abbrev loop-read-last-field : tie.After-read-last-field invariant-loop decreases-loop → tie.After-loop invariant-loop decreases-loop
-loop-read-last-field c = c.before.before
-
 module _ (line numbers : List ℕ) (at i : ℕ) (long : length numbers ≡ 5)
     (same : left (5 - i) (take i numbers) (fields (drop at line)) ≡ first_line_of (fields line)) where
   one_more : i < 5 → left (suc (5 - (i + 1))) (take i numbers) (fields (drop at line)) ≡ first_line_of (fields line)
@@ -58,7 +40,7 @@ module _ (line numbers : List ℕ) (at i : ℕ) (long : length numbers ≡ 5)
       ∙ sym (left_field line at (5 - (i + 1)) (take i numbers) e)
       ∙ one_more h
 
-  no-field : i < 5 → field_of line at ≡ no_field → noFirstLine ≡ first_line_of (fields line)
+  no-field : i < 5 → field_of line at ≡ no_field → no_first_line ≡ first_line_of (fields line)
   no-field h e = sym (left_malformed line at (5 - (i + 1)) (take i numbers) e) ∙ one_more h
 
   -- what the last field makes of the fourth and the fifth number
@@ -75,123 +57,98 @@ module _ (line numbers : List ℕ) (at i : ℕ) (long : length numbers ≡ 5)
       ∙ ap (λ (n : ℕ). left n (take i numbers) (fields (drop at line))) (sym five)
       ∙ same
 
-loop-holds : tie.Need-loop-init invariant-loop decreases-loop
+loop-holds : tie.Need-loop-i-init invariant-loop decreases-loop
 loop-holds c = (omega arith, omega arith, refl, left_all _)
 
-read-field-requires : tie.Need-read-field-requires invariant-loop decreases-loop
+read-field-requires : tie.Need-read_field-requires invariant-loop decreases-loop
 read-field-requires c κs = search rules
 
-enum_told : tie.Need-enum-told invariant-loop decreases-loop
+enum_told : tie.Need-enum_told-1 invariant-loop decreases-loop
 enum_told c = search rules
 
-returns : tie.Need-returns invariant-loop decreases-loop
-returns c = no-field (entry-read-field c.before.before).args.line.now (turn-read-field c.before.before).loop.numbers
-    (turn-read-field c.before.before).loop.at (turn-read-field c.before.before).loop.i (turn-read-field c.before.before).loop.inv.2
-    (turn-read-field c.before.before).loop.inv.3 c.before.before.before.loop-test.true
-    (sym c.before.before.read-field.ensures ∙ c.enum_told.given.1)
+returns : tie.Need-returns-in-Malformed invariant-loop decreases-loop
+returns c = no-field c.args.line.now c.loop-i.numbers
+    c.loop-i.at c.loop-i.i c.loop-i.invariant.2
+    c.loop-i.invariant.3 c.loop-i-test.true
+    (sym c.read_field.ensures ∙ c.in-Malformed.is)
 
-enum-known-value : tie.Need-enum-known-value invariant-loop decreases-loop
+enum-known-value : tie.Need-enum_known-value invariant-loop decreases-loop
 enum-known-value c = search rules
 
-mul-numbers : tie.Need-overflow-mul-numbers invariant-loop decreases-loop
+mul-numbers : tie.Need-offset_bounds-numbers-i invariant-loop decreases-loop
 mul-numbers c = search rules
 
-array-write-numbers : tie.Need-array-write-numbers invariant-loop decreases-loop
+array-write-numbers : tie.Need-bounds-numbers-i invariant-loop decreases-loop
 array-write-numbers c = search rules
 
-add-i : tie.Need-overflow-add-i invariant-loop decreases-loop
+add-i : tie.Need-overflow_add-i invariant-loop decreases-loop
 add-i c = search rules
 
-loop-less : tie.Need-loop-smaller invariant-loop decreases-loop
+loop-less : tie.Need-loop-i-smaller invariant-loop decreases-loop
 loop-less c = search rules
 
-loop-again : tie.Need-loop-preserved invariant-loop decreases-loop
+loop-again : tie.Need-loop-i-preserved invariant-loop decreases-loop
 loop-again c = (
   omega arith,
-  next_inside _ _ (sym c.before.before.before.read-field.ensures ∙ c.before.value.given.1),
-  simp length-set (turn-read-field c.before.before.before).loop.inv.2,
-  next_field (entry-read-field c.before.before.before).args.line.now (turn-read-field c.before.before.before).loop.numbers
-      (turn-read-field c.before.before.before).loop.at (turn-read-field c.before.before.before).loop.i
-      (turn-read-field c.before.before.before).loop.inv.2 (turn-read-field c.before.before.before).loop.inv.3
-      (in-loop-read-field c.before.before.before).loop-test.taken
-      (sym c.before.before.before.read-field.ensures ∙ c.before.value.given.1),
+  next_inside _ _ (sym c.read_field.ensures ∙ c.in-Given.is),
+  simp length-set c.loop-i.invariant.2,
+  next_field c.args.line.now c.loop-i.numbers
+      c.loop-i.at c.loop-i.i
+      c.loop-i.invariant.2 c.loop-i.invariant.3
+      c.loop-i-test.true
+      (sym c.read_field.ensures ∙ c.in-Given.is),
 )
 
-sub-read-last-field : tie.Need-overflow-sub-read-last-field invariant-loop decreases-loop
+sub-read-last-field : tie.Need-slice_bounds-read_last_field-count invariant-loop decreases-loop
 sub-read-last-field c = search rules
 
-part-read-last-field-start : tie.Need-slice-bounds-read-last-field-start invariant-loop decreases-loop
+part-read-last-field-start : tie.Need-slice_bounds-read_last_field-start invariant-loop decreases-loop
 part-read-last-field-start c = search rules
 
-part-read-last-field-end : tie.Need-slice-bounds-read-last-field-end invariant-loop decreases-loop
+part-read-last-field-end : tie.Need-slice_bounds-read_last_field-end invariant-loop decreases-loop
 part-read-last-field-end c = search rules
 
-array-read-read-last-field : tie.Need-array-read-read-last-field invariant-loop decreases-loop
+array-read-read-last-field : tie.Need-bounds-numbers-3 invariant-loop decreases-loop
 array-read-read-last-field c = search rules
 
-array-read-read-last-field-2 : tie.Need-array-read-read-last-field-2 invariant-loop decreases-loop
+array-read-read-last-field-2 : tie.Need-bounds-numbers-4 invariant-loop decreases-loop
 array-read-read-last-field-2 c = search rules
 
-read-last-field-requires : tie.Need-read-last-field-requires invariant-loop decreases-loop
+read-last-field-requires : tie.Need-read_last_field-requires invariant-loop decreases-loop
 read-last-field-requires c κs = search rules
 
-enum-told-2 : tie.Need-enum-told-2 invariant-loop decreases-loop
+enum-told-2 : tie.Need-enum_told-in-Malformed-read_last_field invariant-loop decreases-loop
 enum-told-2 c = search rules
 
-enum-known-scoring : tie.Need-enum-known-scoring invariant-loop decreases-loop
+enum-known-scoring : tie.Need-enum_known-scoring invariant-loop decreases-loop
 enum-known-scoring c = search rules
 
-array-read-t27 : tie.Need-array-read-t27 invariant-loop decreases-loop
+array-read-t27 : tie.Need-bounds-numbers-0 invariant-loop decreases-loop
 array-read-t27 c = search rules
 
-array-read-t30 : tie.Need-array-read-t30 invariant-loop decreases-loop
+array-read-t30 : tie.Need-bounds-numbers-1 invariant-loop decreases-loop
 array-read-t30 c = search rules
 
-array-read-t33 : tie.Need-array-read-t33 invariant-loop decreases-loop
+array-read-t33 : tie.Need-bounds-numbers-2 invariant-loop decreases-loop
 array-read-t33 c = search rules
 
-returns-2 : tie.Need-returns-2 invariant-loop decreases-loop
+returns-2 : tie.Need-returns-in-Malformed-read_last_field invariant-loop decreases-loop
 returns-2 c =
-    all_read (entry-read-last-field c.before.before).args.line.now (turn-read-last-field c.before.before).loop.numbers
-    (turn-read-last-field c.before.before).loop.at (turn-read-last-field c.before.before).loop.i
-    (turn-read-last-field c.before.before).loop.inv.2 (turn-read-last-field c.before.before).loop.inv.3
-    (loop-read-last-field c.before.before).loop-test.left (turn-read-last-field c.before.before).loop.inv.0
-    c.before.before.read-last-field.ensures c.enum-told2.given.1
+    all_read c.args.line.now c.loop-i.numbers
+    c.loop-i.at c.loop-i.i
+    c.loop-i.invariant.2 c.loop-i.invariant.3
+    c.loop-i-test.false c.loop-i.invariant.0
+    c.read_last_field.ensures c.in-Malformed-read_last_field.is
 
-returns-3 : tie.Need-returns-3 invariant-loop decreases-loop
+returns-3 : tie.Need-returns-in-Given-read_last_field invariant-loop decreases-loop
 returns-3 c =
-    all_read (entry-read-last-field c.before.before.before).args.line.now (turn-read-last-field c.before.before.before).loop.numbers
-    (turn-read-last-field c.before.before.before).loop.at (turn-read-last-field c.before.before.before).loop.i
-    (turn-read-last-field c.before.before.before).loop.inv.2 (turn-read-last-field c.before.before.before).loop.inv.3
-    (loop-read-last-field c.before.before.before).loop-test.left (turn-read-last-field c.before.before.before).loop.inv.0
-    c.before.before.before.read-last-field.ensures c.before.scoring.given.1
+    all_read c.args.line.now c.loop-i.numbers
+    c.loop-i.at c.loop-i.i
+    c.loop-i.invariant.2 c.loop-i.invariant.3
+    c.loop-i-test.false c.loop-i.invariant.0
+    c.read_last_field.ensures c.in-Given-read_last_field.is
 
-pub read-first-line-spec : {M : Type 1} → statement M
-read-first-line-spec =
+pub read_first_line_spec : {M : Type 1} → statement M
+read_first_line_spec =
     tie.close
-    (tie.spec
-    invariant-loop
-    decreases-loop
-    loop-holds
-    read-field-requires
-    enum_told
-    returns
-    enum-known-value
-    mul-numbers
-    array-write-numbers
-    add-i
-    loop-less
-    loop-again
-    sub-read-last-field
-    part-read-last-field-start
-    part-read-last-field-end
-    array-read-read-last-field
-    array-read-read-last-field-2
-    read-last-field-requires
-    enum-told-2
-    enum-known-scoring
-    array-read-t27
-    array-read-t30
-    array-read-t33
-    returns-2
-    returns-3)
+    (tie.spec invariant-loop decreases-loop loop-holds read-field-requires enum_told returns enum-known-value mul-numbers array-write-numbers add-i loop-less loop-again sub-read-last-field part-read-last-field-start part-read-last-field-end array-read-read-last-field array-read-read-last-field-2 read-last-field-requires enum-told-2 enum-known-scoring array-read-t27 array-read-t30 array-read-t33 returns-2 returns-3)

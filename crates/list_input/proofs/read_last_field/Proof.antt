@@ -4,6 +4,7 @@ use mathlib.Core.Path.{◌≡◌, sym, ap, ◌∙◌}
 use mathlib.Core.Bool.{Bool}
 use mathlib.Core.List.{List}
 use lib.IntN.{ℤ}
+use mir.Syntax.{w32}
 use mir.Facts.{to_z-of_z}
 use borrow.Author.Rules.{rules, sfits_of}
 use Rattle.mappings.specs.declared.Scoring.TheVariants.{Linear}
@@ -16,15 +17,12 @@ use Rattle.list_input.proofs.read_last_field.Statement.{statement}
 use Rattle.list_input.proofs.read_last_field.Tie as tie
 
 -- places, each named for where it leads and from where
-abbrev entry : tie.After-same → tie.Start
-entry c = c.before.before.before
-
-abbrev else1-read-signed : tie.After-read-signed → tie.Else1
+abbrev else1-read-signed : tie.After-read_signed → tie.Else-same
 else1-read-signed c = c.before
 
 module _ (c : tie.After-same) where
   abbrev bytes : List ℕ
-  bytes = (entry c).args.bytes.now
+  bytes = c.args.bytes.now
 
   -- the comparison is the test for the word
   tested : {b : Bool} → c.same.result ≡ b → is_jaccard bytes ≡ b
@@ -32,56 +30,42 @@ module _ (c : tie.After-same) where
   tested e = sym c.same.ensures ∙ e
 
 -- what the threshold makes, where the word does not stand there
-module _ (c : tie.After-read-signed) where
+module _ (c : tie.After-read_signed) where
   abbrev compared : tie.After-same
   compared = (else1-read-signed c).before
 
-  abbrev start : tie.Start
-  start = entry compared
-
-  read : {other : Threshold} → c.read-signed.result ≡ other
-      → as_linear start.args.fourth start.args.fifth other ≡ last_field_of start.args.fourth start.args.fifth (bytes compared)
+  read : {other : Threshold} → c.read_signed.result ≡ other
+      → as_linear c.args.fourth c.args.fifth other ≡ last_field_of c.args.fourth c.args.fifth (bytes compared)
   read e =
-      ap (as_linear start.args.fourth start.args.fifth) (sym e ∙ c.read-signed.ensures)
-      ∙ sym (last_threshold _ _ _ (tested compared (else1-read-signed c).if1.false))
-
-slice-aggregate-same : tie.Need-slice-aggregate-same
-slice-aggregate-same c = search rules
+      ap (as_linear c.args.fourth c.args.fifth) (sym e ∙ c.read_signed.ensures)
+      ∙ sym (last_threshold _ _ _ (tested compared c.if-same.false))
 
 same-requires : tie.Need-same-requires
 same-requires c κs = search rules
 
-returns : tie.Need-returns
-returns c = sym (last_word _ _ _ (tested c.before c.if1.true))
+returns : tie.Need-returns-then-same
+returns c = sym (last_word _ _ _ (tested c.before c.if-same.true))
 
-read-signed-requires : tie.Need-read-signed-requires
+read-signed-requires : tie.Need-read_signed-requires
 read-signed-requires c κs = search rules
 
-enum_told : tie.Need-enum-told
+enum_told : tie.Need-enum_told-1
 enum_told c = search rules
 
-enum-known-threshold : tie.Need-enum-known-threshold
+enum-known-threshold : tie.Need-enum_known-threshold
 enum-known-threshold c = search rules
 
-returns-2 : tie.Need-returns-2
-returns-2 c = read c.before.before c.enum_told.given.1
+returns-2 : tie.Need-returns-in-Malformed
+returns-2 c = read c.before c.in-Malformed.is
 
-returns-3 : tie.Need-returns-3
+returns-3 : tie.Need-returns-in-Value
 returns-3 c =
-    let at-signed = c.before.before.before in
-    let args = (start at-signed).args in
-    ap (λ (z : ℤ). scored (Linear args.fourth args.fifth z)) (to_z-of_z (sfits_of c.known-told.given.0.1))
-    ∙ read at-signed c.before.threshold.given.1
+    let at-signed = c.before in
+    let args = at-signed.args in
+    ap (λ (z : ℤ). scored (Linear args.fourth args.fifth z)) (to_z-of_z {w = w32} (sfits_of c.in-Value.known_told-1-own.given.0.1))
+    ∙ read at-signed c.in-Value.is
 
-pub read-last-field-spec : {M : Type 1} → statement M
-read-last-field-spec =
+pub read_last_field_spec : {M : Type 1} → statement M
+read_last_field_spec =
     tie.close
-    (tie.spec
-    slice-aggregate-same
-    same-requires
-    returns
-    read-signed-requires
-    enum_told
-    enum-known-threshold
-    returns-2
-    returns-3)
+    (tie.spec same-requires returns read-signed-requires enum_told enum-known-threshold returns-2 returns-3)

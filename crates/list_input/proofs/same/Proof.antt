@@ -13,24 +13,18 @@ use Rattle.list_input.proofs.Numbers.{same_is}
 use Rattle.list_input.proofs.same.Statement.{statement}
 use Rattle.list_input.proofs.same.Tie as tie
 
-abbrev invariant-loop : tie.invariant-loop
+abbrev invariant-loop : tie.invariant-loop-i
 invariant-loop a b i₀ i = (i ≤ length a) × (length a ≡ length b) × (same_bytes (drop i a) (drop i b) ≡ same_bytes a b)
 
-abbrev decreases-loop : tie.decreases-loop
+abbrev decreases-loop : tie.decreases-loop-i
 decreases-loop a b i₀ i = length a - i
 
 -- places, each named for where it leads and from where
-abbrev in-loop-then2 : tie.Then2 invariant-loop decreases-loop → tie.In-loop invariant-loop decreases-loop
+abbrev in-loop-then2 : tie.Then-a-i invariant-loop decreases-loop → tie.In-loop-i invariant-loop decreases-loop
 in-loop-then2 c = c.before.before.before
 
-abbrev in-loop-else2 : tie.Else2 invariant-loop decreases-loop → tie.In-loop invariant-loop decreases-loop
+abbrev in-loop-else2 : tie.Else-a-i invariant-loop decreases-loop → tie.In-loop-i invariant-loop decreases-loop
 in-loop-else2 c = c.before.before.before
-
-abbrev turn : tie.In-loop invariant-loop decreases-loop → tie.At-loop invariant-loop decreases-loop
-turn c = c.before
-
-abbrev entry : tie.At-loop invariant-loop decreases-loop → tie.Start invariant-loop decreases-loop
-entry c = c.before.before
 
 module _ (a b : List ℕ) where
   unlike : (length a ≡ length b → ⊥) → false ≡ same_bytes a b
@@ -54,61 +48,50 @@ module _ (a b : List ℕ) where
   none_left : (i : ℕ) → length a ≤ i → length a ≡ length b → same_bytes (drop i a) (drop i b) ≡ true
   none_left i h long = ap₂ same_bytes (drop_of_length-le a h) (let h₂ : length b ≤ i = omega arith in drop_of_length-le b h₂)
 
-returns : tie.Need-returns invariant-loop decreases-loop
-returns c = unlike c.before.args.a.now c.before.args.b.now (λ e. omega (arith, e, c.if1.true))
+returns : tie.Need-returns-then-a-b invariant-loop decreases-loop
+returns c = unlike c.args.a.now c.args.b.now (λ e. omega (arith, e, c.if-a-b.true))
 
-loop-holds : tie.Need-loop-init invariant-loop decreases-loop
-loop-holds c = (omega arith, c.if1.false, refl)
+loop-holds : tie.Need-loop-i-init invariant-loop decreases-loop
+loop-holds c = (omega arith, c.if-a-b.false, refl)
 
-shared-slice-read-if2 : tie.Need-shared-slice-read-if2 invariant-loop decreases-loop
+shared-slice-read-if2 : tie.Need-bounds-a-i invariant-loop decreases-loop
 shared-slice-read-if2 c = omega arith
 
-shared-slice-read-if2-2 : tie.Need-shared-slice-read-if2-2 invariant-loop decreases-loop
+shared-slice-read-if2-2 : tie.Need-bounds-b-i invariant-loop decreases-loop
 shared-slice-read-if2-2 c = omega arith
 
-returns-2 : tie.Need-returns-2 invariant-loop decreases-loop
+returns-2 : tie.Need-returns-then-a-i invariant-loop decreases-loop
 returns-2 c =
     let inside = in-loop-then2 c in
-    let at-loop = turn inside in
-    let args = (entry at-loop).args in
-    sym (other_byte args.a.now args.b.now at-loop.loop.i inside.loop-test.taken at-loop.loop.inv.1 c.if2.true)
-    ∙ at-loop.loop.inv.2
+    let at-loop = inside in
+    let args = at-loop.args in
+    sym (other_byte args.a.now args.b.now at-loop.loop-i.i inside.loop-i-test.true at-loop.loop-i.invariant.1 c.if-a-i.true)
+    ∙ at-loop.loop-i.invariant.2
 
-add-i : tie.Need-overflow-add-i invariant-loop decreases-loop
+add-i : tie.Need-overflow_add-i invariant-loop decreases-loop
 add-i c = omega arith
 
-loop-less : tie.Need-loop-smaller invariant-loop decreases-loop
+loop-less : tie.Need-loop-i-smaller invariant-loop decreases-loop
 loop-less c = omega arith
 
-loop-again : tie.Need-loop-preserved invariant-loop decreases-loop
+loop-again : tie.Need-loop-i-preserved invariant-loop decreases-loop
 loop-again c =
     let inside = in-loop-else2 c in
-    let at-loop = turn inside in
-    let args = (entry at-loop).args in (
+    let at-loop = inside in
+    let args = at-loop.args in (
       omega arith,
-      at-loop.loop.inv.1,
-      sym (same_byte args.a.now args.b.now at-loop.loop.i inside.loop-test.taken at-loop.loop.inv.1 c.if2.false)
-          ∙ at-loop.loop.inv.2,
+      at-loop.loop-i.invariant.1,
+      sym (same_byte args.a.now args.b.now at-loop.loop-i.i inside.loop-i-test.true at-loop.loop-i.invariant.1 c.if-a-i.false)
+          ∙ at-loop.loop-i.invariant.2,
     )
 
-returns-3 : tie.Need-returns-3 invariant-loop decreases-loop
+returns-3 : tie.Need-returns invariant-loop decreases-loop
 returns-3 c =
-    let at-loop = c.before in
-    let args = (entry at-loop).args in
-    sym (none_left args.a.now args.b.now at-loop.loop.i c.loop-test.false at-loop.loop.invariant.1) ∙ at-loop.loop.invariant.2
+    let at-loop = c in
+    let args = at-loop.args in
+    sym (none_left args.a.now args.b.now at-loop.loop-i.i c.loop-i-test.false at-loop.loop-i.invariant.1) ∙ at-loop.loop-i.invariant.2
 
 pub same_spec : {M : Type 1} → statement M
 same_spec =
     tie.close
-    (tie.spec
-    invariant-loop
-    decreases-loop
-    returns
-    loop-holds
-    shared-slice-read-if2
-    shared-slice-read-if2-2
-    returns-2
-    add-i
-    loop-less
-    loop-again
-    returns-3)
+    (tie.spec invariant-loop decreases-loop returns loop-holds shared-slice-read-if2 shared-slice-read-if2-2 returns-2 add-i loop-less loop-again returns-3)

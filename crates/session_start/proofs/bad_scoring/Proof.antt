@@ -23,16 +23,13 @@ bad-fraction-requires c κs = search rules
 
 returns : tie.Need-returns-then-bad_weight
 returns c =
-    let weights = c.scoring-1.given in
     let bad-u = sym c.bad_weight.ensures ∙ c.if-bad_weight.true in
-    c.if-bad_weight.true ∙ sym (ap bad_scoring weights.1 ∙ bad_first weights.0.0 weights.0.1.0 bad-u)
+    c.if-bad_weight.true ∙ sym (ap bad_scoring c.in-Linear.is ∙ bad_first c.in-Linear.u c.in-Linear.v bad-u)
 
 returns-2 : tie.Need-returns-else-bad_weight
 returns-2 c =
-    let judged = c in
-    let weights = judged.scoring-1.given in
-    let good-u = sym judged.bad_weight.ensures ∙ c.if-bad_weight.false in
-    c.bad_weight-else-bad_weight.ensures ∙ sym (ap bad_scoring weights.1 ∙ good_first weights.0.0 weights.0.1.0 good-u)
+    let good-u = sym c.bad_weight.ensures ∙ c.if-bad_weight.false in
+    c.bad_weight-else-bad_weight.ensures ∙ sym (ap bad_scoring c.in-Linear.is ∙ good_first c.in-Linear.u c.in-Linear.v good-u)
 
 returns-3 : tie.Need-returns-in-Jaccard
 returns-3 c = c.bad_fraction.ensures ∙ sym (ap bad_scoring c.in-Jaccard.is)

@@ -23,7 +23,7 @@ returns c =
     let scored = c.start_scored in
     let start = c in
     let args = start.args in
-    let same = to_z-of_z w32 args.threshold start.fits.threshold in (
+    let same = to_z-of_z w32 args.threshold start.ranges.threshold in (
       subst (λ (z : ℤ). started_reply scored.result
           ≡ start_reply (task_with args.text.now args.pattern.now (Linear args.u args.v z)) (length args.work.now)) same scored.ensures.0,
       subst (λ (z : ℤ). scored.new.work

@@ -12,7 +12,7 @@ use borrow.Author.Tests.{lt-ltb, ltb-false, not-true, not-false}
 use Rattle.base.specs.Replies.{Reply, refused, after}
 use Rattle.base.proofs.Lists.{or_left, or_right}
 use Rattle.base.specs.Limits.{k_limit}
-use Rattle.kmers.specs.Kmers.{codes as codes_of, positions as positionsOf}
+use Rattle.kmers.specs.Kmers.{codes as codes_of, positions as positions_of}
 use Rattle.store.specs.Words.{header_k, is_header}
 use Rattle.store.specs.Load.{Judged, good, bad, judge_from, judge, store_k, store_w, load_room, judged_reply, load_reply, entries_of, load_codes, load_positions}
 use Rattle.store_load.specs.Verdicts.{counted, verdict_reply}
@@ -21,14 +21,12 @@ use Rattle.store.proofs.Judging.{judge_empty, judge_no_header, judge_header, sto
 use Rattle.store_load.proofs.Counted.{counted_bad, counted_good}
 use Rattle.store.proofs.Accepting.{Loads, load_accepts, load_fills}
 use Rattle.store_load.proofs.load.Statement.{statement}
+use Rattle.store_load.proofs.load.Lts.{then-codes-entries-via-then-codes-entries, then-codes-entries-via-else-codes-entries+then-positions-entries}
 use Rattle.store_load.proofs.load.Tie as tie
 
 -- places, each named for where it leads and from where
-abbrev header-w-turn-match-keys3 : tie.In-Good-1 → tie.After-header_w-w
-header-w-turn-match-keys3 c = c.before.before
-
-abbrev read_codes : tie.After-codes-1 → tie.After-read
-read_codes c = c.before
+abbrev good-read : tie.After-read → tie.In-Good
+good-read c = c.before.before.before.before.before
 
 module _ (ws cs ps : List ℕ) where
   -- a refusal changes nothing
@@ -41,7 +39,7 @@ module _ (ws cs ps : List ℕ) where
     sym e,
     (
       sym (ap (λ (r : Reply). after r (codes_of (entries_of (judge ws))) cs) e),
-      sym (ap (λ (r : Reply). after r (positionsOf (entries_of (judge ws))) ps) e),
+      sym (ap (λ (r : Reply). after r (positions_of (entries_of (judge ws))) ps) e),
     ),
   )
 
@@ -124,7 +122,7 @@ loads :
     let es = entries_of (judge c.args.words.now) in
     (judge c.args.words.now ≡ good es)
     × (length es ≡ c.in-Good.entries)
-loads c = counted_good _ (sym (ap verdict_reply c.in-Good.is) ∙ found c.before.before.before)
+loads c = counted_good _ (sym (ap verdict_reply c.in-Good.is) ∙ found c.before)
 
 returns-3 : tie.Need-returns-then-codes-entries
 unfolding load_room
@@ -134,7 +132,11 @@ returns-3 c =
     let n = d.in-Good.entries in
     let loaded = loads d in
     let short : (ltb (length a.codes.now) n || ltb (length a.positions.now) n) ≡ true =
-    ⊎_elim (λ w. or_left _ (lt-ltb _ _ w.taken)) (λ w. or_right (ltb (length a.codes.now) n) w.1.taken) c.then-codes-entries.branch
+    elim c.then-codes-entries.branch [
+      | then-codes-entries-via-then-codes-entries w ↦ or_left _ (lt-ltb _ _ w.if-codes-entries.true)
+      | then-codes-entries-via-else-codes-entries+then-positions-entries w ↦
+          or_right (ltb (length a.codes.now) n) w.if-positions-entries.true-raw
+    ]
     in
     refusal a.words.now a.codes.now a.positions.now
     (judged_good a.words.now a.codes.now a.positions.now n loaded.0 loaded.1 ∙ rw short)
@@ -147,14 +149,14 @@ read-requires c κs =
 
 returns-4 : tie.Need-returns-in-BadWord
 returns-4 c =
-    let d = c.before.before.before in
+    let d = c.before in
     let a = d.args in
     judged_bad a.words.now a.codes.now a.positions.now
     (counted_bad 0 (judge a.words.now) (sym (ap verdict_reply c.in-BadWord.is) ∙ found d))
 
 returns-5 : tie.Need-returns-in-BadEnd
 returns-5 c =
-    let d = c.before.before.before in
+    let d = c.before in
     let a = d.args in
     judged_bad a.words.now a.codes.now a.positions.now
     (counted_bad 0 (judge a.words.now) (sym (ap verdict_reply c.in-BadEnd.is) ∙ found d))
@@ -167,27 +169,22 @@ same-length-2 c = search rules
 
 returns-6 : tie.Need-returns-else-positions-entries
 returns-6 c =
-    let r = read_codes c.before.before.before in
-    let e = r.before.before.before in
-    let d = e.before.before in
-    let h = header-w-turn-match-keys3 d.before.before in
-    let s = h in
-    let ws = s.args.words.now in
-    let cs = s.args.codes.now in
-    let ps = s.args.positions.now in
+    let ws = c.args.words.now in
+    let cs = c.args.codes.now in
+    let ps = c.args.positions.now in
     let es = entries_of (judge ws) in
-    let some : 1 ≤ length ws = omega (arith, h.if-words-eq0.false) in
-    let found-entries = loads d in
+    let some : 1 ≤ length ws = omega (arith, c.if-words-eq0.false) in
+    let found-entries = loads (good-read c.before.before.before.before) in
     let loaded : Loads ws es (length cs) (length ps) = record {
       judged = found-entries.0;
-      code_enough = rw found-entries.1 e.if-codes-entries.false;
-      position_enough = rw found-entries.1 (ltb-false _ _ e.if-positions-entries.false-raw);
+      code_enough = rw found-entries.1 c.if-codes-entries.false;
+      position_enough = rw found-entries.1 (ltb-false _ _ c.if-positions-entries.false-raw);
     } in
     let fills = load_fills ws cs ps es loaded in (
       sym
           (load_accepts ws (length cs) (length ps) es loaded
-          ∙ rw (found-entries.1, store_k_header ws some, store_w_header ws some, ← h.header_k-k.ensures, ← h.header_w-w.ensures)),
-      (r.read.ensures.0 ∙ sym fills.0, r.read.ensures.1 ∙ sym fills.1),
+          ∙ rw (found-entries.1, store_k_header ws some, store_w_header ws some, ← c.header_k-k.ensures, ← c.header_w-w.ensures)),
+      (c.read.ensures.0 ∙ sym fills.0, c.read.ensures.1 ∙ sym fills.1),
     )
 
 pub load_spec : {M : Type 1} → statement M

@@ -3,6 +3,7 @@ use mathlib.Core.Path.{sym, ap, ◌∙◌}
 use mir.Facts.{to_z-of_z}
 use Rattle.list_line.specs.Line.{signed, shown_score}
 use Rattle.list_line.proofs.Buffers.{same_bytes}
+use mir.Syntax.{w32}
 use borrow.Author.Rules.{rules, sfits_of}
 use Rattle.list_line.proofs.writing.put_score.Statement.{statement}
 use Rattle.list_line.proofs.writing.put_score.Tie as tie
@@ -26,10 +27,8 @@ same_length c = search rules
 returns : tie.Need-returns-in-Number
 unfolding shown_score
 returns c =
-    let wrote = c.before.before in
-    let told = wrote in
-    same_bytes (ap signed (to_z-of_z (sfits_of told.in-Number.known_told-1-own.given.0.1)) ∙ sym (ap shown_score told.in-Number.is))
-    wrote.put_signed.ensures
+    same_bytes (ap signed (to_z-of_z {w = w32} (sfits_of c.in-Number.known_told-1-own.given.0.1)) ∙ sym (ap shown_score c.in-Number.is))
+    c.put_signed.ensures
 
 same-length-2 : tie.Need-shape_of-out-in-Fraction
 same-length-2 c = search rules
@@ -37,8 +36,7 @@ same-length-2 c = search rules
 returns-2 : tie.Need-returns-in-Fraction
 unfolding shown_score
 returns-2 c =
-    let wrote = c in
-    same_bytes (sym (ap shown_score wrote.in-Fraction.is)) wrote.put_fraction.ensures
+    same_bytes (sym (ap shown_score c.in-Fraction.is)) c.put_fraction.ensures
 
 pub put_score_spec : {M : Type 1} → statement M
 put_score_spec =

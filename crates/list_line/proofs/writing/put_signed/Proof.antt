@@ -76,7 +76,7 @@ same_length c = search rules
 returns : tie.Need-returns-then-z-ge0
 returns c =
     let at-start = c in
-    same_bytes (digits_are at-start.args.z at-start.fits.z c.if-z-ge0.true)
+    same_bytes (digits_are at-start.args.z at-start.ranges.z c.if-z-ge0.true)
     c.put_decimal.ensures
 
 sub-write-digits : tie.Need-slice_bounds-write_digits-count
@@ -114,18 +114,16 @@ same-length-2 c = search rules
 
 returns-2 : tie.Need-returns
 returns-2 c =
-    let at-digits = write-digits-put-bytes-arg2 c.before.before.before in
-    let at-start = digits in
     same_bytes
     (all_are
-    at-start.args.z
-    at-start.fits.z
-    at-digits.if-z-ge0.false
-    at-digits.write_digits-from.new.digits
-    at-digits.write_digits-from.result
-    at-digits.write_digits-from.auto.digits
-    at-digits.write_digits-from.ensures.0
-    (at-digits.write_digits-from.ensures.1 ∙ ap decimal at-digits.magnitude.ensures))
+    c.args.z
+    c.ranges.z
+    c.if-z-ge0.false
+    c.write_digits-from.new.digits
+    c.write_digits-from.result
+    c.write_digits-from.auto.digits
+    c.write_digits-from.ensures.0
+    (c.write_digits-from.ensures.1 ∙ ap decimal c.magnitude.ensures))
     c.put_bytes.ensures
 
 pub put_signed_spec : {M : Type 1} → statement M

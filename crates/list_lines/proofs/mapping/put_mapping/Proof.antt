@@ -22,101 +22,92 @@ use Rattle.list_lines.proofs.mapping.put_mapping.Tie as tie
 
 -- ---- the ends of the interval
 
-module _ (c : tie.After-end-of) where
-  abbrev ends : tie.After-wide
-  ends = c.before.before
-
-  abbrev start : tie.Start
-  start = ends.before.before.before
-
+module _ (c : tie.After-end_of-end) where
   abbrev from : ℕ
-  from = ends.wide.result
+  from = c.wide-from.result
 
   abbrev to : ℕ
-  to = c.before.wide2.result
+  to = c.wide-to.result
 
-  bounds : 1 ≤ c.end_of_lem.result
+  bounds : 1 ≤ c.end_of-end.result
       → (from ≤ to)
-      × (to < length start.args.positions.now)
+      × (to < length c.args.positions.now)
       × (to - from < text_limit)
-      × (start.args.size ≤ pattern_limit)
-      × (c.end_of_lem.result ≤ word_limit)
-      × (c.end_of_lem.result ≡ get_or start.args.positions.now to 0 + start.args.k)
-  bounds l = c.end_of_lem.ensures.inside (omega arith)
+      × (c.args.size ≤ pattern_limit)
+      × (c.end_of-end.result ≤ word_limit)
+      × (c.end_of-end.result ≡ get_or c.args.positions.now to 0 + c.args.k)
+  bounds l = c.end_of-end.ensures.inside (omega arith)
 
   -- what the line's numbers hold, and what they do not
   abbrev Held : Type 0
-  Held = Holds start.args.positions.now start.args.k start.args.size start.args.mapping.a start.args.mapping.b
+  Held = Holds c.args.positions.now c.args.k c.args.size c.args.mapping.a c.args.mapping.b
 
-  never-held : c.end_of_lem.result < 1 → Held → ⊥
+  never-held : c.end_of-end.result < 1 → Held → ⊥
   never-held =
-      not_held start.args.positions.now start.args.k start.args.size start.args.mapping.a start.args.mapping.b from to
-      c.end_of_lem.result
-      ends.wide.ensures.0 c.before.wide2.ensures.0 c.end_of_lem.ensures
+      not_held c.args.positions.now c.args.k c.args.size c.args.mapping.a c.args.mapping.b from to
+      c.end_of-end.result
+      c.wide-from.ensures.0 c.wide-to.ensures.0 c.end_of-end.ensures
 
-  held-here : 1 ≤ c.end_of_lem.result → Held
+  held-here : 1 ≤ c.end_of-end.result → Held
   held-here =
-      holds_of start.args.positions.now start.args.k start.args.size start.args.mapping.a start.args.mapping.b from to
-      c.end_of_lem.result
-      ends.wide.ensures.0 c.before.wide2.ensures.0 c.end_of_lem.ensures
+      holds_of c.args.positions.now c.args.k c.args.size c.args.mapping.a c.args.mapping.b from to
+      c.end_of-end.result
+      c.wide-from.ensures.0 c.wide-to.ensures.0 c.end_of-end.ensures
 
-  last_letter : Held → c.end_of_lem.result - 1 ≡ get_or start.args.positions.now start.args.mapping.b 0 + start.args.k - 1
+  last_letter : Held → c.end_of-end.result - 1 ≡ get_or c.args.positions.now c.args.mapping.b 0 + c.args.k - 1
   last_letter =
-      last_is start.args.positions.now start.args.k start.args.size start.args.mapping.a start.args.mapping.b from to c.end_of_lem.result
-      ends.wide.ensures.0 c.before.wide2.ensures.0 c.end_of_lem.ensures
+      last_is c.args.positions.now c.args.k c.args.size c.args.mapping.a c.args.mapping.b from to c.end_of-end.result
+      c.wide-from.ensures.0 c.wide-to.ensures.0 c.end_of-end.ensures
 
 -- ---- the answer of per mille
 
-module _ (c : tie.After-per-mille) where
-  abbrev ended : tie.After-end-of
+module _ (c : tie.After-per_mille-thousandths) where
+  abbrev ended : tie.After-end_of-end
   ended = c.before.before
 
-  abbrev mapped : tie.Start
-  mapped = start ended
-
-  per-mille-known : Held ended → mapped.args.mapping.m ≤ length_of mapped.args.mapping.a mapped.args.mapping.b
-      → mapped.args.mapping.m ≤ mapped.args.size
-      → c.per-mille.result
-      ≡ pos (per_mille mapped.args.mapping.m (length_of mapped.args.mapping.a mapped.args.mapping.b) mapped.args.size)
+  per-mille-known : Held ended → c.args.mapping.m ≤ length_of c.args.mapping.a c.args.mapping.b
+      → c.args.mapping.m ≤ c.args.size
+      → c.per_mille-thousandths.result
+      ≡ pos (per_mille c.args.mapping.m (length_of c.args.mapping.a c.args.mapping.b) c.args.size)
   per-mille-known h l s =
-      c.per-mille.ensures
-      ∙ per_mille_is mapped.args.mapping.m mapped.args.mapping.a mapped.args.mapping.b (from ended) (to ended) mapped.args.size
-      (ends ended).wide.ensures.0 ended.before.wide2.ensures.0 h.ordered h.short h.pattern_small l s
+      c.per_mille-thousandths.ensures
+      ∙ per_mille_is c.args.mapping.m c.args.mapping.a c.args.mapping.b (from ended) (to ended) c.args.size
+      c.wide-from.ensures.0 c.wide-to.ensures.0 h.ordered h.short h.pattern_small l s
 
-wide-requires : tie.Need-wide-requires
+wide-requires : tie.Need-wide-from-requires
 wide-requires c κs = search rules
 
-wide-requires-2 : tie.Need-wide-requires-2
+wide-requires-2 : tie.Need-wide-to-requires
 wide-requires-2 c κs = search rules
 
-end-of-requires : tie.Need-end-of-requires
+end-of-requires : tie.Need-end_of-end-requires
 end-of-requires c κs = search rules
 
-returns : tie.Need-returns
+returns : tie.Need-returns-then-end-lt1
 returns c = record {
   inside = λ h. h;
   onward = le_refl _;
   past = λ h. refl;
-  held = λ h l s i. absurd (never-held c.before c.if1.true h);
+  held = λ h l s i. absurd (never-held c.before c.if-end-lt1.true h);
   none = λ e. (refl, refl);
 }
 
-sub-per-mille : tie.Need-overflow-sub-per-mille
-sub-per-mille c = omega (arith, (bounds c.before c.if1.false).0)
+sub-per-mille : tie.Need-overflow_sub-to
+sub-per-mille c = omega (arith, (bounds c.before c.if-end-lt1.false).0)
 
-add-per-mille : tie.Need-overflow-add-per-mille
+add-per-mille : tie.Need-overflow_add-to
 add-per-mille c = search rules
 
-cast-per-mille : tie.Need-overflow-cast-per-mille
-cast-per-mille c = omega (arith, (bounds c.before c.if1.false).2)
+cast-per-mille : tie.Need-overflow_cast-to
+cast-per-mille c = omega (arith, (bounds c.before c.if-end-lt1.false).2)
 
-cast-per-mille-2 : tie.Need-overflow-cast-per-mille-2
-cast-per-mille-2 c = omega (arith, (bounds c.before c.if1.false).3)
+cast-per-mille-2 : tie.Need-overflow_cast-size
+cast-per-mille-2 c = omega (arith, (bounds c.before c.if-end-lt1.false).3)
 
-per-mille-requires : tie.Need-per-mille-requires
+per-mille-requires : tie.Need-per_mille-thousandths-requires
 per-mille-requires c κs = search rules
 
-returns-2 : tie.Need-returns-2
+returns-2 : tie.Need-returns-then-thousandths-lt0
 returns-2 c =
     let p = c.before in
     record {
@@ -124,87 +115,83 @@ returns-2 c =
       onward = le_refl _;
       past = λ h. refl;
       held =
-          λ h l s i. absurd (not_below p.per-mille.result (sfits_of p.per-mille.type-inv) _ (per-mille-known p h l s) c.if2.true);
+          λ h l s i. absurd (not_below p.per_mille-thousandths.result (sfits_of p.per_mille-thousandths.type_inv) _ (per-mille-known p h l s) c.if-thousandths-lt0.true);
       none = λ e. (refl, refl);
     }
 
-mul-first : tie.Need-overflow-mul-first
+mul-first : tie.Need-offset_bounds-positions-from
 mul-first c = search rules
 
 -- the tests that led to a line
-abbrev counted : tie.After-shared-slice-known2 → tie.After-per-mille
+abbrev counted : tie.After-shared_slice_known-2-1 → tie.After-per_mille-thousandths
 counted c = c.before.before
 
-abbrev some : tie.After-shared-slice-known2 → tie.Else1
-some c = (counted c).before
+abbrev some : tie.After-shared_slice_known-2-1 → tie.Else-end-lt1
+some c = c.before.before.before
 
-shared-slice-read-first : tie.Need-shared-slice-read-first
-shared-slice-read-first c = let b = bounds (some c).before (some c).if1.false in omega (arith, b.0, b.1)
+shared-slice-read-first : tie.Need-bounds-positions-from
+shared-slice-read-first c = let b = bounds c.before.before.before.before c.if-end-lt1.false in omega (arith, b.0, b.1)
 
-slice-aggregate-line : tie.Need-slice-aggregate-line
+slice-aggregate-line : tie.Need-slice_bounds-line-end
 slice-aggregate-line c = search rules
 
-cast-line : tie.Need-overflow-cast-line
-cast-line c = let d = some c.before in omega (arith, (bounds d.before d.if1.left).4)
+cast-line : tie.Need-overflow_cast-end
+cast-line c = let d = some c.before in omega (arith, (bounds d.before d.if-end-lt1.false).4)
 
-cast-line-2 : tie.Need-overflow-cast-line-2
+cast-line-2 : tie.Need-overflow_cast-thousandths
 cast-line-2 c =
-    let d = c.before in
-    let p = (counted d).per-mille in
-    cast_fits p.result (sfits_of p.ok) d.before.if2.false
+    let d = c in
+    let p = d.per_mille-thousandths in
+    cast_fits p.result (sfits_of p.type_inv) d.if-thousandths-lt0.false
 
-line-requires : tie.Need-line-requires
+line-requires : tie.Need-line-part-requires
 line-requires c κs = search rules
 
-put-bytes-requires : tie.Need-put-bytes-requires
+put-bytes-requires : tie.Need-put_bytes-requires
 put-bytes-requires c κs = search rules
 
-same_length : tie.Need-same-length
+same_length : tie.Need-shape_of-out
 same_length c = search rules
 
 -- the part that `line` returned holds the mapping's line
-module _ (c : tie.After-line) where
-  abbrev read : tie.After-shared-slice-known2
+module _ (c : tie.After-line-part) where
+  abbrev read : tie.After-shared_slice_known-2-1
   read = c.before.before
 
-  abbrev per : tie.After-per-mille
+  abbrev per : tie.After-per_mille-thousandths
   per = counted read
 
-  abbrev asked : tie.Start
-  asked = mapped per
-
-  line-here : Held (ended per) → asked.args.mapping.m ≤ length_of asked.args.mapping.a asked.args.mapping.b
-      → asked.args.mapping.m ≤ asked.args.size
-      → c.line.result.now
-      ≡ mapping_line asked.args.positions.now asked.args.k asked.args.size asked.args.strand
-      (record { a = asked.args.mapping.a; b = asked.args.mapping.b; score = asked.args.mapping.score; m = asked.args.mapping.m })
+  line-here : Held (ended per) → c.args.mapping.m ≤ length_of c.args.mapping.a c.args.mapping.b
+      → c.args.mapping.m ≤ c.args.size
+      → c.line-part.result.now
+      ≡ mapping_line c.args.positions.now c.args.k c.args.size c.args.strand
+      (record { a = c.args.mapping.a; b = c.args.mapping.b; score = c.args.mapping.score; m = c.args.mapping.m })
   line-here h l s =
-      c.line.ensures
+      c.line-part.ensures
       ∙ line_fits _ _ _ _ _ _
-      ∙ line_is asked.args.positions.now asked.args.k asked.args.size asked.args.strand asked.args.mapping.a
-      asked.args.mapping.b asked.args.mapping.score asked.args.mapping.m _ _ _
-      (ap (λ (j : ℕ). get_or asked.args.positions.now j 0) (ends (ended per)).wide.ensures.0)
+      ∙ line_is c.args.positions.now c.args.k c.args.size c.args.strand c.args.mapping.a
+      c.args.mapping.b c.args.mapping.score c.args.mapping.m _ _ _
+      (ap (λ (j : ℕ). get_or c.args.positions.now j 0) c.wide-from.ensures.0)
       (last_letter (ended per) h)
-      (abs_is per.per-mille.result (sfits_of per.per-mille.ok) _ (per-mille-known per h l s))
+      (abs_is c.per_mille-thousandths.result (sfits_of c.per_mille-thousandths.type_inv) _ (per-mille-known per h l s))
 
   -- where the line is written, its numbers hold the mapping
-  never-unheld : is_held asked.args.positions.now asked.args.k asked.args.size asked.args.mapping.a asked.args.mapping.b
-      asked.args.mapping.m ≡ false
+  never-unheld : is_held c.args.positions.now c.args.k c.args.size c.args.mapping.a c.args.mapping.b
+      c.args.mapping.m ≡ false
       → ⊥
   never-unheld t =
-      let h = held-here (ended per) (some read).if1.left in
-      let s = per_mille_back per.per-mille.result (sfits_of per.per-mille.ok) asked.args.mapping.m asked.args.mapping.a
-      asked.args.mapping.b (from (ended per)) (to (ended per)) asked.args.size (ends (ended per)).wide.ensures.0
-      (ended per).before.wide2.ensures.0
-      h.ordered per.per-mille.ensures read.before.if2.left in
-      false≢true (sym t ∙ held_true asked.args.positions.now asked.args.k asked.args.size asked.args.mapping.a
-      asked.args.mapping.b asked.args.mapping.m h s.0 s.1)
+      let h = held-here (ended per) read.if-end-lt1.false in
+      let s = per_mille_back c.per_mille-thousandths.result (sfits_of c.per_mille-thousandths.type_inv) c.args.mapping.m c.args.mapping.a
+      c.args.mapping.b (from (ended per)) (to (ended per)) c.args.size c.wide-from.ensures.0
+      c.wide-to.ensures.0
+      h.ordered c.per_mille-thousandths.ensures c.if-thousandths-lt0.false in
+      false≢true (sym t ∙ held_true c.args.positions.now c.args.k c.args.size c.args.mapping.a
+      c.args.mapping.b c.args.mapping.m h s.0 s.1)
 
-returns-3 : tie.Need-returns-3
+returns-3 : tie.Need-returns
 returns-3 c =
-    let wrote = c.before.before.before in
-    let made = wrote.before.before.before in
-    let w = wrote.put-bytes.ensures in
+    let made = c.before.before.before.before.before in
+    let w = c.put_bytes.ensures in
     record {
       inside = λ h. written_inside w h;
       onward = written_onward w;
@@ -213,26 +200,7 @@ returns-3 c =
       none = λ t. absurd (never-unheld made t);
     }
 
-pub put-mapping-spec : {M : Type 1} → statement M
-put-mapping-spec =
+pub put_mapping_spec : {M : Type 1} → statement M
+put_mapping_spec =
     tie.close
-    (tie.spec
-    wide-requires
-    wide-requires-2
-    end-of-requires
-    returns
-    sub-per-mille
-    add-per-mille
-    cast-per-mille
-    cast-per-mille-2
-    per-mille-requires
-    returns-2
-    mul-first
-    shared-slice-read-first
-    slice-aggregate-line
-    cast-line
-    cast-line-2
-    line-requires
-    put-bytes-requires
-    same_length
-    returns-3)
+    (tie.spec wide-requires wide-requires-2 end-of-requires returns sub-per-mille add-per-mille cast-per-mille cast-per-mille-2 per-mille-requires returns-2 mul-first shared-slice-read-first slice-aggregate-line cast-line cast-line-2 line-requires put-bytes-requires same_length returns-3)

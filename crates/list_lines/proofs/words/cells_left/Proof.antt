@@ -16,15 +16,6 @@ use Rattle.list_lines.proofs.words.cells_left.Statement.{statement}
 use Rattle.list_lines.proofs.words.cells_left.Tie as tie
 
 -- the places that the proofs below speak of, each from a later one
-abbrev at-shared-slice-known : tie.After-wide → tie.After-shared-slice-known
-at-shared-slice-known c = c.before.before.before
-
-abbrev entry : tie.After-wide → tie.Start
-entry c = (at-shared-slice-known c).before
-
-abbrev at-wide-place : tie.After-wide2 → tie.After-wide
-at-wide-place c = c.before.before.before
-
 module _ (work : List ℕ) where
   short : length work < work_words → 0 ≡ cells_left work
   unfolding cells_left
@@ -61,87 +52,75 @@ module _ (h h' : ℕ) (e : h ≡ h') (few : h ≤ hit_limit) where
   unfolding cell_count
   count-is = let s : h + 1 ≡ suc h = omega arith in ap (λ (n : ℕ). h * n / 2) s ∙ ap (λ (n : ℕ). n * suc n / 2) e
 
-returns : tie.Need-returns
-returns c = short c.before.before.args.work.now c.if1.true
+returns : tie.Need-returns-then-work-lt-WORK_WORDS
+returns c = short c.args.work.now c.if-work-lt-WORK_WORDS.true
 
-shared-slice-read-wide : tie.Need-shared-slice-read-wide
+shared-slice-read-wide : tie.Need-bounds-work-0
 shared-slice-read-wide c = search rules
 
-wide-requires : tie.Need-wide-requires
+wide-requires : tie.Need-wide-h-requires
 wide-requires c κs = search rules
 
-returns-2 : tie.Need-returns-2
+returns-2 : tie.Need-returns-then-h-gt-HIT_LIMIT
 returns-2 c =
-    many (entry c.before).args.work.now c.before.before.before.if1.false
-    (omega (arith, c.before.wide.ensures.0, c.if2.true))
+    many c.args.work.now c.if-work-lt-WORK_WORDS.false
+    (omega (arith, c.wide-h.ensures.0, c.if-h-gt-HIT_LIMIT.true))
 
-add-cells : tie.Need-overflow-add-cells
+add-cells : tie.Need-overflow_add-cells
 add-cells c = search rules
 
-mul-cells : tie.Need-overflow-mul-cells
-mul-cells c = omega (arith, product c.before.wide.result _ c.before.wide.ensures.0 c.if2.false)
+mul-cells : tie.Need-overflow_mul-cells
+mul-cells c = omega (arith, product c.wide-h.result _ c.wide-h.ensures.0 c.if-h-gt-HIT_LIMIT.false)
 
-shared-slice-read-wide-2 : tie.Need-shared-slice-read-wide-2
+shared-slice-read-wide-2 : tie.Need-bounds-work-3
 shared-slice-read-wide-2 c = search rules
 
-wide-requires-2 : tie.Need-wide-requires-2
+wide-requires-2 : tie.Need-wide-passed-requires
 wide-requires-2 c κs = search rules
 
-returns-3 : tie.Need-returns-3
+returns-3 : tie.Need-returns-then-cells-passed
 returns-3 c =
-    let at_wide = at-wide-place c.before in
-    let work = (entry at_wide).args.work.now in
-    let few : get_or work hits_at 0 ≤ hit_limit = omega (arith, at_wide.wide.ensures.0, c.before.before.before.if2.false) in
-    let cells : at_wide.wide.result * (at_wide.wide.result + 1) / 2 ≡ cell_count (get_or work hits_at 0) =
-    count-is at_wide.wide.result (get_or work hits_at 0) at_wide.wide.ensures.0 c.before.before.before.if2.false in
-    let passed : c.before.wide2.result ≡ get_or work passed_at 0 = c.before.wide2.ensures.0 in
-    over work at_wide.before.before.if1.left few (omega (arith, c.if3.true))
+    let at_wide = c in
+    let work = at_wide.args.work.now in
+    let few : get_or work hits_at 0 ≤ hit_limit = omega (arith, at_wide.wide-h.ensures.0, c.if-h-gt-HIT_LIMIT.false) in
+    let cells : at_wide.wide-h.result * (at_wide.wide-h.result + 1) / 2 ≡ cell_count (get_or work hits_at 0) =
+    count-is at_wide.wide-h.result (get_or work hits_at 0) at_wide.wide-h.ensures.0 c.if-h-gt-HIT_LIMIT.false in
+    let passed : c.wide-passed.result ≡ get_or work passed_at 0 = c.wide-passed.ensures.0 in
+    over work at_wide.if-work-lt-WORK_WORDS.false few (omega (arith, c.if-cells-passed.true))
 
-add-result : tie.Need-overflow-add-result
+add-result : tie.Need-overflow_add-result
 add-result c =
-    let at_wide = at-wide-place c.before in
-    let work = (entry at_wide).args.work.now in
-    let few : get_or work hits_at 0 ≤ hit_limit = omega (arith, at_wide.wide.ensures.0, c.before.before.before.if2.false) in
-    let cells : at_wide.wide.result * (at_wide.wide.result + 1) / 2 ≡ cell_count (get_or work hits_at 0) =
-    count-is at_wide.wide.result (get_or work hits_at 0) at_wide.wide.ensures.0 c.before.before.before.if2.false in
-    let passed : c.before.wide2.result ≡ get_or work passed_at 0 = c.before.wide2.ensures.0 in
+    let at_wide = c in
+    let work = at_wide.args.work.now in
+    let few : get_or work hits_at 0 ≤ hit_limit = omega (arith, at_wide.wide-h.ensures.0, c.if-h-gt-HIT_LIMIT.false) in
+    let cells : at_wide.wide-h.result * (at_wide.wide-h.result + 1) / 2 ≡ cell_count (get_or work hits_at 0) =
+    count-is at_wide.wide-h.result (get_or work hits_at 0) at_wide.wide-h.ensures.0 c.if-h-gt-HIT_LIMIT.false in
+    let passed : c.wide-passed.result ≡ get_or work passed_at 0 = c.wide-passed.ensures.0 in
     let most : cell_count (get_or work hits_at 0) ≤ cell_limit = few_cells (get_or work hits_at 0) few in omega arith
 
-cast-result : tie.Need-overflow-cast-result
+cast-result : tie.Need-overflow_cast-result
 cast-result c =
-    let at_wide = at-wide-place c.before in
-    let work = (entry at_wide).args.work.now in
-    let few : get_or work hits_at 0 ≤ hit_limit = omega (arith, at_wide.wide.ensures.0, c.before.before.before.if2.false) in
-    let cells : at_wide.wide.result * (at_wide.wide.result + 1) / 2 ≡ cell_count (get_or work hits_at 0) =
-    count-is at_wide.wide.result (get_or work hits_at 0) at_wide.wide.ensures.0 c.before.before.before.if2.false in
-    let passed : c.before.wide2.result ≡ get_or work passed_at 0 = c.before.wide2.ensures.0 in
+    let at_wide = c in
+    let work = at_wide.args.work.now in
+    let few : get_or work hits_at 0 ≤ hit_limit = omega (arith, at_wide.wide-h.ensures.0, c.if-h-gt-HIT_LIMIT.false) in
+    let cells : at_wide.wide-h.result * (at_wide.wide-h.result + 1) / 2 ≡ cell_count (get_or work hits_at 0) =
+    count-is at_wide.wide-h.result (get_or work hits_at 0) at_wide.wide-h.ensures.0 c.if-h-gt-HIT_LIMIT.false in
+    let passed : c.wide-passed.result ≡ get_or work passed_at 0 = c.wide-passed.ensures.0 in
     let most : cell_count (get_or work hits_at 0) ≤ cell_limit = few_cells (get_or work hits_at 0) few in omega arith
 
-returns-4 : tie.Need-returns-4
+returns-4 : tie.Need-returns
 returns-4 c =
-    let at_wide = at-wide-place c.before in
-    let work = (entry at_wide).args.work.now in
-    let few : get_or work hits_at 0 ≤ hit_limit = omega (arith, at_wide.wide.ensures.0, c.before.before.before.if2.false) in
-    let cells : at_wide.wide.result * (at_wide.wide.result + 1) / 2 ≡ cell_count (get_or work hits_at 0) =
-    count-is at_wide.wide.result (get_or work hits_at 0) at_wide.wide.ensures.0 c.before.before.before.if2.false in
-    let passed : c.before.wide2.result ≡ get_or work passed_at 0 = c.before.wide2.ensures.0 in
-    (let n : at_wide.wide.result * (at_wide.wide.result + 1) / 2 - c.before.wide2.result + 1
+    let at_wide = c in
+    let work = at_wide.args.work.now in
+    let few : get_or work hits_at 0 ≤ hit_limit = omega (arith, at_wide.wide-h.ensures.0, c.if-h-gt-HIT_LIMIT.false) in
+    let cells : at_wide.wide-h.result * (at_wide.wide-h.result + 1) / 2 ≡ cell_count (get_or work hits_at 0) =
+    count-is at_wide.wide-h.result (get_or work hits_at 0) at_wide.wide-h.ensures.0 c.if-h-gt-HIT_LIMIT.false in
+    let passed : c.wide-passed.result ≡ get_or work passed_at 0 = c.wide-passed.ensures.0 in
+    (let n : at_wide.wide-h.result * (at_wide.wide-h.result + 1) / 2 - c.wide-passed.result + 1
     ≡ suc (cell_count (get_or work hits_at 0) - get_or work passed_at 0) = omega arith in n)
-    ∙ some work at_wide.before.before.if1.left few (omega (arith, c.if3.false))
+    ∙ some work at_wide.if-work-lt-WORK_WORDS.false few (omega (arith, c.if-cells-passed.false))
 
-pub cells-left-spec : {M : Type 1} → statement M
-cells-left-spec =
+pub cells_left_spec : {M : Type 1} → statement M
+cells_left_spec =
     tie.close
-    (tie.spec
-    returns
-    shared-slice-read-wide
-    wide-requires
-    returns-2
-    add-cells
-    mul-cells
-    shared-slice-read-wide-2
-    wide-requires-2
-    returns-3
-    add-result
-    cast-result
-    returns-4)
+    (tie.spec returns shared-slice-read-wide wide-requires returns-2 add-cells mul-cells shared-slice-read-wide-2 wide-requires-2 returns-3 add-result cast-result returns-4)

@@ -11,5 +11,5 @@ returns : tie.Need-returns
 unfolding zeros
 returns c = (sym (length-replicate {A = ℕ} line_limit 0), refl)
 
-pub line-zeros-spec : {M : Type 1} → statement M
-line-zeros-spec = tie.close (tie.spec returns)
+pub line_zeros_spec : {M : Type 1} → statement M
+line_zeros_spec = tie.close (tie.spec returns)

@@ -14,87 +14,75 @@ use Rattle.mapper.proofs.Deciding.{decided_spent}
 use Rattle.mapper.proofs.decide.decided.Statement.{statement}
 use Rattle.mapper.proofs.decide.decided.Tie as tie
 
-is-scorable-requires : tie.Need-is-scorable-requires
+is-scorable-requires : tie.Need-is_scorable-requires
 is-scorable-requires c κs = search rules
 
-returns : tie.Need-returns
+returns : tie.Need-returns-then-not-is_scorable
 unfolding decides
 returns c =
-    let args = c.before.before.args in
+    let args = c.args in
     let no : is_scorable args.terms args.a args.b args.m ≡ false =
-    sym c.before.is-scorable.ensures ∙ not-true c.before.is-scorable.result c.if1.true in
+    sym c.is_scorable.ensures ∙ not-true c.is_scorable.result c.if-not-is_scorable.true-raw in
     sym (decided_spent args.terms args.a args.b args.m args.cells (rw no))
 
 -- `is_scorable` has said so
-module _ (scorable : tie.Else1) where
-  abbrev entry : tie.Start
-  entry = scorable.before.before
-
-  yes : is_scorable entry.args.terms entry.args.a entry.args.b entry.args.m ≡ true
-  yes = sym scorable.before.is-scorable.ensures ∙ not-false scorable.before.is-scorable.result scorable.if1.left
+module _ (scorable : tie.Else-not-is_scorable) where
+  yes : is_scorable scorable.args.terms scorable.args.a scorable.args.b scorable.args.m ≡ true
+  yes = sym scorable.is_scorable.ensures ∙ not-false scorable.is_scorable.result scorable.if-not-is_scorable.false-raw
 
   -- the same of the scoring as the match has it
-  of-scoring : (scoring : Scoring) → entry.args.terms.scoring ≡ scoring
-      → is_scorable (record { scoring = scoring; size = entry.args.terms.size }) entry.args.a entry.args.b entry.args.m ≡ true
+  of-scoring : (scoring : Scoring) → scorable.args.terms.scoring ≡ scoring
+      → is_scorable (record { scoring = scoring; size = scorable.args.terms.size }) scorable.args.a scorable.args.b scorable.args.m ≡ true
   of-scoring scoring e =
-      let args = entry.args in
+      let args = scorable.args in
       ap (λ (s : Scoring). is_scorable (record { scoring = s; size = args.terms.size }) args.a args.b args.m) (sym e) ∙ yes
 
-  same_answer : (scoring : Scoring) → entry.args.terms.scoring ≡ scoring
-      → decided (record { scoring = scoring; size = entry.args.terms.size }) entry.args.a entry.args.b entry.args.m entry.args.cells
-      ≡ decided entry.args.terms entry.args.a entry.args.b entry.args.m entry.args.cells
+  same_answer : (scoring : Scoring) → scorable.args.terms.scoring ≡ scoring
+      → decided (record { scoring = scoring; size = scorable.args.terms.size }) scorable.args.a scorable.args.b scorable.args.m scorable.args.cells
+      ≡ decided scorable.args.terms scorable.args.a scorable.args.b scorable.args.m scorable.args.cells
   same_answer scoring e =
-      let args = entry.args in
+      let args = scorable.args in
       ap (λ (s : Scoring). decided (record { scoring = s; size = args.terms.size }) args.a args.b args.m args.cells) (sym e)
 
-enum-known-scoring : tie.Need-enum-known-scoring
+enum-known-scoring : tie.Need-enum_known-scoring
 enum-known-scoring c = search rules
 
 -- where the scoring is known to be linear, and its threshold to be a signed number
-module _ (told : tie.After-known-told) where
-  abbrev linear : tie.After-scoring
-  linear = told.before
+module _ (told : tie.In-Linear) where
+  abbrev linear : tie.In-Linear
+  linear = told
 
   abbrev threshold : ℤ
-  threshold = linear.scoring.given.0.1.1.0
+  threshold = told.in-Linear.threshold
 
   threshold-read : to_z w32 (of_z w32 threshold) ≡ threshold
-  threshold-read = to_z-of_z {w = w32} (sfits_of told.known-told.given.1.1.0.1)
+  threshold-read = to_z-of_z {w = w32} (sfits_of told.in-Linear.known_told-1-own.given.1.1.0.1)
 
-  abbrev scorable : tie.Else1
-  scorable = linear.before.before
+  abbrev scorable : tie.Else-not-is_scorable
+  scorable = linear.before
 
   -- the scoring as the call has it
-  known : (entry scorable).args.terms.scoring
-      ≡ Linear linear.scoring.given.0.0 linear.scoring.given.0.1.0 (to_z w32 (of_z w32 threshold))
-  known = linear.scoring.given.1 ∙ ap (Linear linear.scoring.given.0.0 linear.scoring.given.0.1.0) (sym threshold-read)
+  known : told.args.terms.scoring
+      ≡ Linear told.in-Linear.u told.in-Linear.v (to_z w32 (of_z w32 threshold))
+  known = told.in-Linear.is ∙ ap (Linear told.in-Linear.u told.in-Linear.v) (sym threshold-read)
 
-decided-linear-requires : tie.Need-decided-linear-requires
+decided-linear-requires : tie.Need-decided_linear-requires
 decided-linear-requires c κs = of-scoring (scorable c) _ (known c)
 
-enum-known-scoring-2 : tie.Need-enum-known-scoring-2
+enum-known-scoring-2 : tie.Need-enum_known-scoring-in-Jaccard-1
 enum-known-scoring-2 c = search rules
 
-decided-jaccard-requires : tie.Need-decided-jaccard-requires
-decided-jaccard-requires c κs = let fraction = c.before in of-scoring fraction.before.before _ fraction.scoring2.given.1
+decided-jaccard-requires : tie.Need-decided_jaccard-requires
+decided-jaccard-requires c κs = of-scoring c.before _ c.in-Jaccard.is
 
-returns-2 : tie.Need-returns-2
-returns-2 c = c.decided-linear.ensures ∙ same_answer (scorable c.before) _ (known c.before)
+returns-2 : tie.Need-returns-in-Linear
+returns-2 c = c.decided_linear.ensures ∙ same_answer (scorable c.before) _ (known c.before)
 
-returns-3 : tie.Need-returns-3
+returns-3 : tie.Need-returns-in-Jaccard
 returns-3 c =
-    let fraction = c.before.before in
-    c.decided-jaccard.ensures ∙ same_answer fraction.before.before _ fraction.scoring2.given.1
+    c.decided_jaccard.ensures ∙ same_answer c.before.before _ c.in-Jaccard.is
 
-pub decided-spec : {M : Type 1} → statement M
-decided-spec =
+pub decided_spec : {M : Type 1} → statement M
+decided_spec =
     tie.close
-    (tie.spec
-    is-scorable-requires
-    returns
-    enum-known-scoring
-    decided-linear-requires
-    enum-known-scoring-2
-    decided-jaccard-requires
-    returns-2
-    returns-3)
+    (tie.spec is-scorable-requires returns enum-known-scoring decided-linear-requires enum-known-scoring-2 decided-jaccard-requires returns-2 returns-3)

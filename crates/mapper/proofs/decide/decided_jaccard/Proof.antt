@@ -29,7 +29,7 @@ module _ (entry : tie.Start) where
   terms = record { scoring = Jaccard entry.args.f entry.args.g; size = entry.args.size }
 
   counts : Scorable terms entry.args.a entry.args.b entry.args.m
-  counts = scorable_says terms _ _ _ entry.pre
+  counts = scorable_says terms _ _ _ entry.requires
 
   small : (entry.args.f ≤ divisor_limit) × (entry.args.g ≤ divisor_limit)
   small = both_say entry.args.f entry.args.g divisor_limit counts.small
@@ -45,53 +45,45 @@ module _ (entry : tie.Start) where
   -- the cross products alone are left to decide
   last : decides terms entry.args.a entry.args.b entry.args.m ≡ leb (entry.args.f * computed) (entry.args.m * entry.args.g)
   unfolding decides candidate_score
-  last = rw (entry.pre, divisor_is)
+  last = rw (entry.requires, divisor_is)
 
-sub-divisor : tie.Need-overflow-sub-divisor
+sub-divisor : tie.Need-overflow_sub-divisor
 sub-divisor c = (counts c).ordered
 
-add-divisor : tie.Need-overflow-add-divisor
+add-divisor : tie.Need-overflow_add-divisor
 add-divisor c = omega (arith, (counts c).short)
 
-add-divisor-2 : tie.Need-overflow-add-divisor-2
+add-divisor-2 : tie.Need-overflow_add-divisor-2
 add-divisor-2 c = omega (arith, (counts c).short, (counts c).short_pattern)
 
-sub-divisor-2 : tie.Need-overflow-sub-divisor-2
+sub-divisor-2 : tie.Need-overflow_sub-divisor-2
 sub-divisor-2 c = omega (arith, (counts c).at_most_size)
 
-mul-if1 : tie.Need-overflow-mul-if1
+mul-if1 : tie.Need-overflow_mul-f
 mul-if1 c = product _ _ (omega (arith, (small c).0, (small c).1)) (omega (arith, (counts c).short, (counts c).short_pattern))
 
-mul-if1-2 : tie.Need-overflow-mul-if1-2
+mul-if1-2 : tie.Need-overflow_mul-m
 mul-if1-2 c =
     rw (mul_comm _ _) (product _ _ (omega (arith, (small c).0, (small c).1)) (omega (arith, (counts c).at_most_size, (counts c).short_pattern)))
 
 -- below the threshold
-returns-2 : tie.Need-returns-2
+returns-2 : tie.Need-returns
 returns-2 c =
     let entry = c.before in
     let args = entry.args in
-    let low : args.m * args.g < args.f * computed entry = omega (arith, c.if1.false) in
+    let low : args.m * args.g < args.f * computed entry = omega (arith, c.if-f-divisor.false) in
     sym (decided_spent (terms entry) _ _ _ _ (last entry ∙ lt-leb (args.f * computed entry) (args.m * args.g) low))
 
 -- not below it
-returns : tie.Need-returns
+returns : tie.Need-returns-then-f-divisor
 unfolding candidate_score
 returns c =
     let entry = c.before in
     let args = entry.args in
     ap (λ (d : ℕ). Found args.a args.b (Fraction args.m d) args.m args.cells) (divisor_is entry)
-    ∙ sym (decided_found (terms entry) _ _ _ _ (last entry ∙ le-leb (args.f * computed entry) (args.m * args.g) (omega (arith, c.if1.true))))
+    ∙ sym (decided_found (terms entry) _ _ _ _ (last entry ∙ le-leb (args.f * computed entry) (args.m * args.g) (omega (arith, c.if-f-divisor.true))))
 
-pub decided-jaccard-spec : {M : Type 1} → statement M
-decided-jaccard-spec =
+pub decided_jaccard_spec : {M : Type 1} → statement M
+decided_jaccard_spec =
     tie.close
-    (tie.spec
-    sub-divisor
-    add-divisor
-    add-divisor-2
-    sub-divisor-2
-    mul-if1
-    mul-if1-2
-    returns
-    returns-2)
+    (tie.spec sub-divisor add-divisor add-divisor-2 sub-divisor-2 mul-if1 mul-if1-2 returns returns-2)

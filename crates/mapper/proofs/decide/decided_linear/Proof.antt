@@ -25,7 +25,7 @@ module _ (entry : tie.Start) where
   terms = record { scoring = Linear entry.args.u entry.args.v entry.args.threshold; size = entry.args.size }
 
   counts : Scorable terms entry.args.a entry.args.b entry.args.m
-  counts = scorable_says terms _ _ _ entry.pre
+  counts = scorable_says terms _ _ _ entry.requires
 
   abbrev score : ℤ
   score = linear entry.args.u entry.args.v entry.args.size entry.args.m (length_of entry.args.a entry.args.b)
@@ -33,15 +33,15 @@ module _ (entry : tie.Start) where
   -- the score alone is left to decide
   last : decides terms entry.args.a entry.args.b entry.args.m ≡ le_z entry.args.threshold score
   unfolding decides candidate_score
-  last = rw entry.pre
+  last = rw entry.requires
 
-sub-score : tie.Need-overflow-sub-score
+sub-score : tie.Need-overflow_sub-b
 sub-score c = (counts c).ordered
 
-add-score : tie.Need-overflow-add-score
+add-score : tie.Need-overflow_add-b
 add-score c = omega (arith, (counts c).short)
 
-score-requires : tie.Need-score-requires
+score-requires : tie.Need-score-score-requires
 unfolding length_of
 score-requires c κs =
     let s = counts c in
@@ -49,32 +49,32 @@ score-requires c κs =
     (weights.0, weights.1, s.short_pattern, omega (arith, s.short), s.at_most_size, omega (arith, s.at_most_len, s.ordered))
 
 -- the score as a signed number
-score-read : (c : tie.After-score) → to_z w32 (of_z w32 c.score.result) ≡ score c.before
+score-read : (c : tie.After-score-score) → to_z w32 (of_z w32 c.score-score.result) ≡ score c.before
 unfolding length_of
 score-read c =
-    let args = c.before.args in
+    let args = c.args in
     let len : args.b - args.a + 1 ≡ length_of args.a args.b = omega (arith, (counts c.before).ordered) in
-    to_z-of_z {w = w32} (sfits_of c.score.type-inv) ∙ c.score.ensures ∙ ap (linear args.u args.v args.size args.m) len
+    to_z-of_z {w = w32} (sfits_of c.score-score.type_inv) ∙ c.score-score.ensures ∙ ap (linear args.u args.v args.size args.m) len
 
 threshold-read : (entry : tie.Start) → to_z w32 (of_z w32 entry.args.threshold) ≡ entry.args.threshold
 threshold-read entry = to_z-of_z {w = w32} entry.ranges.threshold
 
 -- below the threshold
-returns-2 : tie.Need-returns-2
+returns-2 : tie.Need-returns
 returns-2 c =
     let entry = c.before.before in
-    let low : le_z entry.args.threshold (score entry) ≡ false = rw (threshold-read entry, score-read c.before) at c.if1.false in
+    let low : le_z entry.args.threshold (score entry) ≡ false = rw (threshold-read entry, score-read c.before) at c.if-threshold-score.false in
     sym (decided_spent (terms entry) _ _ _ _ (last entry ∙ low))
 
 -- not below it
-returns : tie.Need-returns
+returns : tie.Need-returns-then-threshold-score
 unfolding candidate_score
 returns c =
     let entry = c.before.before in
     let args = entry.args in
-    let enough : le_z args.threshold (score entry) ≡ true = rw (threshold-read entry, score-read c.before) at c.if1.true in
+    let enough : le_z args.threshold (score entry) ≡ true = rw (threshold-read entry, score-read c.before) at c.if-threshold-score.true in
     ap (λ (z : ℤ). Found args.a args.b (Number z) args.m args.cells) (score-read c.before)
     ∙ sym (decided_found (terms entry) _ _ _ _ (last entry ∙ enough))
 
-pub decided-linear-spec : {M : Type 1} → statement M
-decided-linear-spec = tie.close (tie.spec sub-score add-score score-requires returns returns-2)
+pub decided_linear_spec : {M : Type 1} → statement M
+decided_linear_spec = tie.close (tie.spec sub-score add-score score-requires returns returns-2)

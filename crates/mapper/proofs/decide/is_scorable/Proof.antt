@@ -12,71 +12,67 @@ use Rattle.mapper.proofs.Deciding.{last_test}
 use Rattle.mapper.proofs.decide.is_scorable.Statement.{statement}
 use Rattle.mapper.proofs.decide.is_scorable.Tie as tie
 
--- where the scoring is known to be small, and the entry of the function
-abbrev entry : tie.Else1 → tie.Start
-entry c = c.before.before
-
-small : (c : tie.Else1) → is_small (entry c).args.terms.scoring ≡ true
-small c = sym c.before.is-small.ensures ∙ not-false c.before.is-small.result c.if1.false
+small : (c : tie.Else-not-is_small) → is_small c.args.terms.scoring ≡ true
+small c = sym c.is_small.ensures ∙ not-false c.is_small.result c.if-not-is_small.false-raw
 
 -- the places behind the later tests, back to the first
-abbrev first : tie.Else2 → tie.Else1
+abbrev first : tie.Else-terms → tie.Else-not-is_small
 first c = c.before.before
 
-abbrev second : tie.Else4 → tie.Else2
+abbrev second : tie.Else-b-a-2 → tie.Else-terms
 second c = c.before.before
 
-is-small-requires : tie.Need-is-small-requires
+is-small-requires : tie.Need-is_small-requires
 is-small-requires c κs = search rules
 
-returns : tie.Need-returns
+returns : tie.Need-returns-then-not-is_small
 unfolding is_scorable
-returns c = simp (sym c.before.is-small.ensures ∙ not-true c.before.is-small.result c.if1.true)
+returns c = simp (sym c.is_small.ensures ∙ not-true c.is_small.result c.if-not-is_small.true-raw)
 
-returns-2 : tie.Need-returns-2
+returns-2 : tie.Need-returns-then-terms
 unfolding is_scorable
-returns-2 c = simp (small c.before.before, lt-leb _ _ c.if2.true)
+returns-2 c = simp (small c.before.before, lt-leb _ _ c.if-terms.true)
 
-returns-3 : tie.Need-returns-3
+returns-3 : tie.Need-returns-then-b-a
 unfolding is_scorable
 returns-3 c =
     let d = c.before in
-    simp (small (first d), le-leb _ _ d.if2.false, lt-leb _ _ c.if3.true)
+    simp (small (first d), le-leb _ _ d.if-terms.false, lt-leb _ _ c.if-b-a.true)
 
-returns-4 : tie.Need-returns-4
+returns-4 : tie.Need-returns-then-b-a-2
 unfolding is_scorable
 returns-4 c =
     let d = c.before.before in
-    simp (small (first d), le-leb _ _ d.if2.false, le-leb _ _ c.before.if3.false, le-ltb _ _ c.if4.true)
+    simp (small (first d), le-leb _ _ d.if-terms.false, le-leb _ _ c.if-b-a.false, le-ltb _ _ c.if-b-a-2.true)
 
-returns-5 : tie.Need-returns-5
+returns-5 : tie.Need-returns-then-terms-m
 unfolding is_scorable
 returns-5 c =
     let e = c.before.before in
     let d = second e in
     simp (
       small (first d),
-      le-leb _ _ d.if2.left,
-      le-leb _ _ e.before.if3.false,
-      lt-ltb _ _ e.if4.false,
-      lt-leb _ _ c.if5.true,
+      le-leb _ _ d.if-terms.false,
+      le-leb _ _ e.if-b-a.false,
+      lt-ltb _ _ e.if-b-a-2.false,
+      lt-leb _ _ c.if-terms-m.true,
     )
 
-add-result : tie.Need-overflow-add-result
+add-result : tie.Need-overflow_add-result
 add-result c = search rules
 
-returns-6 : tie.Need-returns-6
+returns-6 : tie.Need-returns
 unfolding length_of
 returns-6 c =
     let e = c.before.before in
     let d = second e in
-    let args = (entry (first d)).args in
-    let len : args.b - args.a + 1 ≡ length_of args.a args.b = omega (arith, e.before.if3.false) in
+    let args = d.args in
+    let len : args.b - args.a + 1 ≡ length_of args.a args.b = omega (arith, e.if-b-a.false) in
     ap (leb args.m) len
-    ∙ sym (last_test _ _ _ _ (small (first d)) d.if2.left e.before.if3.false e.if4.false c.if5.false)
+    ∙ sym (last_test _ _ _ _ (small (first d)) d.if-terms.false e.if-b-a.false e.if-b-a-2.false c.if-terms-m.false)
 
-pub is-scorable-spec : {M : Type 1} → statement M
-is-scorable-spec =
+pub is_scorable_spec : {M : Type 1} → statement M
+is_scorable_spec =
     tie.close
     (tie.spec
     is-small-requires

@@ -8,68 +8,49 @@ use Rattle.mapper.specs.Walking.{middle, with_middle, starts_length, left_words}
 use Rattle.mapper.proofs.place.leave_column.Statement.{statement}
 use Rattle.mapper.proofs.place.leave_column.Tie as tie
 
--- where back is read, and the entry of the function
-abbrev read : tie.After-leave → tie.After-wide
-read c = c.before.before
-
-abbrev entry : tie.After-leave → tie.Start
-entry c = (read c).before.before.before
-
-add_wide : tie.Need-overflow-add-wide
+add_wide : tie.Need-overflow_add-columns
 add_wide c = search rules
 
-sub_wide : tie.Need-overflow-sub-wide
+sub_wide : tie.Need-overflow_sub-columns
 sub_wide c = search rules
 
-mul_wide : tie.Need-overflow-mul-wide
+mul_wide : tie.Need-offset_bounds-work-columns
 mul_wide c = search rules
 
-slice-read-wide : tie.Need-slice-read-wide
+slice-read-wide : tie.Need-bounds-work-columns
 slice-read-wide c = search rules
 
-wide-requires : tie.Need-wide-requires
+wide-requires : tie.Need-wide-back-requires
 wide-requires c κs = search rules
 
-sub-leave : tie.Need-overflow-sub-leave
+sub-leave : tie.Need-slice_bounds-leave-count
 sub-leave c = search rules
 
-part-leave-start : tie.Need-slice-bounds-leave-start
+part-leave-start : tie.Need-slice_bounds-leave-start
 part-leave-start c = search rules
 
-part-leave-end : tie.Need-slice-bounds-leave-end
+part-leave-end : tie.Need-slice_bounds-leave-end
 part-leave-end c = search rules
 
-sub-leave-2 : tie.Need-overflow-sub-leave-2
+sub-leave-2 : tie.Need-overflow_sub-columns-2
 sub-leave-2 c = search rules
 
 leave-requires : tie.Need-leave-requires
 leave-requires c κs = search rules
 
-same_length : tie.Need-same-length
+same_length : tie.Need-shape_of-work
 same_length c = search rules
 
 returns : tie.Need-returns
 unfolding left_words with_middle middle
 returns c =
-    let left = c.before.before in
-    let args = (entry left).args in
+    let left = c in
+    let args = left.args in
     let work = args.work.now in
     ap (with_middle starts_from starts_length work)
-    (left.leave.ensures ∙ ap (λ (n : ℕ). left_starts n (args.columns - 1) 0 (middle starts_from starts_length work)) (read left).wide.ensures.0)
+    (left.leave.ensures ∙ ap (λ (n : ℕ). left_starts n (args.columns - 1) 0 (middle starts_from starts_length work)) left.wide-back.ensures.0)
 
-pub leave-column-spec : {M : Type 1} → statement M
-leave-column-spec =
+pub leave_column_spec : {M : Type 1} → statement M
+leave_column_spec =
     tie.close
-    (tie.spec
-    add_wide
-    sub_wide
-    mul_wide
-    slice-read-wide
-    wide-requires
-    sub-leave
-    part-leave-start
-    part-leave-end
-    sub-leave-2
-    leave-requires
-    same_length
-    returns)
+    (tie.spec add_wide sub_wide mul_wide slice-read-wide wide-requires sub-leave part-leave-start part-leave-end sub-leave-2 leave-requires same_length returns)

@@ -8,13 +8,13 @@ use Rattle.mapper.proofs.session.bad_fraction.Tie as tie
 outside-requires : tie.Need-outside-requires
 outside-requires c κs = search rules
 
-returns : tie.Need-returns
+returns : tie.Need-returns-then-outside
 unfolding bad_fraction
-returns c = simp (c.if1.true, sym c.before.outside.ensures ∙ c.if1.true)
+returns c = simp (c.if-outside.true, sym c.outside.ensures ∙ c.if-outside.true)
 
-returns-2 : tie.Need-returns-2
+returns-2 : tie.Need-returns-else-outside
 unfolding bad_fraction
-returns-2 c = simp (sym c.before.outside.ensures ∙ c.if1.false)
+returns-2 c = simp (sym c.outside.ensures ∙ c.if-outside.false)
 
-pub bad-fraction-spec : {M : Type 1} → statement M
-bad-fraction-spec = tie.close (tie.spec outside-requires returns returns-2)
+pub bad_fraction_spec : {M : Type 1} → statement M
+bad_fraction_spec = tie.close (tie.spec outside-requires returns returns-2)

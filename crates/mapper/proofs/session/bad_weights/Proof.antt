@@ -8,16 +8,16 @@ use Rattle.mapper.proofs.session.bad_weights.Tie as tie
 outside-requires : tie.Need-outside-requires
 outside-requires c κs = search rules
 
-outside-requires-2 : tie.Need-outside-requires-2
+outside-requires-2 : tie.Need-outside-requires-else-outside
 outside-requires-2 c κs = search rules
 
-returns : tie.Need-returns
+returns : tie.Need-returns-then-outside
 unfolding bad_weights
-returns c = simp (c.if1.true, sym c.before.outside.ensures ∙ c.if1.true)
+returns c = simp (c.if-outside.true, sym c.outside.ensures ∙ c.if-outside.true)
 
-returns-2 : tie.Need-returns-2
+returns-2 : tie.Need-returns-else-outside
 unfolding bad_weights
-returns-2 c = simp (c.outside2.ensures, sym c.before.before.outside.ensures ∙ c.before.if1.false)
+returns-2 c = simp (c.outside-else-outside.ensures, sym c.outside.ensures ∙ c.if-outside.false)
 
-pub bad-weights-spec : {M : Type 1} → statement M
-bad-weights-spec = tie.close (tie.spec outside-requires outside-requires-2 returns returns-2)
+pub bad_weights_spec : {M : Type 1} → statement M
+bad_weights_spec = tie.close (tie.spec outside-requires outside-requires-2 returns returns-2)

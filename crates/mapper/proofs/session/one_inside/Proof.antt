@@ -4,14 +4,14 @@ use borrow.Author.Rules.{rules}
 use Rattle.mapper.proofs.session.one_inside.Statement.{statement}
 use Rattle.mapper.proofs.session.one_inside.Tie as tie
 
-add-if1 : tie.Need-overflow-add-if1
+add-if1 : tie.Need-overflow_add-row
 add-if1 c = search rules
 
-returns : tie.Need-returns
-returns c = simp (le-ltb _ _ c.if1.true)
+returns : tie.Need-returns-then-columns-row
+returns c = simp (le-ltb _ _ c.if-columns-row.true)
 
-returns-2 : tie.Need-returns-2
-returns-2 c = simp (lt-ltb _ _ c.if1.false)
+returns-2 : tie.Need-returns
+returns-2 c = simp (lt-ltb _ _ c.if-columns-row.false)
 
-pub one-inside-spec : {M : Type 1} → statement M
-one-inside-spec = tie.close (tie.spec add-if1 returns returns-2)
+pub one_inside_spec : {M : Type 1} → statement M
+one_inside_spec = tie.close (tie.spec add-if1 returns returns-2)

@@ -20,197 +20,159 @@ use Rattle.mapper.proofs.session.step.Tie as tie
 
 -- ---- the places on the way, each from the next, back to the entry of the function
 
-abbrev enough : tie.After-bad-words → tie.Else1
-enough c = c.before.before
+abbrev enough : tie.After-bad_words → tie.Else-work-lt-WORK_WORDS
+enough c = c.before
 
-abbrev entry : tie.After-bad-words → tie.Start
-entry c = (enough c).before.before
+abbrev good : tie.After-wide → tie.Else-bad_words
+good c = c.before.before.before.before
 
--- the columns left are read, and then h
-abbrev columns : tie.After-wide2 → tie.After-wide
-columns c = c.before.before
+abbrev place : tie.After-one_inside → tie.Else-wide-columns
+place c = c.before.before.before.before.before
 
-abbrev good : tie.After-wide2 → tie.Else2
-good c = (columns c).before.before
+returns : tie.Need-returns-then-work-lt-WORK_WORDS
+returns c = few_promise c.args.work.now c.args.budget c.if-work-lt-WORK_WORDS.true
 
--- the row is read, and the rest of the place
-abbrev row : tie.After-one-inside → tie.After-wide3
-row c = c.before.before.before
-
-abbrev place : tie.After-one-inside → tie.Else3
-place c = (row c).before.before
-
-returns : tie.Need-returns
-returns c = few_promise c.before.before.args.work.now c.before.before.args.budget c.if1.true
-
-bad-words-requires : tie.Need-bad-words-requires
+bad-words-requires : tie.Need-bad_words-requires
 bad-words-requires c κs = search rules
 
-same_length : tie.Need-same-length
+same_length : tie.Need-shape_of-work-then-bad_words
 same_length c = search rules
 
-returns-2 : tie.Need-returns-2
+returns-2 : tie.Need-returns-then-bad_words
 returns-2 c =
-    let d = c.before in
-    bad_promise (entry d).args.work.now (entry d).args.budget (enough d).if1.false (sym d.bad-words.ensures ∙ c.if2.true)
+    let d = c in
+    bad_promise d.args.work.now d.args.budget d.if-work-lt-WORK_WORDS.false (sym d.bad_words.ensures ∙ c.if-bad_words.true)
 
-slice-read-wide : tie.Need-slice-read-wide
+slice-read-wide : tie.Need-bounds-work-7
 slice-read-wide c = search rules
 
-wide-requires : tie.Need-wide-requires
+wide-requires : tie.Need-wide-columns-requires
 wide-requires c κs = search rules
 
-slice-read-wide-2 : tie.Need-slice-read-wide-2
+slice-read-wide-2 : tie.Need-bounds-work-0
 slice-read-wide-2 c = search rules
 
-wide-requires-2 : tie.Need-wide-requires-2
+wide-requires-2 : tie.Need-wide-requires
 wide-requires-2 c κs = search rules
 
-same-length-2 : tie.Need-same-length-2
+same-length-2 : tie.Need-shape_of-work-then-wide-columns
 same-length-2 c = search rules
 
 -- words 0 to 4 are a session's
-not_bad : (e : tie.Else2) → bad_words (entry e.before).args.work.now ≡ false
-not_bad e = sym e.before.bad-words.ensures ∙ e.if2.false
+not_bad : (e : tie.Else-bad_words) → bad_words e.args.work.now ≡ false
+not_bad e = sym e.bad_words.ensures ∙ e.if-bad_words.false
 
-returns-3 : tie.Need-returns-3
+returns-3 : tie.Need-returns-then-wide-columns
 returns-3 c =
     let d = c.before in
     let e = good d in
-    let past : d.wide2.result < (columns d).wide.result = c.if3.true in
-    lost_promise (entry e.before).args.work.now (entry e.before).args.budget (enough e.before).if1.false (not_bad e)
-    (inl (omega (arith, d.wide2.ensures.0, (columns d).wide.ensures.0)))
+    let past : d.wide.result < d.wide-columns.result = c.if-wide-columns.true in
+    lost_promise e.args.work.now e.args.budget e.if-work-lt-WORK_WORDS.false (not_bad e)
+    (inl (omega (arith, d.wide.ensures.0, d.wide-columns.ensures.0)))
 
-slice-read-wide-3 : tie.Need-slice-read-wide-3
+slice-read-wide-3 : tie.Need-bounds-work-8
 slice-read-wide-3 c = search rules
 
-wide-requires-3 : tie.Need-wide-requires-3
+wide-requires-3 : tie.Need-wide-row-requires
 wide-requires-3 c κs = search rules
 
-slice-read-t12 : tie.Need-slice-read-t12
+slice-read-t12 : tie.Need-bounds-work-9
 slice-read-t12 c = search rules
 
-slice-read-t17 : tie.Need-slice-read-t17
+slice-read-t17 : tie.Need-bounds-work-10
 slice-read-t17 c = search rules
 
-one-inside-requires : tie.Need-one-inside-requires
+one-inside-requires : tie.Need-one_inside-requires
 one-inside-requires c κs = search rules
 
 -- ---- what both walks ask and give
 
-module _ (d : tie.After-one-inside) where
-  abbrev hits : tie.After-wide2
+module _ (d : tie.After-one_inside) where
+  abbrev hits : tie.After-wide
   hits = (place d).before
 
-  abbrev start : tie.Start
-  start = entry (good hits).before
-
   abbrev work : List ℕ
-  work = start.args.work.now
+  work = d.args.work.now
 
   within : GoodWords work
   within = good_words work (not_bad (good hits))
 
   -- the place lies in a column
-  columns_within : (columns hits).wide.result ≤ hit_limit
-  columns_within = omega (arith, (place d).if3.left, hits.wide2.ensures.0, within.few_hits)
+  columns_within : hits.wide-columns.result ≤ hit_limit
+  columns_within = omega (arith, d.if-wide-columns.false, d.wide.ensures.0, within.few_hits)
 
   -- what keeps the promise from the place in the words, keeps it from the place as it was read
   read : (walk : ℕ → ℕ → Walk) → (answer : Stepped) (after : List ℕ)
-      → answer ≡ (walk (columns hits).wide.result (row d).wide3.result).answer
-      → after ≡ (walk (columns hits).wide.result (row d).wide3.result).words
-      → StepPromise work start.args.budget (walk (get_or work columns_at 0) (get_or work row_at 0)).answer
+      → answer ≡ (walk hits.wide-columns.result d.wide-row.result).answer
+      → after ≡ (walk hits.wide-columns.result d.wide-row.result).words
+      → StepPromise work d.args.budget (walk (get_or work columns_at 0) (get_or work row_at 0)).answer
       (walk (get_or work columns_at 0) (get_or work row_at 0)).words
-      → StepPromise work start.args.budget answer after
+      → StepPromise work d.args.budget answer after
   read walk answer after a b promise =
-      let same : walk (columns hits).wide.result (row d).wide3.result ≡ walk (get_or work columns_at 0) (get_or work row_at 0) =
-      λ i. walk ((columns hits).wide.ensures.0 i) ((row d).wide3.ensures.0 i) in
-      subst₂ (StepPromise work start.args.budget) (sym (a ∙ ap (λ (w : Walk). w.answer) same)) (sym (b ∙ ap (λ (w : Walk). w.words) same)) promise
+      let same : walk hits.wide-columns.result d.wide-row.result ≡ walk (get_or work columns_at 0) (get_or work row_at 0) =
+      λ i. walk (hits.wide-columns.ensures.0 i) (d.wide-row.ensures.0 i) in
+      subst₂ (StepPromise work d.args.budget) (sym (a ∙ ap (λ (w : Walk). w.answer) same)) (sym (b ∙ ap (λ (w : Walk). w.words) same)) promise
 
 -- the budget is one cell, and its column has a further row
-inside : (e : tie.Then4) → ((start e.before).args.budget ≡ 1) × ((row e.before).wide3.result + 1 < (columns (hits e.before)).wide.result)
+inside : (e : tie.Then-one_inside) → (e.args.budget ≡ 1) × (e.wide-row.result + 1 < (hits e.before).wide-columns.result)
 inside e =
     let d = e.before in
-    one_inside (start d).args.budget (row d).wide3.result (columns (hits d)).wide.result (sym d.one_inside.ensures ∙ e.if4.true)
+    one_inside d.args.budget d.wide-row.result (hits d).wide-columns.result (sym d.one_inside.ensures ∙ e.if-one_inside.true)
 
-walk-one-requires : tie.Need-walk-one-requires
+walk-one-requires : tie.Need-walk_one-requires
 walk-one-requires c κs =
     let d = c.before.before in
-    (((enough (good (hits d)).before).if1.false, columns_within d, (inside c.before).1), (within d).small)
+    (((enough (good (hits d)).before).if-work-lt-WORK_WORDS.false, columns_within d, (inside c.before).1), (within d).small)
 
-same-length-3 : tie.Need-same-length-3
+same-length-3 : tie.Need-shape_of-work-then-one_inside
 same-length-3 c = search rules
 
-returns-4 : tie.Need-returns-4
+returns-4 : tie.Need-returns-then-one_inside
 returns-4 c =
     let w = c.before.before in
     let e = w.before.before in
     let d = e.before in
     let further : get_or (work d) row_at 0 + 1 < get_or (work d) columns_at 0 =
-    omega (arith, (inside e).1, (columns (hits d)).wide.ensures.0, (row d).wide3.ensures.0) in
-    read d (λ n r. one_walk (terms_in (work d)) n r (get_or (work d) m_at 0) (get_or (work d) highest_at 0) (work d)) _ _ w.walk-one.ensures.0
-    w.walk-one.ensures.1
-    (one_promise (work d) (start d).args.budget (enough (good (hits d)).before).if1.false (not_bad (good (hits d))) (inside e).0 further)
+    omega (arith, (inside e).1, (hits d).wide-columns.ensures.0, d.wide-row.ensures.0) in
+    read d (λ n r. one_walk (terms_in (work d)) n r (get_or (work d) m_at 0) (get_or (work d) highest_at 0) (work d)) _ _ w.walk_one.ensures.0
+    w.walk_one.ensures.1
+    (one_promise (work d) d.args.budget (enough (good (hits d)).before).if-work-lt-WORK_WORDS.false (not_bad (good (hits d))) (inside e).0 further)
 
-same-length-4 : tie.Need-same-length-4
+same-length-4 : tie.Need-shape_of-work-then-columns-row
 same-length-4 c = search rules
 
-returns-5 : tie.Need-returns-5
+returns-5 : tie.Need-returns-then-columns-row
 returns-5 c =
     let d = c.before.before in
-    let past : (columns (hits d)).wide.result < (row d).wide3.result = c.if5.true in
-    lost_promise (work d) (start d).args.budget (enough (good (hits d)).before).if1.false (not_bad (good (hits d)))
-    (inr (omega (arith, (columns (hits d)).wide.ensures.0, (row d).wide3.ensures.0)))
+    let past : (hits d).wide-columns.result < d.wide-row.result = c.if-columns-row.true in
+    lost_promise (work d) d.args.budget (enough (good (hits d)).before).if-work-lt-WORK_WORDS.false (not_bad (good (hits d)))
+    (inr (omega (arith, (hits d).wide-columns.ensures.0, d.wide-row.ensures.0)))
 
-wide-requires-4 : tie.Need-wide-requires-4
+wide-requires-4 : tie.Need-wide-requires-2
 wide-requires-4 c κs = search rules
 
 walk-requires : tie.Need-walk-requires
 walk-requires c κs =
     let e = c.before.before in
     let d = e.before.before in
-    (((enough (good (hits d)).before).if1.false, c.wide4.ensures.1, columns_within d, e.if5.false), (within d).small)
+    (((enough (good (hits d)).before).if-work-lt-WORK_WORDS.false, c.wide-2.ensures.1, columns_within d, e.if-columns-row.false), (within d).small)
 
-same-length-5 : tie.Need-same-length-5
+same-length-5 : tie.Need-shape_of-work
 same-length-5 c = search rules
 
-returns-6 : tie.Need-returns-6
+returns-6 : tie.Need-returns
 returns-6 c =
     let w = c.before.before in
     let cells = w.before in
     let e = cells.before.before in
     let d = e.before.before in
-    let budget = (start d).args.budget in
+    let budget = d.args.budget in
     let walk : ℕ → ℕ → ℕ → Walk = λ b n r. walk_on (terms_in (work d)) b n r (get_or (work d) m_at 0) (get_or (work d) highest_at 0) b (work d) in
-    let given = ap (λ (b : ℕ). walk b (columns (hits d)).wide.result (row d).wide3.result) cells.wide4.ensures.0 in
+    let given = ap (λ (b : ℕ). walk b (hits d).wide-columns.result d.wide-row.result) cells.wide-2.ensures.0 in
     read d (walk budget) _ _ (w.walk.ensures.0 ∙ ap (λ (x : Walk). x.answer) given) (w.walk.ensures.1 ∙ ap (λ (x : Walk). x.words) given)
-    (walk_promise (work d) budget (enough (good (hits d)).before).if1.false (not_bad (good (hits d))))
+    (walk_promise (work d) budget (enough (good (hits d)).before).if-work-lt-WORK_WORDS.false (not_bad (good (hits d))))
 
 pub step_spec : {M : Type 1} → statement M
 step_spec =
     tie.close
-    (tie.spec
-    returns
-    bad-words-requires
-    same_length
-    returns-2
-    slice-read-wide
-    wide-requires
-    slice-read-wide-2
-    wide-requires-2
-    same-length-2
-    returns-3
-    slice-read-wide-3
-    wide-requires-3
-    slice-read-t12
-    slice-read-t17
-    one-inside-requires
-    walk-one-requires
-    same-length-3
-    returns-4
-    same-length-4
-    returns-5
-    wide-requires-4
-    walk-requires
-    same-length-5
-    returns-6)
+    (tie.spec returns bad-words-requires same_length returns-2 slice-read-wide wide-requires slice-read-wide-2 wide-requires-2 same-length-2 returns-3 slice-read-wide-3 wide-requires-3 slice-read-t12 slice-read-t17 one-inside-requires walk-one-requires same-length-3 returns-4 same-length-4 returns-5 wide-requires-4 walk-requires same-length-5 returns-6)

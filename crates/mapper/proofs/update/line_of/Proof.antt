@@ -14,81 +14,68 @@ use Rattle.mapper.specs.Walking.{line_of}
 use Rattle.mapper.proofs.update.line_of.Statement.{statement}
 use Rattle.mapper.proofs.update.line_of.Tie as tie
 
--- the calls that widen a word, the rates, and the entry of the function
-abbrev right : tie.After-wider3 → tie.After-wider2
-right c = c.before
-
-abbrev weight : tie.After-wider3 → tie.After-wider
-weight c = (right c).before.before
-
-abbrev rated : tie.After-wider3 → tie.After-rates-of
-rated c = (weight c).before
-
-abbrev entry : tie.After-wider3 → tie.Start
-entry c = (rated c).before.before
-
 -- what is added is the margin, or no more than one less
 lifted : (scoring : Scoring) → margin ≤ lift_of scoring + 1
 lifted (Linear u v threshold) = omega arith
 lifted (Jaccard f g) = omega arith
 
 -- the loss times x + 1 + |p| is below the margin, whatever the words
-weighed : (c : tie.After-wider3) → (weight c).wider.result * ((right c).wider2.result + 1 + c.wider3.result) < margin
+weighed : (c : tie.After-wider-3) → c.wider.result * (c.wider-2.result + 1 + c.wider-3.result) < margin
 weighed c =
-    let most : (weight c).wider.result * ((right c).wider2.result + 1 + c.wider3.result) ≤ weight_limit * (2 * word_limit - 1) =
-    mul-le-mul {n₂ = weight_limit} {m₂ = 2 * word_limit - 1} (omega (arith, (entry c).requires.2, (rated c).rates-of.ensures.1, (weight c).wider.ensures.0))
-    (omega (arith, (right c).wider2.ensures.1, c.wider3.ensures.1))
+    let most : c.wider.result * (c.wider-2.result + 1 + c.wider-3.result) ≤ weight_limit * (2 * word_limit - 1) =
+    mul-le-mul {n₂ = weight_limit} {m₂ = 2 * word_limit - 1} (omega (arith, c.requires.2, c.rates_of-rates.ensures.1, c.wider.ensures.0))
+    (omega (arith, c.wider-2.ensures.1, c.wider-3.ensures.1))
     in
     omega (arith, most)
 
-rates-of-requires : tie.Need-rates-of-requires
+rates-of-requires : tie.Need-rates_of-rates-requires
 rates-of-requires c κs = search rules
 
 wider-requires : tie.Need-wider-requires
 wider-requires c κs = search rules
 
-add-wider : tie.Need-overflow-add-wider
+add-wider : tie.Need-overflow_add-j
 add-wider c = search rules
 
-mul-wider : tie.Need-overflow-mul-wider
+mul-wider : tie.Need-offset_bounds-work-j
 mul-wider c = search rules
 
-shared-slice-read-wider : tie.Need-shared-slice-read-wider
+shared-slice-read-wider : tie.Need-bounds-work-j
 shared-slice-read-wider c = search rules
 
 wider-requires-2 : tie.Need-wider-requires-2
 wider-requires-2 c κs = search rules
 
-add-lost : tie.Need-overflow-add-lost
+add-lost : tie.Need-overflow_add-lost
 add-lost c = search rules
 
 wider-requires-3 : tie.Need-wider-requires-3
 wider-requires-3 c κs = search rules
 
-add-lost-2 : tie.Need-overflow-add-lost-2
+add-lost-2 : tie.Need-overflow_add-lost-2
 add-lost-2 c = search rules
 
-mul-lost : tie.Need-overflow-mul-lost
+mul-lost : tie.Need-overflow_mul-lost
 mul-lost c = omega (arith, weighed c)
 
-cast-t12 : tie.Need-overflow-cast-t12
+cast-t12 : tie.Need-overflow_cast-result
 cast-t12 c = search rules
 
-sub-t7 : tie.Need-overflow-sub-t7
+sub-t7 : tie.Need-overflow_sub-result
 sub-t7 c =
     let w = c.before in
-    omega (arith, weighed w, lifted (entry w).args.terms.scoring, (rated w).rates-of.ensures.2)
+    omega (arith, weighed w, lifted w.args.terms.scoring, w.rates_of-rates.ensures.2)
 
-cast-t16 : tie.Need-overflow-cast-t16
+cast-t16 : tie.Need-overflow_cast-result-2
 cast-t16 c = search rules
 
-add_wide : tie.Need-overflow-add-wide
+add_wide : tie.Need-overflow_add-j-2
 add_wide c = search rules
 
-mul_wide : tie.Need-overflow-mul-wide
+mul_wide : tie.Need-offset_bounds-work-j-2
 mul_wide c = search rules
 
-shared-slice-read-wide : tie.Need-shared-slice-read-wide
+shared-slice-read-wide : tie.Need-bounds-work-j-2
 shared-slice-read-wide c = search rules
 
 wide-requires : tie.Need-wide-requires
@@ -97,12 +84,12 @@ wide-requires c κs = search rules
 returns : tie.Need-returns
 unfolding line_of
 returns c =
-    let w = c.before.before.before in
-    let args = (entry w).args in
-    let rates = (rated w).rates-of.ensures in
-    let lost : (weight w).wider.result * ((right w).wider2.result + 1 + w.wider3.result)
+    let w = c in
+    let args = w.args in
+    let rates = w.rates_of-rates.ensures in
+    let lost : w.wider.result * (w.wider-2.result + 1 + w.wider-3.result)
     ≡ loss_of args.terms.scoring * (get_or args.work.now (index_from + args.j) 0 + 1 + args.terms.size) =
-    λ i. ((weight w).wider.ensures.0 ∙ rates.1) i * ((right w).wider2.ensures.0 i + 1 + w.wider3.ensures.0 i)
+    λ i. (w.wider.ensures.0 ∙ rates.1) i * (w.wider-2.ensures.0 i + 1 + w.wider-3.ensures.0 i)
     in
     λ i. record {
       column = args.j;
@@ -113,25 +100,7 @@ returns c =
       fractions = rates.3 i;
     }
 
-pub line-of-spec : {M : Type 1} → statement M
-line-of-spec =
+pub line_of_spec : {M : Type 1} → statement M
+line_of_spec =
     tie.close
-    (tie.spec
-    rates-of-requires
-    wider-requires
-    add-wider
-    mul-wider
-    shared-slice-read-wider
-    wider-requires-2
-    add-lost
-    wider-requires-3
-    add-lost-2
-    mul-lost
-    cast-t12
-    sub-t7
-    cast-t16
-    add_wide
-    mul_wide
-    shared-slice-read-wide
-    wide-requires
-    returns)
+    (tie.spec rates-of-requires wider-requires add-wider mul-wider shared-slice-read-wider wider-requires-2 add-lost wider-requires-3 add-lost-2 mul-lost cast-t12 sub-t7 cast-t16 add_wide mul_wide shared-slice-read-wide wide-requires returns)

@@ -11,62 +11,49 @@ use Rattle.mapper.proofs.update.rates_of.Statement.{statement}
 use Rattle.mapper.proofs.update.rates_of.Tie as tie
 
 -- where the scoring is known to be linear, with u and v
-module _ (linear : tie.After-scoring) where
-  abbrev entry : tie.Start
-  entry = linear.before.before
-
+module _ (linear : tie.In-Linear) where
   abbrev u : ℕ
-  u = linear.scoring.given.0.0
+  u = linear.in-Linear.u
 
   abbrev v : ℕ
-  v = linear.scoring.given.0.1.0
+  v = linear.in-Linear.v
 
   small : (v ≤ weight_limit) × (u + 2 * v < word_limit)
-  small = subst SmallRates linear.scoring.given.1 entry.pre
+  small = subst SmallRates linear.in-Linear.is linear.requires
 
-enum-known-scoring : tie.Need-enum-known-scoring
+enum-known-scoring : tie.Need-enum_known-scoring
 enum-known-scoring c = search rules
 
-mul-t5 : tie.Need-overflow-mul-t5
-mul-t5 c = omega (arith, (small c.before).0)
+mul-t5 : tie.Need-overflow_mul-result
+mul-t5 c = omega (arith, (small c).0)
 
-add-t6 : tie.Need-overflow-add-t6
-add-t6 c = omega (arith, (small c.before).1)
+add-t6 : tie.Need-overflow_add-result
+add-t6 c = omega (arith, (small c).1)
 
-cast-t7 : tie.Need-overflow-cast-t7
+cast-t7 : tie.Need-overflow_cast-result
 cast-t7 c = search rules
 
-add-t8 : tie.Need-overflow-add-t8
+add-t8 : tie.Need-overflow_add-result-in-Linear
 add-t8 c = search rules
 
-enum_told : tie.Need-enum-told
+enum_told : tie.Need-enum_told-1
 enum_told c = search rules
 
-add-t9 : tie.Need-overflow-add-t9
+add-t9 : tie.Need-overflow_add-result-in-Jaccard
 add-t9 c = search rules
 
-sub-t10 : tie.Need-overflow-sub-t10
+sub-t10 : tie.Need-overflow_sub-result
 sub-t10 c = search rules
 
-returns : tie.Need-returns
+returns : tie.Need-returns-in-Linear
 returns c =
-    let e = c.before.scoring.given.1 in
+    let e = c.in-Linear.is in
     (sym (ap gain_of e), sym (ap loss_of e), sym (ap lift_of e), sym (ap by_fractions e))
 
-returns-2 : tie.Need-returns-2
+returns-2 : tie.Need-returns-in-Jaccard
 returns-2 c = search rules
 
-pub rates-of-spec : {M : Type 1} → statement M
-rates-of-spec =
+pub rates_of_spec : {M : Type 1} → statement M
+rates_of_spec =
     tie.close
-    (tie.spec
-    enum-known-scoring
-    mul-t5
-    add-t6
-    cast-t7
-    add-t8
-    enum_told
-    add-t9
-    sub-t10
-    returns
-    returns-2)
+    (tie.spec enum-known-scoring mul-t5 add-t6 cast-t7 add-t8 enum_told add-t9 sub-t10 returns returns-2)

@@ -8,45 +8,31 @@ use Rattle.mapper.specs.Walking.{terms_in}
 use Rattle.mapper.proofs.update.terms_of.Statement.{statement}
 use Rattle.mapper.proofs.update.terms_of.Tie as tie
 
--- the words of the scoring are read, and the entry of the function
-abbrev words : tie.After-scoring-of → tie.After-shared-slice-known3
-words c = c.before.before.before
-
-abbrev entry : tie.After-scoring-of → tie.Start
-entry c = (words c).before.before.before
-
-shared-slice-read-scoring-of : tie.Need-shared-slice-read-scoring-of
+shared-slice-read-scoring-of : tie.Need-bounds-work-4
 shared-slice-read-scoring-of c = search rules
 
-shared-slice-read-scoring-of-2 : tie.Need-shared-slice-read-scoring-of-2
+shared-slice-read-scoring-of-2 : tie.Need-bounds-work-1
 shared-slice-read-scoring-of-2 c = search rules
 
-shared-slice-read-scoring-of-3 : tie.Need-shared-slice-read-scoring-of-3
+shared-slice-read-scoring-of-3 : tie.Need-bounds-work-2
 shared-slice-read-scoring-of-3 c = search rules
 
-shared-slice-read-scoring-of-4 : tie.Need-shared-slice-read-scoring-of-4
+shared-slice-read-scoring-of-4 : tie.Need-bounds-work-6
 shared-slice-read-scoring-of-4 c = search rules
 
-scoring-of-requires : tie.Need-scoring-of-requires
+scoring-of-requires : tie.Need-scoring_of-scoring-requires
 scoring-of-requires c κs = search rules
 
-shared-slice-read-t4 : tie.Need-shared-slice-read-t4
+shared-slice-read-t4 : tie.Need-bounds-work-5
 shared-slice-read-t4 c = search rules
 
 returns : tie.Need-returns
 unfolding terms_in
 returns c =
-    let read = c.before in
-    ap (λ (scoring : Scoring). record { scoring = scoring; size = get_or (entry read).args.work.now size_at 0 }) read.scoring-of.ensures
+    let read = c in
+    ap (λ (scoring : Scoring). record { scoring = scoring; size = get_or read.args.work.now size_at 0 }) read.scoring_of-scoring.ensures
 
-pub terms-of-spec : {M : Type 1} → statement M
-terms-of-spec =
+pub terms_of_spec : {M : Type 1} → statement M
+terms_of_spec =
     tie.close
-    (tie.spec
-    shared-slice-read-scoring-of
-    shared-slice-read-scoring-of-2
-    shared-slice-read-scoring-of-3
-    shared-slice-read-scoring-of-4
-    scoring-of-requires
-    shared-slice-read-t4
-    returns)
+    (tie.spec shared-slice-read-scoring-of shared-slice-read-scoring-of-2 shared-slice-read-scoring-of-3 shared-slice-read-scoring-of-4 scoring-of-requires shared-slice-read-t4 returns)

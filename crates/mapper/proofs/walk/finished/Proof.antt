@@ -8,15 +8,15 @@ use Rattle.mapper.proofs.walk.finished.Tie as tie
 save-requires : tie.Need-save-requires
 save-requires c κs = search rules
 
-cast-t7 : tie.Need-overflow-cast-t7
+cast-t7 : tie.Need-overflow_cast-result
 cast-t7 c = search rules
 
-same_length : tie.Need-same-length
+same_length : tie.Need-shape_of-work
 same_length c = search rules
 
 returns : tie.Need-returns
 unfolding finished_walk
-returns c = (refl, c.before.before.save.ensures)
+returns c = (refl, c.save.ensures)
 
-pub finished-spec : {M : Type 1} → statement M
-finished-spec = tie.close (tie.spec save-requires cast-t7 same_length returns)
+pub finished_spec : {M : Type 1} → statement M
+finished_spec = tie.close (tie.spec save-requires cast-t7 same_length returns)

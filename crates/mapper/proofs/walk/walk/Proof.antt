@@ -12,7 +12,7 @@ use Rattle.mapper.specs.declared.update.Terms.{Terms}
 use Rattle.mapper.specs.Walking.{settled_words, settled, Walk, terms_in, found_walk, walk_on}
 use Rattle.mapper.proofs.Deciding.{SmallRates}
 use Rattle.mapper.proofs.Walking.{small_terms, settled_within, Stops, update_stops, spent_rest, less_left}
-use Rattle.mapper.proofs.Walking.{walk_finished, walk_spent, walk_found, walk_on}
+use Rattle.mapper.proofs.Walking.{walk_finished, walk_spent, walk_found, walk_on_lem}
 use Rattle.mapper.proofs.walk.walk.Statement.{statement}
 use Rattle.mapper.proofs.walk.walk.Tie as tie
 
@@ -20,7 +20,7 @@ use Rattle.mapper.proofs.walk.walk.Tie as tie
 abbrev walk_from : Terms → ℕ → Place → ℕ → List ℕ → Walk
 walk_from terms budget place left work = walk_on terms budget place.columns place.row place.m place.highest left work
 
-abbrev invariant-loop : tie.invariant-loop
+abbrev invariant-loop : tie.invariant-loop-place
 invariant-loop work₀ budget terms place₀ left₀ work place left =
     (work_words ≤ length work)
     × (length work ≡ length work₀)
@@ -29,124 +29,118 @@ invariant-loop work₀ budget terms place₀ left₀ work place left =
     × (left ≤ budget)
     × (walk_from terms budget place left work ≡ walk_from terms budget place₀ left₀ work₀)
 
-abbrev decreases-loop : tie.decreases-loop
+abbrev decreases-loop : tie.decreases-loop-place
 decreases-loop work₀ budget terms place₀ left₀ work place left = place.columns + left
 
 -- ---- a turn's head, and the entry of the function
 
-module _ (t : tie.At-loop invariant-loop decreases-loop) where
-  abbrev read : tie.After-terms-of invariant-loop decreases-loop
-  read = t.before
-
-  abbrev entry : tie.Start invariant-loop decreases-loop
-  entry = read.before.before.before
-
+module _ (t : tie.At-loop-place invariant-loop decreases-loop) where
   abbrev terms : Terms
-  terms = read.terms-of.result
+  terms = t.terms_of-terms.result
 
   small : SmallRates terms.scoring
-  small = small_terms entry.args.work.now terms read.terms-of.ensures entry.pre.1
+  small = small_terms t.args.work.now terms t.terms_of-terms.ensures t.requires.1
 
   -- what is left of the walk comes to the whole of it
-  whole : {walk : Walk} → walk_from terms entry.args.budget t.loop.place t.loop.left t.loop.work ≡ walk
-      → walk ≡ walk_from (terms_in entry.args.work.now) entry.args.budget entry.args.start entry.args.budget entry.args.work.now
+  whole : {walk : Walk} → walk_from terms t.args.budget t.loop-place.place t.loop-place.left t.loop-place.work ≡ walk
+      → walk ≡ walk_from (terms_in t.args.work.now) t.args.budget t.args.start t.args.budget t.args.work.now
   whole e =
-      let args = entry.args in
+      let args = t.args in
       sym e
-      ∙ t.loop.inv.5
-      ∙ ap (λ (ts : Terms). walk_from ts args.budget args.start args.budget args.work.now) read.terms-of.ensures
+      ∙ t.loop-place.invariant.5
+      ∙ ap (λ (ts : Terms). walk_from ts args.budget args.start args.budget args.work.now) t.terms_of-terms.ensures
 
 -- ---- behind the column's update
 
-module _ (updated : tie.After-update invariant-loop decreases-loop) where
-  abbrev some : tie.Else2 invariant-loop decreases-loop
+module _ (updated : tie.After-update-p invariant-loop decreases-loop) where
+  abbrev some : tie.Else-left-eq0 invariant-loop decreases-loop
   some = updated.before.before
 
-  abbrev turn : tie.At-loop invariant-loop decreases-loop
+  abbrev turn : tie.At-loop-place invariant-loop decreases-loop
   turn = some.before.before.before
 
-  abbrev inside : 0 < turn.loop.place.columns
-  inside = some.before.if1.taken
+  abbrev inside : 0 < updated.loop-place.place.columns
+  inside = updated.loop-place-test.true
 
   -- where it has stopped
-  stops : Stops turn.loop.place.columns turn.loop.place.row turn.loop.left updated.update.result
-  stops = update_stops (terms turn) _ _ _ _ _ _ _ inside turn.loop.inv.3 updated.update.ensures.0
+  stops : Stops updated.loop-place.place.columns updated.loop-place.place.row updated.loop-place.left updated.update-p.result
+  stops = update_stops (terms turn) _ _ _ _ _ _ _ inside updated.loop-place.invariant.3 updated.update-p.ensures.0
 
-  long : work_words ≤ length updated.update.last.0
-  long = let n = updated.update.kept.0 in omega (arith, turn.loop.inv.0)
+  long : work_words ≤ length updated.update-p.new.work
+  long = let n = updated.update-p.auto.work in omega (arith, updated.loop-place.invariant.0)
 
-abbrev update-of : tie.After-slice-known3 invariant-loop decreases-loop → tie.After-update invariant-loop decreases-loop
+abbrev update-of : tie.After-slice_known-in-loop-place-1 invariant-loop decreases-loop → tie.After-update-p invariant-loop decreases-loop
 update-of c = c.before.before
 
 -- ---- behind the place's settling
 
-module _ (c : tie.After-settle invariant-loop decreases-loop) where
-  abbrev known : tie.After-struct-known2 invariant-loop decreases-loop
+module _ (c : tie.After-settle-place invariant-loop decreases-loop) where
+  abbrev known : tie.After-struct_known-in-loop-place-1 invariant-loop decreases-loop
   known = c.before.before.before
 
-  abbrev updated : tie.After-update invariant-loop decreases-loop
+  abbrev updated : tie.After-update-p invariant-loop decreases-loop
   updated = update-of known.before
 
   -- where it has settled
-  within : (c.settle.result.columns ≤ (turn updated).loop.place.columns) × (c.settle.result.row ≤ updated.update.result.row)
-      × (c.settle.result.row ≤ c.settle.result.columns)
+  within : (c.settle-place.result.columns ≤ c.loop-place.place.columns) × (c.settle-place.result.row ≤ c.update-p.result.row)
+      × (c.settle-place.result.row ≤ c.settle-place.result.columns)
   within =
-      let u = updated.update in
-      let columns = (turn updated).loop.place.columns in
-      let s = settled_within u.last.0 columns u.result in
-      subst (λ (q : Place). (q.columns ≤ columns) × (q.row ≤ u.result.row) × (q.row ≤ q.columns)) (sym c.settle.ensures.0)
+      let u = c.update-p in
+      let columns = c.loop-place.place.columns in
+      let s = settled_within u.new.work columns u.result in
+      subst (λ (q : Place). (q.columns ≤ columns) × (q.row ≤ u.result.row) × (q.row ≤ q.columns)) (sym c.settle-place.ensures.0)
       (s.0, s.1, s.2 (stops updated).within)
 
   -- a walk that ends at the place as it has settled
   at_place : (terms : Terms) (cells : ℕ)
-      → found_walk terms c.settle.new.0 (turn updated).loop.place.columns updated.update.result c.settle.result cells
-      ≡ found_walk terms (settled_words updated.update.last.0 (turn updated).loop.place.columns updated.update.result)
-      (turn updated).loop.place.columns updated.update.result
-      (settled updated.update.last.0 (turn updated).loop.place.columns updated.update.result) cells
+      → found_walk terms c.settle-place.new.work c.loop-place.place.columns c.update-p.result c.settle-place.result cells
+      ≡ found_walk terms (settled_words c.update-p.new.work c.loop-place.place.columns c.update-p.result)
+      c.loop-place.place.columns c.update-p.result
+      (settled c.update-p.new.work c.loop-place.place.columns c.update-p.result) cells
   at_place terms cells =
-      λ i. found_walk terms (c.settle.ensures.1 i) (turn updated).loop.place.columns updated.update.result (c.settle.ensures.0 i) cells
+      λ i. found_walk terms (c.settle-place.ensures.1 i) c.loop-place.place.columns c.update-p.result (c.settle-place.ensures.0 i) cells
 
-  settled-long : length c.settle.new.0 ≡ length (turn updated).loop.work
-  settled-long = c.settle.auto.0 ∙ updated.update.kept.0
+  settled-long : length c.settle-place.new.work ≡ length c.loop-place.work
+  settled-long = c.settle-place.auto.work ∙ c.update-p.auto.work
 
-terms-of-requires : tie.Need-terms-of-requires invariant-loop decreases-loop
+terms-of-requires : tie.Need-terms_of-terms-requires invariant-loop decreases-loop
 terms-of-requires c κs = search rules
 
-loop-holds : tie.Need-loop-init invariant-loop decreases-loop
+loop-holds : tie.Need-loop-place-init invariant-loop decreases-loop
 loop-holds c = search rules
 
 spent-requires : tie.Need-spent-requires invariant-loop decreases-loop
 spent-requires c κs = search rules
 
-same_length : tie.Need-same-length invariant-loop decreases-loop
+same_length : tie.Need-shape_of-work-then-left-eq0 invariant-loop decreases-loop
 same_length c = search rules
 
-returns : tie.Need-returns invariant-loop decreases-loop
+returns : tie.Need-returns-then-left-eq0 invariant-loop decreases-loop
 returns c =
     let s = c.before.before in
     let none = s.before.before in
     let t = none.before.before.before in
-    let e = whole t (walk_spent _ _ _ _ _ _ _ _ none.before.if1.true none.if2.true) in
+    let e = whole t (walk_spent _ _ _ _ _ _ _ _ none.loop-place-test.true none.if-left-eq0.true) in
     (s.spent.ensures.0 ∙ ap (λ (w : Walk). w.answer) e, s.spent.ensures.1 ∙ ap (λ (w : Walk). w.words) e)
 
-update-requires : tie.Need-update-requires invariant-loop decreases-loop
+update-requires : tie.Need-update-p-requires invariant-loop decreases-loop
 update-requires c κs =
     let some = c.before in
     let turn = some.before.before.before in
     ((search rules, search rules, search rules, search rules), small turn)
 
-sub-left : tie.Need-overflow-sub-left invariant-loop decreases-loop
+sub-left : tie.Need-overflow_sub-left invariant-loop decreases-loop
 sub-left c = (stops (update-of c.before.before)).from
 
-sub-left-2 : tie.Need-overflow-sub-left-2 invariant-loop decreases-loop
+sub-left-2 : tie.Need-overflow_sub-left-in-loop-place invariant-loop decreases-loop
 sub-left-2 c = (stops (update-of c.before.before)).spends
 
-settle-requires : tie.Need-settle-requires invariant-loop decreases-loop
+settle-requires : tie.Need-settle-place-requires invariant-loop decreases-loop
 settle-requires c κs =
     let d = update-of c.before.before.before in
-    (long d, (turn d).loop.inv.2, inside d)
+    (long d, d.loop-place.invariant.2, inside d)
 
-sub-found : tie.Need-overflow-sub-found invariant-loop decreases-loop
+sub-found : tie.Need-overflow_sub-budget invariant-loop decreases-loop
 sub-found c = search rules
 
 found-requires : tie.Need-found-requires invariant-loop decreases-loop
@@ -155,61 +149,61 @@ found-requires c κs =
     let s = candidate.before.before.before in
     let d = updated s in
     let stopped = stops d in
-    let moved = stopped.moved candidate.if3.true in
-    let inv = (turn d).loop.inv in
+    let moved = stopped.moved candidate.if-p.true in
+    let inv = d.loop-place.invariant in
     let n = settled-long s in
     let w = within s in (
-      (omega arith, inside d, inv.2, omega arith, omega (arith, stopped.within), omega (arith, (entry (turn d)).pre.0.1)),
+      (omega arith, inside d, inv.2, omega arith, omega (arith, stopped.within), omega (arith, d.requires.0.1)),
       (omega arith, omega (arith, stopped.within)),
     )
 
-same-length-2 : tie.Need-same-length-2 invariant-loop decreases-loop
+same-length-2 : tie.Need-shape_of-work-then-p invariant-loop decreases-loop
 same-length-2 c =
     let f = c.before.before in
     let candidate = f.before.before in
     let s = candidate.before.before.before in
-    f.found.auto.0 ∙ settled-long s ∙ (turn (updated s)).loop.inv.1
+    f.found.auto.work ∙ settled-long s ∙ s.loop-place.invariant.1
 
-returns-2 : tie.Need-returns-2 invariant-loop decreases-loop
+returns-2 : tie.Need-returns-then-p invariant-loop decreases-loop
 returns-2 c =
     let f = c.before.before in
     let candidate = f.before.before in
     let s = candidate.before.before.before in
     let d = updated s in
-    let u = d.update in
+    let u = d.update-p in
     let e =
-    whole (turn d) (walk_found _ _ _ _ _ _ _ _ (inside d) (some d).if2.left u.result u.last.0 u.ensures.0 u.ensures.1 candidate.if3.true
+    whole (turn d) (walk_found _ _ _ _ _ _ _ _ (inside d) d.if-left-eq0.false u.result u.new.work u.ensures.0 u.ensures.1 candidate.if-p.true
     ∙ sym (at_place s _ _)) in
     (f.found.ensures.0 ∙ ap (λ (w : Walk). w.answer) e, f.found.ensures.1 ∙ ap (λ (w : Walk). w.words) e)
 
-loop-less : tie.Need-loop-smaller invariant-loop decreases-loop
+loop-less : tie.Need-loop-place-smaller invariant-loop decreases-loop
 loop-less c =
     let s = c.before.before.before in
     let d = updated s in
-    let u = d.update in
-    let place = (turn d).loop.place in
+    let u = d.update-p in
+    let place = d.loop-place.place in
     let less =
-    less_left place.columns place.row (turn d).loop.left u.result (stops d) c.if3.false u.last.0 (inside d) (some d).if2.left in
-    subst (λ (q : Place). q.columns + ((turn d).loop.left - (u.result.row - place.row)) < place.columns + (turn d).loop.left)
-    (sym s.settle.ensures.0) less
+    less_left place.columns place.row d.loop-place.left u.result (stops d) c.if-p.false u.new.work (inside d) d.if-left-eq0.false in
+    subst (λ (q : Place). q.columns + (d.loop-place.left - (u.result.row - place.row)) < place.columns + d.loop-place.left)
+    (sym s.settle-place.ensures.0) less
 
-loop-again : tie.Need-loop-preserved invariant-loop decreases-loop
+loop-again : tie.Need-loop-place-preserved invariant-loop decreases-loop
 loop-again c =
     let s = c.before.before.before in
     let d = updated s in
-    let u = d.update in
-    let inv = (turn d).loop.inv in
+    let u = d.update-p in
+    let inv = d.loop-place.invariant in
     let n = settled-long s in
     let w = within s in
     let stopped = stops d in
-    let place = (turn d).loop.place in
-    let rest = (turn d).loop.left - (u.result.row - place.row) in
-    let none = c.if3.false in
+    let place = d.loop-place.place in
+    let rest = d.loop-place.left - (u.result.row - place.row) in
+    let none = c.if-p.false in
     let goes =
-    walk_on (terms (turn d)) _ _ _ _ _ _ _ (inside d) (some d).if2.left u.result u.last.0 u.ensures.0 u.ensures.1 none inv.4
-    (spent_rest place.columns place.row (turn d).loop.left u.result stopped none) in
+    walk_on_lem (terms (turn d)) _ _ _ _ _ _ _ (inside d) d.if-left-eq0.false u.result u.new.work u.ensures.0 u.ensures.1 none inv.4
+    (spent_rest place.columns place.row d.loop-place.left u.result stopped none) in
     let walked =
-    (λ i. walk_from (terms (turn d)) (entry (turn d)).args.budget (s.settle.ensures.0 i) rest (s.settle.ensures.1 i)) ∙ sym goes in (
+    (λ i. walk_from (terms (turn d)) d.args.budget (s.settle-place.ensures.0 i) rest (s.settle-place.ensures.1 i)) ∙ sym goes in (
       omega arith,
       n ∙ inv.1,
       omega arith,
@@ -218,46 +212,25 @@ loop-again c =
       walked ∙ inv.5,
     )
 
-sub-finished : tie.Need-overflow-sub-finished invariant-loop decreases-loop
+sub-finished : tie.Need-overflow_sub-budget-2 invariant-loop decreases-loop
 sub-finished c = search rules
 
 finished-requires : tie.Need-finished-requires invariant-loop decreases-loop
 finished-requires c κs = search rules
 
-same-length-3 : tie.Need-same-length-3 invariant-loop decreases-loop
+same-length-3 : tie.Need-shape_of-work invariant-loop decreases-loop
 same-length-3 c = search rules
 
-returns-3 : tie.Need-returns-3 invariant-loop decreases-loop
+returns-3 : tie.Need-returns invariant-loop decreases-loop
 returns-3 c =
     let f = c.before.before in
     let tested = f.before.before in
     let t = tested.before.before in
-    let none : t.loop.place.columns ≡ 0 = omega arith in
+    let none : t.loop-place.place.columns ≡ 0 = omega arith in
     let e = whole t (walk_finished (terms t) _ _ _ _ _ _ _ none) in
     (f.finished.ensures.0 ∙ ap (λ (w : Walk). w.answer) e, f.finished.ensures.1 ∙ ap (λ (w : Walk). w.words) e)
 
-pub walk-spec : {M : Type 1} → statement M
-walk-spec =
+pub walk_spec : {M : Type 1} → statement M
+walk_spec =
     tie.close
-    (tie.spec
-    invariant-loop
-    decreases-loop
-    terms-of-requires
-    loop-holds
-    spent-requires
-    same_length
-    returns
-    update-requires
-    sub-left
-    sub-left-2
-    settle-requires
-    sub-found
-    found-requires
-    same-length-2
-    returns-2
-    loop-less
-    loop-again
-    sub-finished
-    finished-requires
-    same-length-3
-    returns-3)
+    (tie.spec invariant-loop decreases-loop terms-of-requires loop-holds spent-requires same_length returns update-requires sub-left sub-left-2 settle-requires sub-found found-requires same-length-2 returns-2 loop-less loop-again sub-finished finished-requires same-length-3 returns-3)

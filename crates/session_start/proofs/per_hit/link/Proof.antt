@@ -8,7 +8,7 @@ use native.Mathlib.Nat.{mul-le-mul_left}
 use Prim.Native.Nat.{◌+◌, ◌<◌}
 use Rattle.session_start.proofs.Ring.{Ring, ring_none}
 use Rattle.base.proofs.Writing.{Written, written_more, written_all}
-use Rattle.session_start.specs.Noting.{words_at, backs as backsOf}
+use Rattle.session_start.specs.Noting.{words_at, backs as backs_of}
 use lib.ListN.{length}
 use mathlib.Core.Path.{◌≡◌, refl}
 use native.Mathlib.Omega.{arith}
@@ -20,207 +20,154 @@ use Rattle.session_start.proofs.per_hit.link.Lts as lts
 use Rattle.session_start.proofs.hits.one_at.Reads as one-at-reads
 use Rattle.session_words.proofs.wide.Reads as wide-reads
 
-abbrev invariant-loop : tie.invariant-loop
+abbrev invariant-loop : tie.invariant-loop-j
 invariant-loop sorted slots turns₀ ring₀ backs₀ j₀ turns ring backs j =
     (j ≤ length slots) × (length turns ≡ length turns₀) × (length ring ≡ length ring₀) × (length backs ≡ length backs₀)
-    × Ring sorted (words_at sorted slots) turns ring j × Written (backsOf sorted (words_at sorted slots)) backs₀ j backs
+    × Ring sorted (words_at sorted slots) turns ring j × Written (backs_of sorted (words_at sorted slots)) backs₀ j backs
 
-abbrev decreases-loop : tie.decreases-loop
+abbrev decreases-loop : tie.decreases-loop-j
 decreases-loop sorted slots turns₀ ring₀ backs₀ j₀ turns ring backs j = length slots - j
 
--- the entry of the function, from before the loop and from a turn's head
-abbrev known : tie.After-slice-known3 invariant-loop decreases-loop → tie.After-slice-known invariant-loop decreases-loop
-known c = c.before.before
-
-abbrev opened : tie.After-slice-known3 invariant-loop decreases-loop → tie.Start invariant-loop decreases-loop
-opened c = (known c).before.before.before
-
-abbrev began : tie.At-loop invariant-loop decreases-loop → tie.Start invariant-loop decreases-loop
-began t = opened t.before
-
--- of a turn that has the slot: its test, its head, and the entry
-abbrev tested : tie.After-wide invariant-loop decreases-loop → tie.In-loop invariant-loop decreases-loop
-tested w = w.before.before
-
-abbrev turn : tie.After-wide invariant-loop decreases-loop → tie.At-loop invariant-loop decreases-loop
-turn w = (tested w).before
-
-abbrev entry : tie.After-wide invariant-loop decreases-loop → tie.Start invariant-loop decreases-loop
-entry w = began (turn w)
-
 -- where the slot and the place are known
-abbrev slotted : tie.After-wide2 invariant-loop decreases-loop → tie.After-wide invariant-loop decreases-loop
+abbrev slotted : tie.After-wide invariant-loop decreases-loop → tie.After-wide-slot invariant-loop decreases-loop
 slotted c = c.before.before
 
-abbrev placed : tie.After-one-at invariant-loop decreases-loop → tie.After-wide2 invariant-loop decreases-loop
+abbrev placed : tie.After-one_at invariant-loop decreases-loop → tie.After-wide invariant-loop decreases-loop
 placed c = c.before.before.before
 
-place_at : (c : tie.After-wide2 invariant-loop decreases-loop) → (slotted c).wide.result + c.wide2.result < length (entry (slotted c)).args.sorted.now
+place_at : (c : tie.After-wide invariant-loop decreases-loop) → c.wide-slot.result + c.wide.result < length c.args.sorted.now
 place_at c =
     let w = slotted c in
-    let at = (turn w).loop in
-    let start = entry w in
-    place_in start.args.sorted.now start.args.slots.now start.pre.0 at.turns at.ring at.j w.wide.result c.wide2.result
-    at.inv.4 (tested w).loop-test.taken w.wide.ensures.0 c.wide2.ensures.0
+    let at = w.loop-j in
+    let start = w in
+    place_in start.args.sorted.now start.args.slots.now start.requires.0 at.turns at.ring at.j w.wide-slot.result c.wide.result
+    at.invariant.4 w.loop-j-test.true w.wide-slot.ensures.0 c.wide.ensures.0
 
-loop-holds : tie.Need-loop-init invariant-loop decreases-loop
-loop-holds c = let zeros = (opened c).requires.1.1 in (zero-le, refl, refl, refl, ring_none _ _ _ _ zeros.0.1 zeros.1.1, refl)
+loop-holds : tie.Need-loop-j-init invariant-loop decreases-loop
+loop-holds c = let zeros = c.requires.1.1 in (zero-le, refl, refl, refl, ring_none _ _ _ _ zeros.0.1 zeros.1.1, refl)
 
-mul_wide : tie.Need-overflow-mul-wide invariant-loop decreases-loop
+mul_wide : tie.Need-offset_bounds-slots-j invariant-loop decreases-loop
 mul_wide c = search rules
 
-shared-slice-read-wide : tie.Need-shared-slice-read-wide invariant-loop decreases-loop
+shared-slice-read-wide : tie.Need-bounds-slots-j invariant-loop decreases-loop
 shared-slice-read-wide c = search rules
 
-wide-requires : tie.Need-wide-requires invariant-loop decreases-loop
+wide-requires : tie.Need-wide-slot-requires invariant-loop decreases-loop
 wide-requires c κs = search rules
 
-mul-turn : tie.Need-overflow-mul-turn invariant-loop decreases-loop
+mul-turn : tie.Need-offset_bounds-turns-slot invariant-loop decreases-loop
 mul-turn c = search rules
 
-slice-read-turn : tie.Need-slice-read-turn invariant-loop decreases-loop
+slice-read-turn : tie.Need-bounds-turns-slot invariant-loop decreases-loop
 slice-read-turn c =
-    let w = c.before in
-    omega (arith, (entry w).requires.0.within (turn w).loop.j (tested w).loop-test.true)
+    let w = c in
+    omega (arith, w.requires.0.within w.loop-j.j w.loop-j-test.true)
 
-wide-requires-2 : tie.Need-wide-requires-2 invariant-loop decreases-loop
+wide-requires-2 : tie.Need-wide-requires invariant-loop decreases-loop
 wide-requires-2 c κs = search rules
 
-add-place : tie.Need-overflow-add-place invariant-loop decreases-loop
+add-place : tie.Need-overflow_add-place invariant-loop decreases-loop
 add-place c = search rules
 
-mul-backs : tie.Need-overflow-mul-backs invariant-loop decreases-loop
+mul-backs : tie.Need-offset_bounds-ring-place invariant-loop decreases-loop
 mul-backs c = search rules
 
-slice-read-backs : tie.Need-slice-read-backs invariant-loop decreases-loop
+slice-read-backs : tie.Need-bounds-ring-place invariant-loop decreases-loop
 slice-read-backs c = omega (arith, place_at c.before)
 
-mul-backs-2 : tie.Need-overflow-mul-backs-2 invariant-loop decreases-loop
+mul-backs-2 : tie.Need-offset_bounds-backs-j invariant-loop decreases-loop
 mul-backs-2 c = search rules
 
-slice-write-backs : tie.Need-slice-write-backs invariant-loop decreases-loop
+slice-write-backs : tie.Need-bounds-backs-j invariant-loop decreases-loop
 slice-write-backs c = search rules
 
-cast-ring : tie.Need-overflow-cast-ring invariant-loop decreases-loop
+cast-ring : tie.Need-overflow_cast-ring invariant-loop decreases-loop
 cast-ring c = search rules
 
-add-ring : tie.Need-overflow-add-ring invariant-loop decreases-loop
+add-ring : tie.Need-overflow_add-ring invariant-loop decreases-loop
 add-ring c = search rules
 
-mul-ring : tie.Need-overflow-mul-ring invariant-loop decreases-loop
+mul-ring : tie.Need-offset_bounds-ring-place-in-loop-j invariant-loop decreases-loop
 mul-ring c = search rules
 
-slice-write-ring : tie.Need-slice-write-ring invariant-loop decreases-loop
+slice-write-ring : tie.Need-bounds-ring-place-in-loop-j invariant-loop decreases-loop
 slice-write-ring c = omega (arith, place_at c.before)
 
-add-turns : tie.Need-overflow-add-turns invariant-loop decreases-loop
+add-turns : tie.Need-overflow_add-turns invariant-loop decreases-loop
 add-turns c = omega (arith, place_at c.before)
 
-add-one-at : tie.Need-overflow-add-one-at invariant-loop decreases-loop
+add-one-at : tie.Need-overflow_add-place-in-loop-j invariant-loop decreases-loop
 add-one-at c = search rules
 
-mul-one-at : tie.Need-overflow-mul-one-at invariant-loop decreases-loop
+mul-one-at : tie.Need-offset_bounds-sorted-slot invariant-loop decreases-loop
 mul-one-at c = search rules
 
-shared-slice-read-one-at : tie.Need-shared-slice-read-one-at invariant-loop decreases-loop
+shared-slice-read-one-at : tie.Need-bounds-sorted-slot invariant-loop decreases-loop
 shared-slice-read-one-at c = omega (arith, place_at c.before.before)
 
-one-at-requires : tie.Need-one-at-requires invariant-loop decreases-loop
+one-at-requires : tie.Need-one_at-requires invariant-loop decreases-loop
 one-at-requires c κs = search rules
 
-mul-turns : tie.Need-overflow-mul-turns invariant-loop decreases-loop
+mul-turns : tie.Need-overflow_mul-turns invariant-loop decreases-loop
 mul-turns c =
-    let w = slotted (placed c) in
-    let t = get_or (turn w).loop.turns w.wide.result 0 in
+    let w = c in
+    let t = get_or w.loop-j.turns w.wide-slot.result 0 in
     omega (arith, place_at (placed c), mul-le-mul_left (t + 1) c.one_at.ensures.1)
 
-mul-turns-2 : tie.Need-overflow-mul-turns-2 invariant-loop decreases-loop
+mul-turns-2 : tie.Need-offset_bounds-turns-slot-in-loop-j invariant-loop decreases-loop
 mul-turns-2 c = search rules
 
-slice-write-turns : tie.Need-slice-write-turns invariant-loop decreases-loop
+slice-write-turns : tie.Need-bounds-turns-slot-in-loop-j invariant-loop decreases-loop
 slice-write-turns c = omega (arith, place_at (placed c))
 
-add-j : tie.Need-overflow-add-j invariant-loop decreases-loop
+add-j : tie.Need-overflow_add-j invariant-loop decreases-loop
 add-j c = search rules
 
-loop-less : tie.Need-loop-smaller invariant-loop decreases-loop
+loop-less : tie.Need-loop-j-smaller invariant-loop decreases-loop
 loop-less c = search rules
 
-loop-again : tie.Need-loop-preserved invariant-loop decreases-loop
+loop-again : tie.Need-loop-j-preserved invariant-loop decreases-loop
 loop-again c =
     let w = slotted (placed c) in
-    let at = (turn w).loop in
-    let start = entry w in
+    let at = w.loop-j in
+    let start = w in
     let sorted = start.args.sorted.now in
     let slots = start.args.slots.now in
-    let begin = start.pre.0 in
-    let slot = w.wide in
-    let turned = (placed c).wide2 in
-    let h : at.j < length slots = (tested w).loop-test.taken in
-    let n : length (backsOf sorted (words_at sorted slots)) ≡ length slots = length_backs sorted (words_at sorted slots) ∙ length_words_at sorted slots in (
+    let begin = start.requires.0 in
+    let slot = w.wide-slot in
+    let turned = c.wide in
+    let h : at.j < length slots = w.loop-j-test.true in
+    let n : length (backs_of sorted (words_at sorted slots)) ≡ length slots = length_backs sorted (words_at sorted slots) ∙ length_words_at sorted slots in (
       omega arith,
-      simp length-set at.inv.1,
-      simp length-set at.inv.2,
-      simp length-set at.inv.3,
-      links_more sorted slots begin at.turns at.ring at.j slot.result turned.result at.inv.4 h slot.ensures.0 turned.ensures.0
+      simp length-set at.invariant.1,
+      simp length-set at.invariant.2,
+      simp length-set at.invariant.3,
+      links_more sorted slots begin at.turns at.ring at.j slot.result turned.result at.invariant.4 h slot.ensures.0 turned.ensures.0
           c.one_at.result c.one_at.ensures.0 (omega arith) (omega arith),
-      written_more (backsOf sorted (words_at sorted slots)) start.args.backs.now at.j at.backs
-          (get_or at.ring (slot.result + turned.result) 0) at.inv.5 (omega arith) (omega arith)
-          (finds_back sorted slots begin at.turns at.ring at.j slot.result turned.result at.inv.4 h slot.ensures.0 turned.ensures.0),
+      written_more (backs_of sorted (words_at sorted slots)) start.args.backs.now at.j at.backs
+          (get_or at.ring (slot.result + turned.result) 0) at.invariant.5 (omega arith) (omega arith)
+          (finds_back sorted slots begin at.turns at.ring at.j slot.result turned.result at.invariant.4 h slot.ensures.0 turned.ensures.0),
     )
 
-same_length : tie.Need-same-length invariant-loop decreases-loop
+same_length : tie.Need-shape_of-turns invariant-loop decreases-loop
 same_length c = search rules
 
-same-length-2 : tie.Need-same-length-2 invariant-loop decreases-loop
+same-length-2 : tie.Need-shape_of-ring invariant-loop decreases-loop
 same-length-2 c = search rules
 
-same-length-3 : tie.Need-same-length-3 invariant-loop decreases-loop
+same-length-3 : tie.Need-shape_of-backs invariant-loop decreases-loop
 same-length-3 c = search rules
 
 returns : tie.Need-returns invariant-loop decreases-loop
 returns c =
-    let at = c.before.loop in
-    let args = (began c.before).args in
+    let at = c.loop-j in
+    let args = c.args in
     let sorted = args.sorted.now in
     let slots = args.slots.now in
-    let n : length (backsOf sorted (words_at sorted slots)) ≡ length slots = length_backs sorted (words_at sorted slots) ∙ length_words_at sorted slots in
-    written_all (backsOf sorted (words_at sorted slots)) args.backs.now at.j at.backs at.invariant.5 (omega arith) (omega arith)
+    let n : length (backs_of sorted (words_at sorted slots)) ≡ length slots = length_backs sorted (words_at sorted slots) ∙ length_words_at sorted slots in
+    written_all (backs_of sorted (words_at sorted slots)) args.backs.now at.j at.backs at.invariant.5 (omega arith) (omega arith)
 
-pub link-spec : {M : Type 1} → statement M
-link-spec =
+pub link_spec : {M : Type 1} → statement M
+link_spec =
     tie.close
-    (tie.spec
-    invariant-loop
-    decreases-loop
-    loop-holds
-    mul_wide
-    shared-slice-read-wide
-    wide-requires
-    mul-turn
-    slice-read-turn
-    wide-requires-2
-    add-place
-    mul-backs
-    slice-read-backs
-    mul-backs-2
-    slice-write-backs
-    cast-ring
-    add-ring
-    mul-ring
-    slice-write-ring
-    add-turns
-    add-one-at
-    mul-one-at
-    shared-slice-read-one-at
-    one-at-requires
-    mul-turns
-    mul-turns-2
-    slice-write-turns
-    add-j
-    loop-less
-    loop-again
-    same_length
-    same-length-2
-    same-length-3
-    returns)
+    (tie.spec invariant-loop decreases-loop loop-holds mul_wide shared-slice-read-wide wide-requires mul-turn slice-read-turn wide-requires-2 add-place mul-backs slice-read-backs mul-backs-2 slice-write-backs cast-ring add-ring mul-ring slice-write-ring add-turns add-one-at mul-one-at shared-slice-read-one-at one-at-requires mul-turns mul-turns-2 slice-write-turns add-j loop-less loop-again same_length same-length-2 same-length-3 returns)

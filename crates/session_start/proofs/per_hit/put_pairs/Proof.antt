@@ -2,7 +2,7 @@
 use borrow.Author.Rules.{rules}
 use Rattle.session_start.proofs.Storing.{store_all}
 use Rattle.session_start.proofs.Reaching.{length_with_pair, Told, told_filled, told_next, told_end}
-use Rattle.session_start.specs.Noting.{AllIn, backs as backsOf}
+use Rattle.session_start.specs.Noting.{AllIn, backs as backs_of}
 use lib.ListN.{length, replicate, length-replicate}
 use mathlib.Core.List.{List}
 use mathlib.Core.Path.{◌≡◌, refl, sym, ap, ◌∙◌}
@@ -16,111 +16,85 @@ use Rattle.session_start.proofs.word_tables.fill.Reads as fill-reads
 use Rattle.session_start.proofs.per_hit.put_pair.Reads as put-pair-reads
 use Rattle.session_words.proofs.wide.Reads as wide-reads
 
-abbrev invariant-loop : tie.invariant-loop
+abbrev invariant-loop : tie.invariant-loop-j
 invariant-loop backs reach₀ j₀ reach j =
     (j ≤ length backs) × (length reach ≡ length backs)
-    × ((p g : List ℕ) → AllIn p g → backs ≡ backsOf p g → Told p g j reach)
+    × ((p g : List ℕ) → AllIn p g → backs ≡ backs_of p g → Told p g j reach)
 
-abbrev decreases-loop : tie.decreases-loop
+abbrev decreases-loop : tie.decreases-loop-j
 decreases-loop backs reach₀ j₀ reach j = length backs - j
 
--- where the words are filled, and the entry of the function
-abbrev filled : tie.After-slice-known2 invariant-loop decreases-loop → tie.After-fill invariant-loop decreases-loop
-filled c = c.before.before
+abbrev entry : tie.After-slice_known-2-1 invariant-loop decreases-loop → tie.Start invariant-loop decreases-loop
+entry c = c.before.before.before.before.before.before
 
-abbrev lent : tie.After-slice-known2 invariant-loop decreases-loop → tie.After-fill-arg invariant-loop decreases-loop
-lent c = (filled c).before
+abbrev turn : tie.After-put_pair-arg-1 invariant-loop decreases-loop → tie.At-loop-j invariant-loop decreases-loop
+turn c = c.before.before.before.before
 
-abbrev entry : tie.After-slice-known2 invariant-loop decreases-loop → tie.Start invariant-loop decreases-loop
-entry c = (lent c).before.before.before
-
--- of a turn in which a pair is put: its test, and its head
-abbrev tested : tie.After-put-pair-arg invariant-loop decreases-loop → tie.In-loop invariant-loop decreases-loop
-tested c = c.before.before.before
-
-abbrev turn : tie.After-put-pair-arg invariant-loop decreases-loop → tie.At-loop invariant-loop decreases-loop
-turn c = (tested c).before
-
-cast-fill : tie.Need-overflow-cast-fill invariant-loop decreases-loop
+cast-fill : tie.Need-overflow_cast-backs invariant-loop decreases-loop
 cast-fill c = search rules
 
 fill-requires : tie.Need-fill-requires invariant-loop decreases-loop
 fill-requires c κs = search rules
 
-loop-holds : tie.Need-loop-init invariant-loop decreases-loop
+loop-holds : tie.Need-loop-j-init invariant-loop decreases-loop
 loop-holds c =
-    let args = (entry c).args in
+    let args = c.args in
     let noted = args.backs.now in
-    let n : length args.reach.now ≡ length noted = (entry c).requires.0.1 in
+    let n : length args.reach.now ≡ length noted = c.requires.0.1 in
     let many = length-replicate (length noted) (length noted) in
-    let zeros = (filled c).fill.ensures ∙ store_all (replicate (length noted) (length noted)) args.reach.now (n ∙ sym many) in
-    (zero-le, ap length zeros ∙ many, λ p g all e. told_filled p g noted e (filled c).fill.new.1.1.1.0 (length noted) refl zeros)
+    let zeros = c.fill.ensures ∙ store_all (replicate (length noted) (length noted)) args.reach.now (n ∙ sym many) in
+    (zero-le, ap length zeros ∙ many, λ p g all e. told_filled p g noted e c.fill.new.work (length noted) refl zeros)
 
-mul_wide : tie.Need-overflow-mul-wide invariant-loop decreases-loop
+mul_wide : tie.Need-offset_bounds-backs-j invariant-loop decreases-loop
 mul_wide c = search rules
 
-shared-slice-read-wide : tie.Need-shared-slice-read-wide invariant-loop decreases-loop
+shared-slice-read-wide : tie.Need-bounds-backs-j invariant-loop decreases-loop
 shared-slice-read-wide c = search rules
 
 wide-requires : tie.Need-wide-requires invariant-loop decreases-loop
 wide-requires c κs = search rules
 
-cast-put-pair : tie.Need-overflow-cast-put-pair invariant-loop decreases-loop
+cast-put-pair : tie.Need-overflow_cast-j invariant-loop decreases-loop
 cast-put-pair c = search rules
 
-put-pair-requires : tie.Need-put-pair-requires invariant-loop decreases-loop
+put-pair-requires : tie.Need-put_pair-requires invariant-loop decreases-loop
 put-pair-requires c κs =
-    let at = (turn c).loop in
+    let at = c.loop-j in
     let start = entry (turn c).before in
-    let l : length at.reach ≡ length start.args.backs.now = at.inv.1 in
-    omega (arith, l, c.before.wide.ensures.0, start.pre.1 at.j (tested c).loop-test.true)
+    let l : length at.reach ≡ length start.args.backs.now = at.invariant.1 in
+    omega (arith, l, c.wide.ensures.0, start.requires.1 at.j c.loop-j-test.true)
 
-add-j : tie.Need-overflow-add-j invariant-loop decreases-loop
+add-j : tie.Need-overflow_add-j invariant-loop decreases-loop
 add-j c = search rules
 
-loop-less : tie.Need-loop-smaller invariant-loop decreases-loop
+loop-less : tie.Need-loop-j-smaller invariant-loop decreases-loop
 loop-less c = search rules
 
-loop-again : tie.Need-loop-preserved invariant-loop decreases-loop
+loop-again : tie.Need-loop-j-preserved invariant-loop decreases-loop
 loop-again c =
-    let put = c.before.before.put-pair in
+    let put = c.put_pair in
     let lending = c.before.before.before in
-    let back = lending.before.wide in
-    let at = (turn lending).loop in
+    let back = lending.wide in
+    let at = lending.loop-j in
     let noted = (entry (turn lending).before).args.backs.now in
-    let h : at.j < length noted = (tested lending).loop-test.true in (
+    let h : at.j < length noted = lending.loop-j-test.true in (
       omega arith,
-      ap length put.ensures ∙ length_with_pair back.result at.j at.reach ∙ at.inv.1,
+      ap length put.ensures ∙ length_with_pair back.result at.j at.reach ∙ at.invariant.1,
       λ p g all e.
-          told_next p g noted e all at.reach put.new.1.1.0 at.j back.result h at.inv.1 back.ensures.0 put.ensures
-          (at.inv.2 p g all e),
+          told_next p g noted e all at.reach put.new.reach at.j back.result h at.invariant.1 back.ensures.0 put.ensures
+          (at.invariant.2 p g all e),
     )
 
-same_length : tie.Need-same-length invariant-loop decreases-loop
-same_length c = c.before.loop.invariant.1 ∙ sym (entry c.before.before).pre.0.1
+same_length : tie.Need-shape_of-reach invariant-loop decreases-loop
+same_length c = c.loop-j.invariant.1 ∙ sym c.requires.0.1
 
 returns : tie.Need-returns invariant-loop decreases-loop
 returns c =
-    let at = c.before.loop in
-    let noted = (entry c.before.before).args.backs.now in
-    λ p g all e. told_end p g noted e at.reach at.j at.invariant.0 c.loop-test.false at.invariant.1 (at.invariant.2 p g all e)
+    let at = c.loop-j in
+    let noted = c.args.backs.now in
+    λ p g all e. told_end p g noted e at.reach at.j at.invariant.0 c.loop-j-test.false at.invariant.1 (at.invariant.2 p g all e)
 
-pub put-pairs-spec : {M : Type 1} → statement M
-put-pairs-spec =
+pub put_pairs_spec : {M : Type 1} → statement M
+put_pairs_spec =
     tie.close
-    (tie.spec
-    invariant-loop
-    decreases-loop
-    cast-fill
-    fill-requires
-    loop-holds
-    mul_wide
-    shared-slice-read-wide
-    wide-requires
-    cast-put-pair
-    put-pair-requires
-    add-j
-    loop-less
-    loop-again
-    same_length
-    returns)
+    (tie.spec invariant-loop decreases-loop cast-fill fill-requires loop-holds mul_wide shared-slice-read-wide wide-requires cast-put-pair put-pair-requires add-j loop-less loop-again same_length returns)

@@ -7,11 +7,11 @@ use Rattle.session_start.proofs.starts.one_if_same.Tie as tie
 use Rattle.session_start.proofs.starts.one_if_same.Reads as reads
 use Rattle.session_start.proofs.starts.one_if_same.Lts as lts
 
-returns : tie.Need-returns
-returns c = (rw (eq-eqb c.before.args.x c.before.args.y c.if1.true), le_refl 1)
+returns : tie.Need-returns-then-x-y
+returns c = (rw (eq-eqb c.args.x c.args.y c.if-x-y.true), le_refl 1)
 
-returns-2 : tie.Need-returns-2
-returns-2 c = (rw (ne_eqb c.before.args.x c.before.args.y c.if1.false), zero-le)
+returns-2 : tie.Need-returns-else-x-y
+returns-2 c = (rw (ne_eqb c.args.x c.args.y c.if-x-y.false), zero-le)
 
-pub one-if-same-spec : {M : Type 1} → statement M
-one-if-same-spec = tie.close (tie.spec returns returns-2)
+pub one_if_same_spec : {M : Type 1} → statement M
+one_if_same_spec = tie.close (tie.spec returns returns-2)

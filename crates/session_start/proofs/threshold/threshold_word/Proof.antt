@@ -10,41 +10,29 @@ use mathlib.Core.Path.{sym, ap, ◌∙◌}
 use Rattle.session_start.proofs.threshold.threshold_word.Statement.{statement}
 use Rattle.session_start.proofs.threshold.threshold_word.Tie as tie
 
--- the entry, from where the scoring is known to be Jaccard
-abbrev entry : tie.After-scoring2 → tie.Start
-entry c = c.before.before
-
-enum-known-scoring : tie.Need-enum-known-scoring
+enum-known-scoring : tie.Need-enum_known-scoring
 enum-known-scoring c = search rules
 
 biased-requires : tie.Need-biased-requires
 biased-requires c κs = search rules
 
-enum-known-scoring-2 : tie.Need-enum-known-scoring-2
+enum-known-scoring-2 : tie.Need-enum_known-scoring-in-Jaccard-1
 enum-known-scoring-2 c = search rules
 
-fraction-word-requires : tie.Need-fraction-word-requires
+fraction-word-requires : tie.Need-fraction_word-requires
 fraction-word-requires c κs =
-    let fraction = c.before.scoring2.given in
-    let pre = (entry c.before).requires in
-    small_fraction fraction.0.0 fraction.0.1.0 (sym (ap bad_scoring fraction.1) ∙ pre)
+    let pre = c.requires in
+    small_fraction c.in-Jaccard.f c.in-Jaccard.g (sym (ap bad_scoring c.in-Jaccard.is) ∙ pre)
 
-returns : tie.Need-returns
+returns : tie.Need-returns-in-Linear
 returns c =
-    let linear = c.before.before.scoring.given in
-    let same = to_z-of_z {w = w32} {z = linear.0.1.1.0} (sfits_of c.before.known-told.given.1.1.0.1) in
-    c.biased.ensures ∙ ap biased_z same ∙ sym (ap threshold_word linear.1)
+    let same = to_z-of_z {w = w32} {z = c.in-Linear.threshold} (sfits_of c.in-Linear.known_told-1-own.given.1.1.0.1) in
+    c.biased.ensures ∙ ap biased_z same ∙ sym (ap threshold_word c.in-Linear.is)
 
-returns-2 : tie.Need-returns-2
-returns-2 c = c.fraction-word.ensures ∙ sym (ap threshold_word c.before.before.scoring2.given.1)
+returns-2 : tie.Need-returns-in-Jaccard
+returns-2 c = c.fraction_word.ensures ∙ sym (ap threshold_word c.in-Jaccard.is)
 
-pub threshold-word-spec : {M : Type 1} → statement M
-threshold-word-spec =
+pub threshold_word_spec : {M : Type 1} → statement M
+threshold_word_spec =
     tie.close
-    (tie.spec
-    enum-known-scoring
-    biased-requires
-    enum-known-scoring-2
-    fraction-word-requires
-    returns
-    returns-2)
+    (tie.spec enum-known-scoring biased-requires enum-known-scoring-2 fraction-word-requires returns returns-2)

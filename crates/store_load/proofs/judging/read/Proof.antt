@@ -7,7 +7,7 @@ use mathlib.Core.Path.{◌≡◌, refl, ap, ◌∙◌}
 use lib.ListN.{length, drop, drop_of_length-le}
 use lib.Seq.{drop-cons}
 use borrow.Author.Rules.{rules}
-use Rattle.kmers.specs.Kmers.{codes as codes_of, positions as positionsOf}
+use Rattle.kmers.specs.Kmers.{codes as codes_of, positions as positions_of}
 use Rattle.store.specs.Load.{judge, entries_of}
 use Rattle.kmers.proofs.Entries.{length_codes, length_positions}
 use Rattle.store.proofs.RoundTrip.{loaded_at, length_loaded}
@@ -19,7 +19,7 @@ abbrev invariant-loop : tie.invariant-loop-i
 invariant-loop words n codes₀ positions₀ i₀ codes positions i =
     (i ≤ n)
     × Filling (codes_of (entries_of (judge words))) codes₀ codes i (drop i (codes_of (entries_of (judge words))))
-    × Filling (positionsOf (entries_of (judge words))) positions₀ positions i (drop i (positionsOf (entries_of (judge words))))
+    × Filling (positions_of (entries_of (judge words))) positions₀ positions i (drop i (positions_of (entries_of (judge words))))
 
 abbrev decreases-loop : tie.decreases-loop-i
 decreases-loop words n codes₀ positions₀ i₀ codes positions i = n - i
@@ -92,13 +92,13 @@ loop-again c =
     let ws = s.args.words.now in
     let es = entries_of (judge ws) in
     let in_codes : l.i < length (codes_of es) = omega (arith, length_codes es) in
-    let in_positions : l.i < length (positionsOf es) = omega (arith, length_positions es) in
+    let in_positions : l.i < length (positions_of es) = omega (arith, length_positions es) in
     let in-entries : l.i < length es = omega arith in
     let read = loaded_at ws es s.requires.0 l.i in-entries in (
       search rules,
       rw (add-one l.i, c.content.ensures, read.0)
           (fill_next refl (search rules) (rw (drop-cons (codes_of es) l.i 0 in_codes) at l.invariant.1)),
-      rw (add-one l.i, c.content-in-loop-i.ensures, read.1) (fill_next refl (search rules) (rw (drop-cons (positionsOf es) l.i 0 in_positions) at l.invariant.2)),
+      rw (add-one l.i, c.content-in-loop-i.ensures, read.1) (fill_next refl (search rules) (rw (drop-cons (positions_of es) l.i 0 in_positions) at l.invariant.2)),
     )
 
 same_length : tie.Need-shape_of-codes invariant-loop decreases-loop
@@ -113,9 +113,9 @@ returns c =
     let s = c in
     let es = entries_of (judge s.args.words.now) in
     let end-codes : length (codes_of es) ≤ l.i = omega (arith, length_codes es) in
-    let end-positions : length (positionsOf es) ≤ l.i = omega (arith, length_positions es) in (
+    let end-positions : length (positions_of es) ≤ l.i = omega (arith, length_positions es) in (
       fill_done (search rules) (rw (drop_of_length-le (codes_of es) end-codes) at l.invariant.1),
-      fill_done (search rules) (rw (drop_of_length-le (positionsOf es) end-positions) at l.invariant.2),
+      fill_done (search rules) (rw (drop_of_length-le (positions_of es) end-positions) at l.invariant.2),
     )
 
 pub read_spec : {M : Type 1} → statement M

@@ -11,5 +11,5 @@ returns : tie.Need-returns
 unfolding zeros
 returns c = (sym (length-replicate {A = ℕ} text_limit 0), refl)
 
-pub block-zeros-spec : {M : Type 1} → statement M
-block-zeros-spec = tie.close (tie.spec returns)
+pub block_zeros_spec : {M : Type 1} → statement M
+block_zeros_spec = tie.close (tie.spec returns)

@@ -10,59 +10,46 @@ use borrow.Author.Rules.{rules}
 use Rattle.strike.proofs.copying.count_marked.Statement.{statement}
 use Rattle.strike.proofs.copying.count_marked.Tie as tie
 
-abbrev invariant-loop : tie.invariant-loop
+abbrev invariant-loop : tie.invariant-loop-i
 invariant-loop marks n₀ i₀ n i = (i ≤ length marks) × (n + sum (drop i marks) ≡ sum marks)
 
-abbrev decreases-loop : tie.decreases-loop
+abbrev decreases-loop : tie.decreases-loop-i
 decreases-loop marks n₀ i₀ n i = length marks - i
 
 -- places, each named for where it leads and from where
-abbrev entry-turn : tie.At-loop invariant-loop decreases-loop → tie.Start invariant-loop decreases-loop
-entry-turn c = c.before.before
-
-loop-holds : tie.Need-loop-init invariant-loop decreases-loop
+loop-holds : tie.Need-loop-i-init invariant-loop decreases-loop
 loop-holds c = (omega arith, omega arith)
 
-shared-slice-read-wide : tie.Need-shared-slice-read-wide invariant-loop decreases-loop
+shared-slice-read-wide : tie.Need-bounds-marks-i invariant-loop decreases-loop
 shared-slice-read-wide c = search rules
 
-wide-requires : tie.Need-wide-requires invariant-loop decreases-loop
+wide-requires : tie.Need-wide-n-requires invariant-loop decreases-loop
 wide-requires c κs = search rules
 
-add-n : tie.Need-overflow-add-n invariant-loop decreases-loop
+add-n : tie.Need-overflow_add-n invariant-loop decreases-loop
 add-n c = omega
-    (arith, sum_drop (entry-turn c.before.before.before).args.marks.now c.before.before.before.loop.i c.before.before.loop-test.true)
+    (arith, sum_drop c.args.marks.now c.loop-i.i c.loop-i-test.true)
 
-add-i : tie.Need-overflow-add-i invariant-loop decreases-loop
+add-i : tie.Need-overflow_add-i invariant-loop decreases-loop
 add-i c = search rules
 
-loop-less : tie.Need-loop-smaller invariant-loop decreases-loop
+loop-less : tie.Need-loop-i-smaller invariant-loop decreases-loop
 loop-less c = search rules
 
-loop-again : tie.Need-loop-preserved invariant-loop decreases-loop
+loop-again : tie.Need-loop-i-preserved invariant-loop decreases-loop
 loop-again c = (
   omega arith,
   rw add-one (omega (
     arith,
-    sum_drop (entry-turn c.before.before.before).args.marks.now c.before.before.before.loop.i
-        c.before.before.loop-test.true,
+    sum_drop c.args.marks.now c.loop-i.i
+        c.loop-i-test.true,
   )),
 )
 
 returns : tie.Need-returns invariant-loop decreases-loop
-returns c = omega (arith, ap sum (drop_of_length-le c.before.before.before.args.marks.now c.loop-test.false))
+returns c = omega (arith, ap sum (drop_of_length-le c.args.marks.now c.loop-i-test.false))
 
-pub count-marked-spec : {M : Type 1} → statement M
-count-marked-spec =
+pub count_marked_spec : {M : Type 1} → statement M
+count_marked_spec =
     tie.close
-    (tie.spec
-    invariant-loop
-    decreases-loop
-    loop-holds
-    shared-slice-read-wide
-    wide-requires
-    add-n
-    add-i
-    loop-less
-    loop-again
-    returns)
+    (tie.spec invariant-loop decreases-loop loop-holds shared-slice-read-wide wide-requires add-n add-i loop-less loop-again returns)
