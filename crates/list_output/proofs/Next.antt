@@ -13,7 +13,7 @@ use Rattle.mappings.specs.Cells.{Mapping, hit_count}
 use Rattle.mappings.proofs.Rule.{total}
 use Rattle.session_words.specs.FirstWords.{passed_at}
 use Rattle.mapper.proofs.Accepted.{admitted}
-use Rattle.mapper.proofs.StepPromise.{in-session}
+use Rattle.mapper.proofs.StepPromise.{in_session}
 use Rattle.strands.specs.declared.Strand.{Strand}
 use Rattle.strands.specs.declared.Strand.TheVariants.{Forward, Reverse}
 use Rattle.list_line.specs.Line.{decimal}

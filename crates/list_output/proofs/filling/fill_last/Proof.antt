@@ -6,32 +6,32 @@ use borrow.Author.Rules.{rules}
 use Rattle.list_output.proofs.filling.fill_last.Statement.{statement}
 use Rattle.list_output.proofs.filling.fill_last.Tie as tie
 
-put-last-requires : tie.Need-put-last-requires
+put-last-requires : tie.Need-put_last-written-requires
 put-last-requires c κs = search rules
 
-same_length : tie.Need-same-length
+same_length : tie.Need-shape_of-out-then-written-eq0
 same_length c = search rules
 
-returns : tie.Need-returns
+returns : tie.Need-returns-then-written-eq0
 returns c =
-    let wrote = c.before.before.before in
+    let wrote = c in
     record {
-      line = wrote.put_last.ensures;
+      line = wrote.put_last-written.ensures;
       same_found = refl;
-      left_is = sym (ap (λ (b : Bool). cond b 2 0) (eq-eqb wrote.put_last.result 0 c.if1.true));
+      left_is = sym (ap (λ (b : Bool). cond b 2 0) (eq-eqb wrote.put_last-written.result 0 c.if-written-eq0.true));
     }
 
-same-length-2 : tie.Need-same-length-2
+same-length-2 : tie.Need-shape_of-out-else-written-eq0
 same-length-2 c = search rules
 
-returns-2 : tie.Need-returns-2
+returns-2 : tie.Need-returns-else-written-eq0
 returns-2 c =
-    let wrote = c.before.before.before in
+    let wrote = c in
     record {
-      line = wrote.put_last.ensures;
+      line = wrote.put_last-written.ensures;
       same_found = refl;
-      left_is = sym (ap (λ (b : Bool). cond b 2 0) (ne_eqb wrote.put_last.result 0 c.if1.false));
+      left_is = sym (ap (λ (b : Bool). cond b 2 0) (ne_eqb wrote.put_last-written.result 0 c.if-written-eq0.false));
     }
 
-pub fill-last-spec : {M : Type 1} → statement M
-fill-last-spec = tie.close (tie.spec put-last-requires same_length returns same-length-2 returns-2)
+pub fill_last_spec : {M : Type 1} → statement M
+fill_last_spec = tie.close (tie.spec put-last-requires same_length returns same-length-2 returns-2)

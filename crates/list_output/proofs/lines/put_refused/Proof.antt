@@ -16,17 +16,8 @@ use Rattle.list_output.proofs.lines.put_refused.Statement.{statement}
 use Rattle.list_output.proofs.lines.put_refused.Tie as tie
 
 -- the places that the proofs below speak of, each from a later one
-abbrev at-text : tie.After-put-bytes → tie.After-text
-at-text c = c.before.before
-
-abbrev entry : tie.After-put-bytes → tie.Start
-entry c = (at-text c).before.before
-
-abbrev at-text7 : tie.After-slice-known2 → tie.After-text7
-at-text7 c = c.before.before.before
-
-abbrev at-put-byte : tie.After-slice-known2 → tie.After-put-byte
-at-put-byte c = (at-text7 c).before.before.before
+abbrev at-put-byte : tie.After-slice_known-2-1 → tie.After-put_byte-n
+at-put-byte c = c.before.before.before.before.before.before
 
 module _ (number : ℕ) {t0 t1 t2 t3 : List ℕ} {n1 n2 n3 : ℕ} (room : length t0 ≡ 32) where
   pieces : Written (114 ∷ 101 ∷ 102 ∷ 117 ∷ 115 ∷ 101 ∷ 100 ∷ 32 ∷ []) 0 t0 t1 n1 → Written (decimal number) n1 t1 t2 n2
@@ -39,82 +30,67 @@ length-refused : (number : ℕ) → length (refused_line number) ≤ 32
 length-refused number = let a : length (decimal number) ≤ 10 = length_decimal number in simp length-append (omega arith)
 
 -- the calls, from the last to the first
-module _ (c : tie.After-put-byte) where
-  abbrev c2 : tie.After-put-decimal
+module _ (c : tie.After-put_byte-n) where
+  abbrev c2 : tie.After-put_decimal-n
   c2 = c.before.before.before
 
-  abbrev c1 : tie.After-put-bytes
+  abbrev c1 : tie.After-put_bytes-n
   c1 = c2.before.before.before
 
   abbrev printed : List ℕ
-  printed = refused_line (entry c1).args.number
+  printed = refused_line c1.args.number
 
   -- the line in the local bytes
-  text-is : Written printed 0 (replicate 32 0) c.put_byte.new.0 c.put_byte.result
-  text-is = pieces (entry c1).args.number refl c1.put-bytes.ensures c2.put-decimal.ensures c.put_byte.ensures
+  text-is : Written printed 0 (replicate 32 0) c.put_byte-n.new.out c.put_byte-n.result
+  text-is = pieces c1.args.number refl c.put_bytes-n.ensures c.put_decimal-n.ensures c.put_byte-n.ensures
 
   short : length printed ≤ 32
-  short = length-refused (entry c1).args.number
+  short = length-refused c1.args.number
 
-  inside : c.put_byte.result ≤ length c.put_byte.new.0
+  inside : c.put_byte-n.result ≤ length c.put_byte-n.new.out
   inside =
-      let e : c.put_byte.result ≡ length printed = start_index text-is short in
-      let l : length c.put_byte.new.0 ≡ 32 = start_length text-is short in
+      let e : c.put_byte-n.result ≡ length printed = start_index text-is short in
+      let l : length c.put_byte-n.new.out ≡ 32 = start_length text-is short in
       let h : length printed ≤ 32 = short in
       omega arith
 
-slice-aggregate-put-bytes : tie.Need-slice-aggregate-put-bytes
+slice-aggregate-put-bytes : tie.Need-slice_bounds-put_bytes-end
 slice-aggregate-put-bytes c = search rules
 
-slice-aggregate-put-bytes-2 : tie.Need-slice-aggregate-put-bytes-2
-slice-aggregate-put-bytes-2 c = search rules
-
-put-bytes-requires : tie.Need-put-bytes-requires
+put-bytes-requires : tie.Need-put_bytes-n-requires
 put-bytes-requires c κs = search rules
 
-slice-aggregate-put-decimal : tie.Need-slice-aggregate-put-decimal
+slice-aggregate-put-decimal : tie.Need-slice_bounds-put_decimal-end
 slice-aggregate-put-decimal c = search rules
 
-put-decimal-requires : tie.Need-put-decimal-requires
+put-decimal-requires : tie.Need-put_decimal-n-requires
 put-decimal-requires c κs = search rules
 
-slice-aggregate-put-byte : tie.Need-slice-aggregate-put-byte
+slice-aggregate-put-byte : tie.Need-slice_bounds-put_byte-end
 slice-aggregate-put-byte c = search rules
 
-put-byte-requires : tie.Need-put-byte-requires
+put-byte-requires : tie.Need-put_byte-n-requires
 put-byte-requires c κs = search rules
 
-array-share-prefix-text : tie.Need-array-share-prefix-text
+array-share-prefix-text : tie.Need-slice_bounds-text-end
 array-share-prefix-text c = inside c.before.before
 
-slice-aggregate-put-bytes-3 : tie.Need-slice-aggregate-put-bytes-3
-slice-aggregate-put-bytes-3 c =
-    let at-line = c.before.before.before in sym (length-take-le at-line.put_byte.result at-line.put_byte.new.0 (inside at-line))
+slice-aggregate-put-bytes-2 : tie.Need-slice_bounds-put_bytes-end-3
+slice-aggregate-put-bytes-2 c =
+    let at-line = c.before.before.before in sym (length-take-le at-line.put_byte-n.result at-line.put_byte-n.new.out (inside at-line))
 
-put-bytes-requires-2 : tie.Need-put-bytes-requires-2
+put-bytes-requires-2 : tie.Need-put_bytes-requires
 put-bytes-requires-2 c κs = search rules
 
-same_length : tie.Need-same-length
+same_length : tie.Need-shape_of-out
 same_length c = search rules
 
 returns : tie.Need-returns
 returns c =
     let at-line = at-put-byte c in same_bytes (start_part (text-is at-line) (short at-line))
-    c.before.before.put-bytes2.ensures
+    c.put_bytes.ensures
 
-pub put-refused-spec : {M : Type 1} → statement M
-put-refused-spec =
+pub put_refused_spec : {M : Type 1} → statement M
+put_refused_spec =
     tie.close
-    (tie.spec
-    slice-aggregate-put-bytes
-    slice-aggregate-put-bytes-2
-    put-bytes-requires
-    slice-aggregate-put-decimal
-    put-decimal-requires
-    slice-aggregate-put-byte
-    put-byte-requires
-    array-share-prefix-text
-    slice-aggregate-put-bytes-3
-    put-bytes-requires-2
-    same_length
-    returns)
+    (tie.spec slice-aggregate-put-bytes put-bytes-requires slice-aggregate-put-decimal put-decimal-requires slice-aggregate-put-byte put-byte-requires array-share-prefix-text slice-aggregate-put-bytes-2 put-bytes-requires-2 same_length returns)
