@@ -1,5 +1,5 @@
 //! Links the proved library, and says so where it is missing.
-//! Assumes that HUDDLEWOOL_LIBRARIES, where it is set, names its folder; it is the repository's target/staticlib otherwise.
+//! Assumes that HUDDLEWOOL_LIBRARIES, where it is set, names its folder; it is the repository's crates/exports/out otherwise.
 
 use std::env;
 use std::path::PathBuf;
@@ -11,13 +11,13 @@ fn main() {
     let here = PathBuf::from(env::var_os("CARGO_MANIFEST_DIR").expect("cargo names the package's folder"));
     let folder = match env::var_os("HUDDLEWOOL_LIBRARIES") {
         Some(folder) => PathBuf::from(folder),
-        None => here.join("../target/staticlib"),
+        None => here.join("../crates/exports/out"),
     };
     println!("cargo:rustc-link-search=native={}", folder.display());
     let library = folder.join("libexports.a");
     println!("cargo:rerun-if-changed={}", library.display());
     if !library.is_file() {
-        eprintln!("{} is missing: `rt staticlib exports` makes it, and host/test makes all that is needed", library.display());
+        eprintln!("{} is missing: `rt lib` in crates/exports makes it, and host/test all that is needed", library.display());
         exit(1);
     }
     println!("cargo:rustc-link-lib=static=exports");

@@ -1,5 +1,5 @@
 //! Running the built program `maplist` on given bytes, and on random cases beside the reference.
-//! Assumes that HUDDLEWOOL_MAPLIST, where it is set, names the program; it is the repository's target/bin/maplist otherwise.
+//! Assumes that HUDDLEWOOL_MAPLIST, where it is set, names the program; it is the repository's crates/maplist/out/maplist otherwise.
 
 use std::env;
 use std::io::Write;
@@ -14,9 +14,13 @@ use crate::reference::output::output;
 pub fn maplist() -> PathBuf {
     let path = match env::var_os("HUDDLEWOOL_MAPLIST") {
         Some(path) => PathBuf::from(path),
-        None => Path::new(env!("CARGO_MANIFEST_DIR")).join("../target/bin/maplist"),
+        None => Path::new(env!("CARGO_MANIFEST_DIR")).join("../crates/maplist/out/maplist"),
     };
-    assert!(path.is_file(), "{} is missing: `rt check maplist` makes it, and host/test makes all that is needed", path.display());
+    assert!(
+        path.is_file(),
+        "{} is missing: `rt run` in crates/maplist makes it, and host/test all that is needed",
+        path.display()
+    );
     path
 }
 

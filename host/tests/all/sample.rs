@@ -146,7 +146,7 @@ fn a_place_on_each_strand() {
     }
 }
 
-// One test, since two runs of the prover in one folder disturb each other.
+// One test, since two runs of the prover in one folder wait for each other.
 #[test]
 fn status_of_the_script() {
     for name in SAMPLES {

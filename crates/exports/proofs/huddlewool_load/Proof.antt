@@ -7,23 +7,23 @@ use Rattle.exports.proofs.Telling.{tells_of}
 use Rattle.exports.proofs.huddlewool_load.Statement.{statement}
 use Rattle.exports.proofs.huddlewool_load.Tie as tie
 
-load-requires : tie.Need-load-loaded-requires
-load-requires c κs = search rules
+load-loaded-requires : tie.Need-load-loaded-requires
+load-loaded-requires c κs = search rules
 
-of-load-requires : tie.Need-of_load-answer-requires
-of-load-requires c κs = search rules
+of_load-answer-requires : tie.Need-of_load-answer-requires
+of_load-answer-requires c κs = search rules
 
-k-after-requires : tie.Need-k_after-requires
-k-after-requires c κs = search rules
+k_after-requires : tie.Need-k_after-requires
+k_after-requires c κs = search rules
 
-w-after-requires : tie.Need-w_after-requires
-w-after-requires c κs = search rules
+w_after-requires : tie.Need-w_after-requires
+w_after-requires c κs = search rules
 
-same_length : tie.Need-shape_of-codes
-same_length c = search rules
+shape_of-codes : tie.Need-shape_of-codes
+shape_of-codes c = search rules
 
-same-length-2 : tie.Need-shape_of-positions
-same-length-2 c = search rules
+shape_of-positions : tie.Need-shape_of-positions
+shape_of-positions c = search rules
 
 returns : tie.Need-returns
 returns c =
@@ -40,4 +40,11 @@ returns c =
 pub huddlewool_load_spec : {M : Type 1} → statement M
 huddlewool_load_spec =
     tie.close
-    (tie.spec load-requires of-load-requires k-after-requires w-after-requires same_length same-length-2 returns)
+    (tie.spec
+    load-loaded-requires
+    of_load-answer-requires
+    k_after-requires
+    w_after-requires
+    shape_of-codes
+    shape_of-positions
+    returns)

@@ -4,14 +4,14 @@ use Rattle.exports.proofs.Telling.{tells_of}
 use Rattle.exports.proofs.huddlewool_reverse_complement.Statement.{statement}
 use Rattle.exports.proofs.huddlewool_reverse_complement.Tie as tie
 
-reverse-complement-requires : tie.Need-reverse_complement-requires
-reverse-complement-requires c κs = search rules
+reverse_complement-requires : tie.Need-reverse_complement-requires
+reverse_complement-requires c κs = search rules
 
-of-complement-requires : tie.Need-of_complement-answer-requires
-of-complement-requires c κs = search rules
+of_complement-answer-requires : tie.Need-of_complement-answer-requires
+of_complement-answer-requires c κs = search rules
 
-same_length : tie.Need-shape_of-out
-same_length c = search rules
+shape_of-out : tie.Need-shape_of-out
+shape_of-out c = search rules
 
 returns : tie.Need-returns
 returns c =
@@ -20,4 +20,4 @@ returns c =
 
 pub huddlewool_reverse_complement_spec : {M : Type 1} → statement M
 huddlewool_reverse_complement_spec =
-    tie.close (tie.spec reverse-complement-requires of-complement-requires same_length returns)
+    tie.close (tie.spec reverse_complement-requires of_complement-answer-requires shape_of-out returns)

@@ -7,11 +7,11 @@ use Rattle.exports.proofs.huddlewool_save.Tie as tie
 save-requires : tie.Need-save-requires
 save-requires c κs = search rules
 
-of-save-requires : tie.Need-of_save-answer-requires
-of-save-requires c κs = search rules
+of_save-answer-requires : tie.Need-of_save-answer-requires
+of_save-answer-requires c κs = search rules
 
-same_length : tie.Need-shape_of-words
-same_length c = search rules
+shape_of-words : tie.Need-shape_of-words
+shape_of-words c = search rules
 
 returns : tie.Need-returns
 returns c =
@@ -19,4 +19,4 @@ returns c =
     record { tells = tells_of s.0 c.of_save-answer.ensures; words_after = s.1 }
 
 pub huddlewool_save_spec : {M : Type 1} → statement M
-huddlewool_save_spec = tie.close (tie.spec save-requires of-save-requires same_length returns)
+huddlewool_save_spec = tie.close (tie.spec save-requires of_save-answer-requires shape_of-words returns)

@@ -7,14 +7,14 @@ use Rattle.exports.proofs.huddlewool_sketch.Tie as tie
 sketch-requires : tie.Need-sketch-requires
 sketch-requires c κs = search rules
 
-of-sketch-requires : tie.Need-of_sketch-answer-requires
-of-sketch-requires c κs = search rules
+of_sketch-answer-requires : tie.Need-of_sketch-answer-requires
+of_sketch-answer-requires c κs = search rules
 
-same_length : tie.Need-shape_of-codes
-same_length c = search rules
+shape_of-codes : tie.Need-shape_of-codes
+shape_of-codes c = search rules
 
-same-length-2 : tie.Need-shape_of-positions
-same-length-2 c = search rules
+shape_of-positions : tie.Need-shape_of-positions
+shape_of-positions c = search rules
 
 returns : tie.Need-returns
 returns c =
@@ -23,4 +23,4 @@ returns c =
 
 pub huddlewool_sketch_spec : {M : Type 1} → statement M
 huddlewool_sketch_spec =
-    tie.close (tie.spec sketch-requires of-sketch-requires same_length same-length-2 returns)
+    tie.close (tie.spec sketch-requires of_sketch-answer-requires shape_of-codes shape_of-positions returns)

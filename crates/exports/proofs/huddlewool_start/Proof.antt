@@ -12,15 +12,14 @@ use Rattle.exports.proofs.Telling.{tells_of}
 use Rattle.exports.proofs.huddlewool_start.Statement.{statement}
 use Rattle.exports.proofs.huddlewool_start.Tie as tie
 
--- the places that the proofs below speak of, each from a later one
 start-requires : tie.Need-start-requires
 start-requires c κs = search rules
 
-of-start-requires : tie.Need-of_start-answer-requires
-of-start-requires c κs = search rules
+of_start-answer-requires : tie.Need-of_start-answer-requires
+of_start-answer-requires c κs = search rules
 
-same_length : tie.Need-shape_of-work
-same_length c = search rules
+shape_of-work : tie.Need-shape_of-work
+shape_of-work c = search rules
 
 returns : tie.Need-returns
 returns c =
@@ -34,4 +33,4 @@ returns c =
     }
 
 pub huddlewool_start_spec : {M : Type 1} → statement M
-huddlewool_start_spec = tie.close (tie.spec start-requires of-start-requires same_length returns)
+huddlewool_start_spec = tie.close (tie.spec start-requires of_start-answer-requires shape_of-work returns)

@@ -32,61 +32,79 @@ module _ (d : tie.After-slice_known-2-1) where
 step-requires : tie.Need-step-requires
 step-requires c κs = search rules
 
-enum-known-a : tie.Need-enum_known-a
-enum-known-a c = search rules
+enum_known-a : tie.Need-enum_known-a
+enum_known-a c = search rules
 
 shown-requires : tie.Need-shown-requires
 shown-requires c κs = search rules
 
-found-kind-requires : tie.Need-found_kind-requires
-found-kind-requires c κs = search rules
+found_kind-requires : tie.Need-found_kind-requires
+found_kind-requires c κs = search rules
 
-enum-known-cells : tie.Need-enum_known-cells
-enum-known-cells c = search rules
+enum_known-cells : tie.Need-enum_known-cells
+enum_known-cells c = search rules
 
-enum-known-cells-2 : tie.Need-enum_known-cells-in-Spent-1
-enum-known-cells-2 c = search rules
+enum_known-cells-in-Spent-1 : tie.Need-enum_known-cells-in-Spent-1
+enum_known-cells-in-Spent-1 c = search rules
 
-enum_told : tie.Need-enum_told-1
-enum_told c = search rules
+enum_told-1 : tie.Need-enum_told-1
+enum_told-1 c = search rules
 
-enum-told-2 : tie.Need-enum_told-in-BadWords
-enum-told-2 c = search rules
+enum_told-in-BadWords : tie.Need-enum_told-in-BadWords
+enum_told-in-BadWords c = search rules
 
-same_length : tie.Need-shape_of-work-in-Found
-same_length c = search rules
+shape_of-work-in-Found : tie.Need-shape_of-work-in-Found
+shape_of-work-in-Found c = search rules
 
-returns : tie.Need-returns-in-Found
-returns c =
+returns-in-Found : tie.Need-returns-in-Found
+returns-in-Found c =
     let z = to_z-of_z {w = w32} {z = c.shown.result} (sfits_of c.shown.type_inv) ∙ c.shown.ensures in
     told c.before.before.before _ c.in-Found.is _ c.found_kind.ensures _
     (ap (λ (y : ℤ). lent c.in-Found.a c.in-Found.b y c.in-Found.m) z) _ refl
 
-same-length-2 : tie.Need-shape_of-work-in-Finished
-same-length-2 c = search rules
+shape_of-work-in-Finished : tie.Need-shape_of-work-in-Finished
+shape_of-work-in-Finished c = search rules
 
-returns-2 : tie.Need-returns-in-Finished
-returns-2 c = let d = c.before in told d _ c.in-Finished.is _ refl (before d) refl _ refl
+returns-in-Finished : tie.Need-returns-in-Finished
+returns-in-Finished c = let d = c.before in told d _ c.in-Finished.is _ refl (before d) refl _ refl
 
-same-length-3 : tie.Need-shape_of-work-in-Spent
-same-length-3 c = search rules
+shape_of-work-in-Spent : tie.Need-shape_of-work-in-Spent
+shape_of-work-in-Spent c = search rules
 
-returns-3 : tie.Need-returns-in-Spent
-returns-3 c = let d = c.before in told d _ c.in-Spent.is _ refl (before d) refl _ refl
+returns-in-Spent : tie.Need-returns-in-Spent
+returns-in-Spent c = let d = c.before in told d _ c.in-Spent.is _ refl (before d) refl _ refl
 
-same-length-4 : tie.Need-shape_of-work-in-TooFewWords
-same-length-4 c = search rules
+shape_of-work-in-TooFewWords : tie.Need-shape_of-work-in-TooFewWords
+shape_of-work-in-TooFewWords c = search rules
 
-returns-4 : tie.Need-returns-in-TooFewWords
-returns-4 c = let d = c.before in told d _ c.in-TooFewWords.is _ refl (before d) refl _ refl
+returns-in-TooFewWords : tie.Need-returns-in-TooFewWords
+returns-in-TooFewWords c = let d = c.before in told d _ c.in-TooFewWords.is _ refl (before d) refl _ refl
 
-same-length-5 : tie.Need-shape_of-work-in-BadWords
-same-length-5 c = search rules
+shape_of-work-in-BadWords : tie.Need-shape_of-work-in-BadWords
+shape_of-work-in-BadWords c = search rules
 
-returns-5 : tie.Need-returns-in-BadWords
-returns-5 c = let d = c.before in told d _ c.in-BadWords.is _ refl (before d) refl _ refl
+returns-in-BadWords : tie.Need-returns-in-BadWords
+returns-in-BadWords c = let d = c.before in told d _ c.in-BadWords.is _ refl (before d) refl _ refl
 
 pub huddlewool_step_spec : {M : Type 1} → statement M
 huddlewool_step_spec =
     tie.close
-    (tie.spec step-requires enum-known-a shown-requires found-kind-requires enum-known-cells enum-known-cells-2 enum_told enum-told-2 same_length returns same-length-2 returns-2 same-length-3 returns-3 same-length-4 returns-4 same-length-5 returns-5)
+    (tie.spec
+    step-requires
+    enum_known-a
+    shown-requires
+    found_kind-requires
+    enum_known-cells
+    enum_known-cells-in-Spent-1
+    enum_told-1
+    enum_told-in-BadWords
+    shape_of-work-in-Found
+    returns-in-Found
+    shape_of-work-in-Finished
+    returns-in-Finished
+    shape_of-work-in-Spent
+    returns-in-Spent
+    shape_of-work-in-TooFewWords
+    returns-in-TooFewWords
+    shape_of-work-in-BadWords
+    returns-in-BadWords)

@@ -7,14 +7,14 @@ use Rattle.exports.proofs.huddlewool_strike.Tie as tie
 strike-requires : tie.Need-strike-requires
 strike-requires c κs = search rules
 
-of-strike-requires : tie.Need-of_strike-answer-requires
-of-strike-requires c κs = search rules
+of_strike-answer-requires : tie.Need-of_strike-answer-requires
+of_strike-answer-requires c κs = search rules
 
-same_length : tie.Need-shape_of-codes_out
-same_length c = search rules
+shape_of-codes_out : tie.Need-shape_of-codes_out
+shape_of-codes_out c = search rules
 
-same-length-2 : tie.Need-shape_of-positions_out
-same-length-2 c = search rules
+shape_of-positions_out : tie.Need-shape_of-positions_out
+shape_of-positions_out c = search rules
 
 returns : tie.Need-returns
 returns c =
@@ -23,4 +23,4 @@ returns c =
 
 pub huddlewool_strike_spec : {M : Type 1} → statement M
 huddlewool_strike_spec =
-    tie.close (tie.spec strike-requires of-strike-requires same_length same-length-2 returns)
+    tie.close (tie.spec strike-requires of_strike-answer-requires shape_of-codes_out shape_of-positions_out returns)

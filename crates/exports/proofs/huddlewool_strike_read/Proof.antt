@@ -4,17 +4,17 @@ use Rattle.exports.proofs.Telling.{tells_of}
 use Rattle.exports.proofs.huddlewool_strike_read.Statement.{statement}
 use Rattle.exports.proofs.huddlewool_strike_read.Tie as tie
 
-strike-read-requires : tie.Need-strike_read-requires
-strike-read-requires c κs = search rules
+strike_read-requires : tie.Need-strike_read-requires
+strike_read-requires c κs = search rules
 
-of-strike-requires : tie.Need-of_strike-answer-requires
-of-strike-requires c κs = search rules
+of_strike-answer-requires : tie.Need-of_strike-answer-requires
+of_strike-answer-requires c κs = search rules
 
-same_length : tie.Need-shape_of-codes_out
-same_length c = search rules
+shape_of-codes_out : tie.Need-shape_of-codes_out
+shape_of-codes_out c = search rules
 
-same-length-2 : tie.Need-shape_of-positions_out
-same-length-2 c = search rules
+shape_of-positions_out : tie.Need-shape_of-positions_out
+shape_of-positions_out c = search rules
 
 returns : tie.Need-returns
 returns c =
@@ -23,4 +23,4 @@ returns c =
 
 pub huddlewool_strike_read_spec : {M : Type 1} → statement M
 huddlewool_strike_read_spec =
-    tie.close (tie.spec strike-read-requires of-strike-requires same_length same-length-2 returns)
+    tie.close (tie.spec strike_read-requires of_strike-answer-requires shape_of-codes_out shape_of-positions_out returns)

@@ -15,29 +15,35 @@ use Rattle.exports.proofs.shown.Tie as tie
 
 -- what is shown of a fraction
 module _ (score : Score) (m divisor : ℕ) (is : score ≡ Fraction m divisor) where
-  too-high : signed_limit ≤ divisor → pos 0 ≡ shown score
-  too-high l = rw (is, le-ltb divisor signed_limit l)
+  too_high : signed_limit ≤ divisor → pos 0 ≡ shown score
+  too_high l = rw (is, le-ltb divisor signed_limit l)
 
-  as-divisor : divisor < signed_limit → pos divisor ≡ shown score
-  as-divisor l = rw (is, lt-ltb divisor signed_limit l)
+  as_divisor : divisor < signed_limit → pos divisor ≡ shown score
+  as_divisor l = rw (is, lt-ltb divisor signed_limit l)
 
-enum-known-score : tie.Need-enum_known-score
-enum-known-score c = search rules
+enum_known-score : tie.Need-enum_known-score
+enum_known-score c = search rules
 
-enum-known-score-2 : tie.Need-enum_known-score-in-Fraction-1
-enum-known-score-2 c = search rules
+enum_known-score-in-Fraction-1 : tie.Need-enum_known-score-in-Fraction-1
+enum_known-score-in-Fraction-1 c = search rules
 
-returns : tie.Need-returns-then-divisor-ge-SIGNED_LIMIT
-returns c = too-high _ _ _ c.in-Fraction.is c.if-divisor-ge-SIGNED_LIMIT.true
+returns-then-divisor-ge-SIGNED_LIMIT : tie.Need-returns-then-divisor-ge-SIGNED_LIMIT
+returns-then-divisor-ge-SIGNED_LIMIT c = too_high _ _ _ c.in-Fraction.is c.if-divisor-ge-SIGNED_LIMIT.true
 
-cast-result : tie.Need-overflow_cast-result
-cast-result c = search rules
+overflow_cast-result : tie.Need-overflow_cast-result
+overflow_cast-result c = search rules
 
-returns-2 : tie.Need-returns-in-Number
-returns-2 c = to_z-of_z {w = w32} (sfits_of c.in-Number.known_told-1-own.given.0.1) ∙ sym (ap shown c.in-Number.is)
+returns-in-Number : tie.Need-returns-in-Number
+returns-in-Number c = to_z-of_z {w = w32} (sfits_of c.in-Number.known_told-1-own.given.0.1) ∙ sym (ap shown c.in-Number.is)
 
-returns-3 : tie.Need-returns-else-divisor-ge-SIGNED_LIMIT
-returns-3 c = to_z_pos w32 c.if-divisor-ge-SIGNED_LIMIT.false ∙ as-divisor _ _ _ c.in-Fraction.is c.if-divisor-ge-SIGNED_LIMIT.false
+returns-else-divisor-ge-SIGNED_LIMIT : tie.Need-returns-else-divisor-ge-SIGNED_LIMIT
+returns-else-divisor-ge-SIGNED_LIMIT c = to_z_pos w32 c.if-divisor-ge-SIGNED_LIMIT.false ∙ as_divisor _ _ _ c.in-Fraction.is c.if-divisor-ge-SIGNED_LIMIT.false
 
 pub shown_spec : {M : Type 1} → statement M
-shown_spec = tie.close (tie.spec enum-known-score enum-known-score-2 returns cast-result returns-2 returns-3)
+shown_spec = tie.close (tie.spec
+    enum_known-score
+    enum_known-score-in-Fraction-1
+    returns-then-divisor-ge-SIGNED_LIMIT
+    overflow_cast-result
+    returns-in-Number
+    returns-else-divisor-ge-SIGNED_LIMIT)

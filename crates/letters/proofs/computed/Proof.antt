@@ -16,13 +16,13 @@ low s h = simp (ne_eqb s 2 (λ e. omega arith), ne_eqb s 3 (λ e. omega arith))
 high : (s : ℕ) → 2 ≤ s → s < 4 → bit_xor s 1 ≡ flipped_high s
 high s h l = ⊎_elim (λ e. rw e) (λ n. let three : s ≡ 3 = omega arith in rw three) (eq_or_ne s 2)
 
-returns : tie.Need-returns-then-s-lt2
+returns-then-s-lt2 : tie.Need-returns-then-s-lt2
 unfolding computed
-returns c = low (c.args.b / 2 % 4) (omega (arith, c.if-s-lt2.true))
+returns-then-s-lt2 c = low (c.args.b / 2 % 4) (omega (arith, c.if-s-lt2.true))
 
-returns-2 : tie.Need-returns
+returns : tie.Need-returns
 unfolding computed
-returns-2 c = high (c.args.b / 2 % 4) (omega (arith, c.if-s-lt2.false)) (omega arith)
+returns c = high (c.args.b / 2 % 4) (omega (arith, c.if-s-lt2.false)) (omega arith)
 
 pub computed_spec : {M : Type 1} → statement M
-computed_spec = tie.close (tie.spec returns returns-2)
+computed_spec = tie.close (tie.spec returns-then-s-lt2 returns)

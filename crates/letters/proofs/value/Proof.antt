@@ -22,12 +22,12 @@ one_of b (x ∷ y ∷ l) (inr h) = Memᴰ.tail (one_of b (y ∷ l) h)
 computed-requires : tie.Need-computed-requires
 computed-requires c κs = search rules
 
-returns : tie.Need-returns-in-65
-returns c = c.computed.ensures ∙ sym (computed_value c.args.b (one_of c.args.b eight c.in-65.is))
+returns-in-65 : tie.Need-returns-in-65
+returns-in-65 c = c.computed.ensures ∙ sym (computed_value c.args.b (one_of c.args.b eight c.in-65.is))
 
-returns-2 : tie.Need-returns-in_default
+returns-in_default : tie.Need-returns-in_default
 unfolding value
-returns-2 c =
+returns-in_default c =
     let b = c.args.b in
     let none = c.in_default.in_default-own.rest.1 in
     simp (
@@ -42,4 +42,4 @@ returns-2 c =
     )
 
 pub value_spec : {M : Type 1} → statement M
-value_spec = tie.close (tie.spec computed-requires returns returns-2)
+value_spec = tie.close (tie.spec computed-requires returns-in-65 returns-in_default)

@@ -33,36 +33,45 @@ module _ (b : ℕ) (l : List ℕ) (i : ℕ) where
   unfolding first_part
   left_none h = ap (λ (r : List ℕ). length (first_part b r)) (drop_of_length-le l h)
 
-loop-holds : tie.Need-loop-i-init invariant-loop decreases-loop
-loop-holds c = omega arith
+loop-i-init : tie.Need-loop-i-init invariant-loop decreases-loop
+loop-i-init c = omega arith
 
-shared-slice-read-if1 : tie.Need-bounds-bytes-i invariant-loop decreases-loop
-shared-slice-read-if1 c = omega arith
+bounds-bytes-i : tie.Need-bounds-bytes-i invariant-loop decreases-loop
+bounds-bytes-i c = omega arith
 
-returns : tie.Need-returns-then-bytes-i invariant-loop decreases-loop
+returns-then-bytes-i : tie.Need-returns-then-bytes-i invariant-loop decreases-loop
+returns-then-bytes-i c =
+    let at_loop = c in
+    let args = at_loop.args in
+    omega (arith, left_at args.b args.bytes.now at_loop.loop-i.i c.loop-i-test.true c.if-bytes-i.true)
+
+overflow_add-i : tie.Need-overflow_add-i invariant-loop decreases-loop
+overflow_add-i c = omega arith
+
+loop-i-smaller : tie.Need-loop-i-smaller invariant-loop decreases-loop
+loop-i-smaller c = omega arith
+
+loop-i-preserved : tie.Need-loop-i-preserved invariant-loop decreases-loop
+loop-i-preserved c =
+    let at_loop = c in
+    let args = at_loop.args in
+    omega (arith, left_more args.b args.bytes.now at_loop.loop-i.i c.loop-i-test.true c.if-bytes-i.false)
+
+returns : tie.Need-returns invariant-loop decreases-loop
 returns c =
-    let at-loop = c in
-    let args = at-loop.args in
-    omega (arith, left_at args.b args.bytes.now at-loop.loop-i.i c.loop-i-test.true c.if-bytes-i.true)
-
-add-i : tie.Need-overflow_add-i invariant-loop decreases-loop
-add-i c = omega arith
-
-loop-less : tie.Need-loop-i-smaller invariant-loop decreases-loop
-loop-less c = omega arith
-
-loop-again : tie.Need-loop-i-preserved invariant-loop decreases-loop
-loop-again c =
-    let at-loop = c in
-    let args = at-loop.args in
-    omega (arith, left_more args.b args.bytes.now at-loop.loop-i.i c.loop-i-test.true c.if-bytes-i.false)
-
-returns-2 : tie.Need-returns invariant-loop decreases-loop
-returns-2 c =
     let args = c.args in
     omega (arith, left_none args.b args.bytes.now c.loop-i.i c.loop-i-test.false)
 
 pub find_spec : {M : Type 1} → statement M
 find_spec =
     tie.close
-    (tie.spec invariant-loop decreases-loop loop-holds shared-slice-read-if1 returns add-i loop-less loop-again returns-2)
+    (tie.spec
+    invariant-loop
+    decreases-loop
+    loop-i-init
+    bounds-bytes-i
+    returns-then-bytes-i
+    overflow_add-i
+    loop-i-smaller
+    loop-i-preserved
+    returns)

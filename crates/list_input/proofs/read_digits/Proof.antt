@@ -20,7 +20,6 @@ invariant-loop bytes limit value₀ i₀ value i = (i ≤ length bytes) × (valu
 abbrev decreases-loop : tie.decreases-loop-i
 decreases-loop bytes limit value₀ i₀ value i = length bytes - i
 
--- places, each named for where it leads and from where
 module _ (limit value : ℕ) (l : List ℕ) (i : ℕ) where
   bad : i < length l → is_digit (get_or l i 0) ≡ false → digits_of limit value (drop i l) ≡ no_number
   bad h e = ap (digits_of limit value) (drop-cons l i 0 h) ∙ digits_bad limit value (get_or l i 0) (drop (suc i) l) e
@@ -35,75 +34,91 @@ module _ (limit value : ℕ) (l : List ℕ) (i : ℕ) where
   none : length l ≤ i → value ≤ limit → digits_of limit value (drop i l) ≡ number value
   none h k = ap (digits_of limit value) (drop_of_length-le l h) ∙ digits_end limit value k
 
-loop-holds : tie.Need-loop-i-init invariant-loop decreases-loop
-loop-holds c = (omega arith, omega arith, refl)
+loop-i-init : tie.Need-loop-i-init invariant-loop decreases-loop
+loop-i-init c = (omega arith, omega arith, refl)
 
-shared-slice-read-b : tie.Need-bounds-bytes-i invariant-loop decreases-loop
-shared-slice-read-b c = omega arith
+bounds-bytes-i : tie.Need-bounds-bytes-i invariant-loop decreases-loop
+bounds-bytes-i c = omega arith
 
-returns : tie.Need-returns-then-b-lt-ZERO invariant-loop decreases-loop
-returns c =
-    let at-loop = c in
-    let args = at-loop.args in
-    sym (bad args.limit at-loop.loop-i.value args.bytes.now at-loop.loop-i.i c.loop-i-test.true
-    (below_digit _ c.if-b-lt-ZERO.true)) ∙ at-loop.loop-i.invariant.2
+returns-then-b-lt-ZERO : tie.Need-returns-then-b-lt-ZERO invariant-loop decreases-loop
+returns-then-b-lt-ZERO c =
+    let at_loop = c in
+    let args = at_loop.args in
+    sym (bad args.limit at_loop.loop-i.value args.bytes.now at_loop.loop-i.i c.loop-i-test.true
+    (below_digit _ c.if-b-lt-ZERO.true)) ∙ at_loop.loop-i.invariant.2
 
-returns-2 : tie.Need-returns-then-b-gt-NINE invariant-loop decreases-loop
-returns-2 c =
-    let at-loop = c in
-    let args = at-loop.args in
-    sym (bad args.limit at-loop.loop-i.value args.bytes.now at-loop.loop-i.i c.loop-i-test.true
-    (above_digit _ c.if-b-gt-NINE.true)) ∙ at-loop.loop-i.invariant.2
+returns-then-b-gt-NINE : tie.Need-returns-then-b-gt-NINE invariant-loop decreases-loop
+returns-then-b-gt-NINE c =
+    let at_loop = c in
+    let args = at_loop.args in
+    sym (bad args.limit at_loop.loop-i.value args.bytes.now at_loop.loop-i.i c.loop-i-test.true
+    (above_digit _ c.if-b-gt-NINE.true)) ∙ at_loop.loop-i.invariant.2
 
-cast-more : tie.Need-overflow_cast-more invariant-loop decreases-loop
-cast-more c = omega arith
+overflow_cast-more : tie.Need-overflow_cast-more invariant-loop decreases-loop
+overflow_cast-more c = omega arith
 
-mul-more : tie.Need-overflow_mul-more invariant-loop decreases-loop
-mul-more c = omega arith
+overflow_mul-more : tie.Need-overflow_mul-more invariant-loop decreases-loop
+overflow_mul-more c = omega arith
 
-cast-more-2 : tie.Need-overflow_cast-more-in-loop-i invariant-loop decreases-loop
-cast-more-2 c = omega arith
+overflow_cast-more-in-loop-i : tie.Need-overflow_cast-more-in-loop-i invariant-loop decreases-loop
+overflow_cast-more-in-loop-i c = omega arith
 
-add-more : tie.Need-overflow_add-more invariant-loop decreases-loop
-add-more c = omega arith
+overflow_add-more : tie.Need-overflow_add-more invariant-loop decreases-loop
+overflow_add-more c = omega arith
 
-returns-3 : tie.Need-returns-then-limit-more invariant-loop decreases-loop
-returns-3 c =
-    let at-loop = c in
-    let args = at-loop.args in
+returns-then-limit-more : tie.Need-returns-then-limit-more invariant-loop decreases-loop
+returns-then-limit-more c =
+    let at_loop = c in
+    let args = at_loop.args in
     sym
-    (next args.limit at-loop.loop-i.value args.bytes.now at-loop.loop-i.i c.loop-i-test.true
+    (next args.limit at_loop.loop-i.value args.bytes.now at_loop.loop-i.i c.loop-i-test.true
     c.if-b-lt-ZERO.false c.if-b-gt-NINE.false
     ∙ digits_over args.limit _ _ c.if-limit-more.true)
-    ∙ at-loop.loop-i.invariant.2
+    ∙ at_loop.loop-i.invariant.2
 
-cast-value : tie.Need-overflow_cast-value invariant-loop decreases-loop
-cast-value c = omega arith
+overflow_cast-value : tie.Need-overflow_cast-value invariant-loop decreases-loop
+overflow_cast-value c = omega arith
 
-add-i : tie.Need-overflow_add-i invariant-loop decreases-loop
-add-i c = omega arith
+overflow_add-i : tie.Need-overflow_add-i invariant-loop decreases-loop
+overflow_add-i c = omega arith
 
-loop-less : tie.Need-loop-i-smaller invariant-loop decreases-loop
-loop-less c = omega arith
+loop-i-smaller : tie.Need-loop-i-smaller invariant-loop decreases-loop
+loop-i-smaller c = omega arith
 
-loop-again : tie.Need-loop-i-preserved invariant-loop decreases-loop
-loop-again c =
-    let at-loop = c in
-    let args = at-loop.args in (
+loop-i-preserved : tie.Need-loop-i-preserved invariant-loop decreases-loop
+loop-i-preserved c =
+    let at_loop = c in
+    let args = at_loop.args in (
       omega arith,
       c.if-limit-more.false,
-      sym (next args.limit at-loop.loop-i.value args.bytes.now at-loop.loop-i.i c.loop-i-test.true
-          c.if-b-lt-ZERO.false c.if-b-gt-NINE.false) ∙ at-loop.loop-i.invariant.2,
+      sym (next args.limit at_loop.loop-i.value args.bytes.now at_loop.loop-i.i c.loop-i-test.true
+          c.if-b-lt-ZERO.false c.if-b-gt-NINE.false) ∙ at_loop.loop-i.invariant.2,
     )
 
-returns-4 : tie.Need-returns invariant-loop decreases-loop
-returns-4 c =
-    let at-loop = c in
-    let args = at-loop.args in
-    sym (none args.limit at-loop.loop-i.value args.bytes.now at-loop.loop-i.i c.loop-i-test.false at-loop.loop-i.invariant.1)
-    ∙ at-loop.loop-i.invariant.2
+returns : tie.Need-returns invariant-loop decreases-loop
+returns c =
+    let at_loop = c in
+    let args = at_loop.args in
+    sym (none args.limit at_loop.loop-i.value args.bytes.now at_loop.loop-i.i c.loop-i-test.false at_loop.loop-i.invariant.1)
+    ∙ at_loop.loop-i.invariant.2
 
 pub read_digits_spec : {M : Type 1} → statement M
 read_digits_spec =
     tie.close
-    (tie.spec invariant-loop decreases-loop loop-holds shared-slice-read-b returns returns-2 cast-more mul-more cast-more-2 add-more returns-3 cast-value add-i loop-less loop-again returns-4)
+    (tie.spec
+    invariant-loop
+    decreases-loop
+    loop-i-init
+    bounds-bytes-i
+    returns-then-b-lt-ZERO
+    returns-then-b-gt-NINE
+    overflow_cast-more
+    overflow_mul-more
+    overflow_cast-more-in-loop-i
+    overflow_add-more
+    returns-then-limit-more
+    overflow_cast-value
+    overflow_add-i
+    loop-i-smaller
+    loop-i-preserved
+    returns)

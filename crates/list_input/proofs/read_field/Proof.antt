@@ -17,7 +17,6 @@ use borrow.Author.Rules.{rules}
 use Rattle.list_input.proofs.read_field.Statement.{statement}
 use Rattle.list_input.proofs.read_field.Tie as tie
 
--- places, each named for where it leads and from where
 module _ (line : List ℕ) (from n : ℕ) (inside : from ≤ length line)
     (found : n ≡ length (first_part space (take (length line - from) (drop from line)))) where
   abbrev rest : List ℕ
@@ -42,62 +41,62 @@ module _ (line : List ℕ) (from n : ℕ) (inside : from ≤ length line)
       ∙ ap (λ (j : ℕ). as_field (from + j + 1) (number_of (word_limit - 1) (first_part space (drop from line)))) place
       ∙ sym (field_some line from (omega arith))
 
-sub-rest : tie.Need-slice_bounds-rest-count
-sub-rest c = search rules
+slice_bounds-rest-count : tie.Need-slice_bounds-rest-count
+slice_bounds-rest-count c = search rules
 
-part-rest-start : tie.Need-slice_bounds-rest-start
-part-rest-start c = search rules
+slice_bounds-rest-start : tie.Need-slice_bounds-rest-start
+slice_bounds-rest-start c = search rules
 
-part-rest-end : tie.Need-slice_bounds-rest-end
-part-rest-end c = search rules
+slice_bounds-rest-end : tie.Need-slice_bounds-rest-end
+slice_bounds-rest-end c = search rules
 
-find-requires : tie.Need-find-n-requires
-find-requires c κs = search rules
+find-n-requires : tie.Need-find-n-requires
+find-n-requires c κs = search rules
 
-returns : tie.Need-returns-then-n-rest
-returns c = none c.args.line.now c.args.from c.find-n.result
+returns-then-n-rest : tie.Need-returns-then-n-rest
+returns-then-n-rest c = none c.args.line.now c.args.from c.find-n.result
     c.requires c.find-n.ensures c.if-n-rest.true
 
-slice-aggregate-read-number : tie.Need-slice_bounds-read_number-end
-slice-aggregate-read-number c =
+slice_bounds-read_number-end : tie.Need-slice_bounds-read_number-end
+slice_bounds-read_number-end c =
     sym (length-take-le c.find-n.result _
     (short c.args.line.now c.args.from
     c.find-n.result c.requires c.find-n.ensures))
 
-read-number-requires : tie.Need-read_number-requires
-read-number-requires c κs = search rules
+read_number-requires : tie.Need-read_number-requires
+read_number-requires c κs = search rules
 
-enum_told : tie.Need-enum_told-1
-enum_told c = search rules
+enum_told-1 : tie.Need-enum_told-1
+enum_told-1 c = search rules
 
-enum-known-value : tie.Need-enum_known-value
-enum-known-value c = search rules
+enum_known-value : tie.Need-enum_known-value
+enum_known-value c = search rules
 
-add-t14 : tie.Need-overflow_add-result
-add-t14 c = omega (
+overflow_add-result : tie.Need-overflow_add-result
+overflow_add-result c = omega (
   arith,
   found_inside space c.args.line.now c.args.from
       c.find-n.result c.requires
       c.find-n.ensures,
 )
 
-add-t15 : tie.Need-overflow_add-result-in-Value
-add-t15 c = omega (
+overflow_add-result-in-Value : tie.Need-overflow_add-result-in-Value
+overflow_add-result-in-Value c = omega (
   arith,
   found_inside space c.args.line.now c.args.from
       c.find-n.result c.requires
       c.find-n.ensures,
 )
 
-returns-2 : tie.Need-returns-in-Malformed
-returns-2 c =
+returns-in-Malformed : tie.Need-returns-in-Malformed
+returns-in-Malformed c =
     some c.args.line.now c.args.from
     c.find-n.result c.requires
     c.find-n.ensures c.if-n-rest.false
     c.read_number.ensures c.in-Malformed.is
 
-returns-3 : tie.Need-returns-in-Value
-returns-3 c =
+returns-in-Value : tie.Need-returns-in-Value
+returns-in-Value c =
     some c.args.line.now c.args.from
     c.find-n.result c.requires
     c.find-n.ensures c.if-n-rest.false
@@ -106,4 +105,17 @@ returns-3 c =
 pub read_field_spec : {M : Type 1} → statement M
 read_field_spec =
     tie.close
-    (tie.spec sub-rest part-rest-start part-rest-end find-requires returns slice-aggregate-read-number read-number-requires enum_told enum-known-value add-t14 add-t15 returns-2 returns-3)
+    (tie.spec
+    slice_bounds-rest-count
+    slice_bounds-rest-start
+    slice_bounds-rest-end
+    find-n-requires
+    returns-then-n-rest
+    slice_bounds-read_number-end
+    read_number-requires
+    enum_told-1
+    enum_known-value
+    overflow_add-result
+    overflow_add-result-in-Value
+    returns-in-Malformed
+    returns-in-Value)

@@ -25,7 +25,6 @@ invariant-loop line numbers₀ at₀ i₀ numbers at i = (i ≤ 5) × (at ≤ le
 abbrev decreases-loop : tie.decreases-loop-i
 decreases-loop line numbers₀ at₀ i₀ numbers at i = 5 - i
 
--- places, each named for where it leads and from where
 module _ (line numbers : List ℕ) (at i : ℕ) (long : length numbers ≡ 5)
     (same : left (5 - i) (take i numbers) (fields (drop at line)) ≡ first_line_of (fields line)) where
   one_more : i < 5 → left (suc (5 - (i + 1))) (take i numbers) (fields (drop at line)) ≡ first_line_of (fields line)
@@ -40,8 +39,8 @@ module _ (line numbers : List ℕ) (at i : ℕ) (long : length numbers ≡ 5)
       ∙ sym (left_field line at (5 - (i + 1)) (take i numbers) e)
       ∙ one_more h
 
-  no-field : i < 5 → field_of line at ≡ no_field → no_first_line ≡ first_line_of (fields line)
-  no-field h e = sym (left_malformed line at (5 - (i + 1)) (take i numbers) e) ∙ one_more h
+  malformed_field : i < 5 → field_of line at ≡ no_field → no_first_line ≡ first_line_of (fields line)
+  malformed_field h e = sym (left_malformed line at (5 - (i + 1)) (take i numbers) e) ∙ one_more h
 
   -- what the last field makes of the fourth and the fifth number
   abbrev last_of : List ℕ → LastField
@@ -57,38 +56,38 @@ module _ (line numbers : List ℕ) (at i : ℕ) (long : length numbers ≡ 5)
       ∙ ap (λ (n : ℕ). left n (take i numbers) (fields (drop at line))) (sym five)
       ∙ same
 
-loop-holds : tie.Need-loop-i-init invariant-loop decreases-loop
-loop-holds c = (omega arith, omega arith, refl, left_all _)
+loop-i-init : tie.Need-loop-i-init invariant-loop decreases-loop
+loop-i-init c = (omega arith, omega arith, refl, left_all _)
 
-read-field-requires : tie.Need-read_field-requires invariant-loop decreases-loop
-read-field-requires c κs = search rules
+read_field-requires : tie.Need-read_field-requires invariant-loop decreases-loop
+read_field-requires c κs = search rules
 
-enum_told : tie.Need-enum_told-1 invariant-loop decreases-loop
-enum_told c = search rules
+enum_told-1 : tie.Need-enum_told-1 invariant-loop decreases-loop
+enum_told-1 c = search rules
 
-returns : tie.Need-returns-in-Malformed invariant-loop decreases-loop
-returns c = no-field c.args.line.now c.loop-i.numbers
+returns-in-Malformed : tie.Need-returns-in-Malformed invariant-loop decreases-loop
+returns-in-Malformed c = malformed_field c.args.line.now c.loop-i.numbers
     c.loop-i.at c.loop-i.i c.loop-i.invariant.2
     c.loop-i.invariant.3 c.loop-i-test.true
     (sym c.read_field.ensures ∙ c.in-Malformed.is)
 
-enum-known-value : tie.Need-enum_known-value invariant-loop decreases-loop
-enum-known-value c = search rules
+enum_known-value : tie.Need-enum_known-value invariant-loop decreases-loop
+enum_known-value c = search rules
 
-mul-numbers : tie.Need-offset_bounds-numbers-i invariant-loop decreases-loop
-mul-numbers c = search rules
+offset_bounds-numbers-i : tie.Need-offset_bounds-numbers-i invariant-loop decreases-loop
+offset_bounds-numbers-i c = search rules
 
-array-write-numbers : tie.Need-bounds-numbers-i invariant-loop decreases-loop
-array-write-numbers c = search rules
+bounds-numbers-i : tie.Need-bounds-numbers-i invariant-loop decreases-loop
+bounds-numbers-i c = search rules
 
-add-i : tie.Need-overflow_add-i invariant-loop decreases-loop
-add-i c = search rules
+overflow_add-i : tie.Need-overflow_add-i invariant-loop decreases-loop
+overflow_add-i c = search rules
 
-loop-less : tie.Need-loop-i-smaller invariant-loop decreases-loop
-loop-less c = search rules
+loop-i-smaller : tie.Need-loop-i-smaller invariant-loop decreases-loop
+loop-i-smaller c = search rules
 
-loop-again : tie.Need-loop-i-preserved invariant-loop decreases-loop
-loop-again c = (
+loop-i-preserved : tie.Need-loop-i-preserved invariant-loop decreases-loop
+loop-i-preserved c = (
   omega arith,
   next_inside _ _ (sym c.read_field.ensures ∙ c.in-Given.is),
   simp length-set c.loop-i.invariant.2,
@@ -99,49 +98,49 @@ loop-again c = (
       (sym c.read_field.ensures ∙ c.in-Given.is),
 )
 
-sub-read-last-field : tie.Need-slice_bounds-read_last_field-count invariant-loop decreases-loop
-sub-read-last-field c = search rules
+slice_bounds-read_last_field-count : tie.Need-slice_bounds-read_last_field-count invariant-loop decreases-loop
+slice_bounds-read_last_field-count c = search rules
 
-part-read-last-field-start : tie.Need-slice_bounds-read_last_field-start invariant-loop decreases-loop
-part-read-last-field-start c = search rules
+slice_bounds-read_last_field-start : tie.Need-slice_bounds-read_last_field-start invariant-loop decreases-loop
+slice_bounds-read_last_field-start c = search rules
 
-part-read-last-field-end : tie.Need-slice_bounds-read_last_field-end invariant-loop decreases-loop
-part-read-last-field-end c = search rules
+slice_bounds-read_last_field-end : tie.Need-slice_bounds-read_last_field-end invariant-loop decreases-loop
+slice_bounds-read_last_field-end c = search rules
 
-array-read-read-last-field : tie.Need-bounds-numbers-3 invariant-loop decreases-loop
-array-read-read-last-field c = search rules
+bounds-numbers-3 : tie.Need-bounds-numbers-3 invariant-loop decreases-loop
+bounds-numbers-3 c = search rules
 
-array-read-read-last-field-2 : tie.Need-bounds-numbers-4 invariant-loop decreases-loop
-array-read-read-last-field-2 c = search rules
+bounds-numbers-4 : tie.Need-bounds-numbers-4 invariant-loop decreases-loop
+bounds-numbers-4 c = search rules
 
-read-last-field-requires : tie.Need-read_last_field-requires invariant-loop decreases-loop
-read-last-field-requires c κs = search rules
+read_last_field-requires : tie.Need-read_last_field-requires invariant-loop decreases-loop
+read_last_field-requires c κs = search rules
 
-enum-told-2 : tie.Need-enum_told-in-Malformed-read_last_field invariant-loop decreases-loop
-enum-told-2 c = search rules
+enum_told-in-Malformed-read_last_field : tie.Need-enum_told-in-Malformed-read_last_field invariant-loop decreases-loop
+enum_told-in-Malformed-read_last_field c = search rules
 
-enum-known-scoring : tie.Need-enum_known-scoring invariant-loop decreases-loop
-enum-known-scoring c = search rules
+enum_known-scoring : tie.Need-enum_known-scoring invariant-loop decreases-loop
+enum_known-scoring c = search rules
 
-array-read-t27 : tie.Need-bounds-numbers-0 invariant-loop decreases-loop
-array-read-t27 c = search rules
+bounds-numbers-0 : tie.Need-bounds-numbers-0 invariant-loop decreases-loop
+bounds-numbers-0 c = search rules
 
-array-read-t30 : tie.Need-bounds-numbers-1 invariant-loop decreases-loop
-array-read-t30 c = search rules
+bounds-numbers-1 : tie.Need-bounds-numbers-1 invariant-loop decreases-loop
+bounds-numbers-1 c = search rules
 
-array-read-t33 : tie.Need-bounds-numbers-2 invariant-loop decreases-loop
-array-read-t33 c = search rules
+bounds-numbers-2 : tie.Need-bounds-numbers-2 invariant-loop decreases-loop
+bounds-numbers-2 c = search rules
 
-returns-2 : tie.Need-returns-in-Malformed-read_last_field invariant-loop decreases-loop
-returns-2 c =
+returns-in-Malformed-read_last_field : tie.Need-returns-in-Malformed-read_last_field invariant-loop decreases-loop
+returns-in-Malformed-read_last_field c =
     all_read c.args.line.now c.loop-i.numbers
     c.loop-i.at c.loop-i.i
     c.loop-i.invariant.2 c.loop-i.invariant.3
     c.loop-i-test.false c.loop-i.invariant.0
     c.read_last_field.ensures c.in-Malformed-read_last_field.is
 
-returns-3 : tie.Need-returns-in-Given-read_last_field invariant-loop decreases-loop
-returns-3 c =
+returns-in-Given-read_last_field : tie.Need-returns-in-Given-read_last_field invariant-loop decreases-loop
+returns-in-Given-read_last_field c =
     all_read c.args.line.now c.loop-i.numbers
     c.loop-i.at c.loop-i.i
     c.loop-i.invariant.2 c.loop-i.invariant.3
@@ -151,4 +150,29 @@ returns-3 c =
 pub read_first_line_spec : {M : Type 1} → statement M
 read_first_line_spec =
     tie.close
-    (tie.spec invariant-loop decreases-loop loop-holds read-field-requires enum_told returns enum-known-value mul-numbers array-write-numbers add-i loop-less loop-again sub-read-last-field part-read-last-field-start part-read-last-field-end array-read-read-last-field array-read-read-last-field-2 read-last-field-requires enum-told-2 enum-known-scoring array-read-t27 array-read-t30 array-read-t33 returns-2 returns-3)
+    (tie.spec
+    invariant-loop
+    decreases-loop
+    loop-i-init
+    read_field-requires
+    enum_told-1
+    returns-in-Malformed
+    enum_known-value
+    offset_bounds-numbers-i
+    bounds-numbers-i
+    overflow_add-i
+    loop-i-smaller
+    loop-i-preserved
+    slice_bounds-read_last_field-count
+    slice_bounds-read_last_field-start
+    slice_bounds-read_last_field-end
+    bounds-numbers-3
+    bounds-numbers-4
+    read_last_field-requires
+    enum_told-in-Malformed-read_last_field
+    enum_known-scoring
+    bounds-numbers-0
+    bounds-numbers-1
+    bounds-numbers-2
+    returns-in-Malformed-read_last_field
+    returns-in-Given-read_last_field)

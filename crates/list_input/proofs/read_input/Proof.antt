@@ -46,11 +46,11 @@ module _ (c : tie.Else-first_end-end) where
   abbrev text : ℕ
   text = n₁ c.before + 1
 
-  text-inside : text ≤ length (bytes c.before)
-  text-inside = omega (arith, inside₁ c.before, c.if-first_end-end.false)
+  text_inside : text ≤ length (bytes c.before)
+  text_inside = omega (arith, inside₁ c.before, c.if-first_end-end.false)
 
   lines₁ : lines (bytes c.before) ≡ take (n₁ c.before) (bytes c.before) ∷ parts line_feed (drop text (bytes c.before))
-  lines₁ = first_more (bytes c.before) (n₁ c.before) c.find-first_end.ensures (omega (arith, text-inside))
+  lines₁ = first_more (bytes c.before) (n₁ c.before) c.find-first_end.ensures (omega (arith, text_inside))
 
 -- ---- the text line
 
@@ -65,21 +65,21 @@ module _ (c : tie.After-find-text_length) where
   n₂ = c.find-text_length.result
 
   inside₂ : text₂ + n₂ ≤ length bytes₂
-  inside₂ = found_inside line_feed bytes₂ text₂ n₂ (text-inside c.before.before) c.find-text_length.ensures
+  inside₂ = found_inside line_feed bytes₂ text₂ n₂ (text_inside c.before.before) c.find-text_length.ensures
 
-  two-lines : text₂ + n₂ ≡ length bytes₂ → lines bytes₂ ≡ take (n₁ (found₁ c)) bytes₂ ∷ drop text₂ bytes₂ ∷ []
-  two-lines e =
+  two_lines : text₂ + n₂ ≡ length bytes₂ → lines bytes₂ ≡ take (n₁ (found₁ c)) bytes₂ ∷ drop text₂ bytes₂ ∷ []
+  two_lines e =
       lines₁ c.before.before
       ∙ ap (λ (ls : List (List ℕ)). take (n₁ (found₁ c)) bytes₂ ∷ ls)
-      (found_end line_feed bytes₂ text₂ n₂ (text-inside c.before.before) c.find-text_length.ensures e)
+      (found_end line_feed bytes₂ text₂ n₂ (text_inside c.before.before) c.find-text_length.ensures e)
 
 -- with a line feed behind it
 module _ (c : tie.Else-text_end-end) where
   abbrev read : ℕ
   read = text₂ c.before + n₂ c.before + 1
 
-  read-inside : read ≤ length (bytes₂ c.before)
-  read-inside = omega (arith, inside₂ c.before, c.if-text_end-end.false)
+  read_inside : read ≤ length (bytes₂ c.before)
+  read_inside = omega (arith, inside₂ c.before, c.if-text_end-end.false)
 
   lines₂ : lines (bytes₂ c.before)
       ≡ take (n₁ (found₁ c.before)) (bytes₂ c.before)
@@ -88,8 +88,8 @@ module _ (c : tie.Else-text_end-end) where
   lines₂ =
       lines₁ c.before.before.before
       ∙ ap (λ (ls : List (List ℕ)). take (n₁ (found₁ c.before)) (bytes₂ c.before) ∷ ls)
-      (found_more line_feed (bytes₂ c.before) (text₂ c.before) (n₂ c.before) (text-inside c.before.before.before)
-      c.find-text_length.ensures (omega (arith, read-inside)))
+      (found_more line_feed (bytes₂ c.before) (text₂ c.before) (n₂ c.before) (text_inside c.before.before.before)
+      c.find-text_length.ensures (omega (arith, read_inside)))
 
 -- ---- the read line
 
@@ -113,13 +113,13 @@ module _ (c : tie.After-find-read_length) where
   line₂ = take (n₂ (found₂ c)) (drop text₃ bytes₃)
 
   inside₃ : read₃ + n₃ ≤ length bytes₃
-  inside₃ = found_inside line_feed bytes₃ read₃ n₃ (read-inside c.before.before) c.find-read_length.ensures
+  inside₃ = found_inside line_feed bytes₃ read₃ n₃ (read_inside c.before.before) c.find-read_length.ensures
 
   three_lines : read₃ + n₃ ≡ length bytes₃ → lines bytes₃ ≡ line₁ ∷ line₂ ∷ drop read₃ bytes₃ ∷ []
   three_lines e =
       lines₂ c.before.before
       ∙ ap (λ (ls : List (List ℕ)). line₁ ∷ line₂ ∷ ls)
-      (found_end line_feed bytes₃ read₃ n₃ (read-inside c.before.before) c.find-read_length.ensures e)
+      (found_end line_feed bytes₃ read₃ n₃ (read_inside c.before.before) c.find-read_length.ensures e)
 
 -- with a line feed behind it
 module _ (c : tie.Else-read_end-end) where
@@ -133,121 +133,145 @@ module _ (c : tie.Else-read_end-end) where
   lines₃ =
       lines₂ c.before.before.before
       ∙ ap (λ (ls : List (List ℕ)). line₁ c.before ∷ line₂ c.before ∷ ls)
-      (found_more line_feed (bytes₃ c.before) (read₃ c.before) (n₃ c.before) (read-inside c.before.before.before)
+      (found_more line_feed (bytes₃ c.before) (read₃ c.before) (n₃ c.before) (read_inside c.before.before.before)
       c.find-read_length.ensures (omega (arith, inside₃ c.before, c.if-read_end-end.false)))
 
-  length-first : length (line₁ c.before) ≡ n₁ (found₁ (found₂ c.before))
-  length-first = length-take-le _ _ (inside₁ (found₁ (found₂ c.before)))
+  length_first : length (line₁ c.before) ≡ n₁ (found₁ (found₂ c.before))
+  length_first = length-take-le _ _ (inside₁ (found₁ (found₂ c.before)))
 
-  length-text : length (line₂ c.before) ≡ n₂ (found₂ c.before)
-  length-text = length-take-le _ _ (omega (arith, length-drop (text₃ c.before) (bytes₃ c.before), inside₂ (found₂ c.before)))
+  length_text : length (line₂ c.before) ≡ n₂ (found₂ c.before)
+  length_text = length-take-le _ _ (omega (arith, length-drop (text₃ c.before) (bytes₃ c.before), inside₂ (found₂ c.before)))
 
-  length-read : length line₃ ≡ n₃ c.before
-  length-read = length-take-le _ _ (omega (arith, length-drop (read₃ c.before) (bytes₃ c.before), inside₃ c.before))
+  length_read : length line₃ ≡ n₃ c.before
+  length_read = length-take-le _ _ (omega (arith, length-drop (read₃ c.before) (bytes₃ c.before), inside₃ c.before))
 
 -- ---- the answer
 
 -- the three lines decide, with what was read of the first
 module _ (c : tie.After-read_first_line) where
-  abbrev short-lines : tie.Else-read_length-gt-PATTERN_LIMIT
-  short-lines = c.before
+  abbrev short_lines : tie.Else-read_length-gt-PATTERN_LIMIT
+  short_lines = c.before
 
   abbrev third : tie.Else-read_end-end
-  third = short-lines.before.before
+  third = short_lines.before.before
 
-  first-line-decides : {other : FirstLine} → c.read_first_line.result ≡ other
+  first_line_decides : {other : FirstLine} → c.read_first_line.result ≡ other
       → request_of (bytes₃ third.before)
       ≡ as_request other (length (line₁ third.before)) (length (line₂ third.before)) (length (line₃ third))
   unfolding request_of
-  first-line-decides e =
+  first_line_decides e =
       ap request_from (lines₃ third)
       ∙ by_first_line (line₁ third.before ∷ line₂ third.before ∷ line₃ third ∷ rest third)
       (omega (arith, some_part line_feed (drop (read₃ third.before + n₃ third.before + 1) (bytes₃ third.before))))
-      (omega (arith, length-text third, c.if-text_length-gt-PATTERN_LIMIT.false))
-      (omega (arith, length-read third, c.if-read_length-gt-PATTERN_LIMIT.false))
+      (omega (arith, length_text third, c.if-text_length-gt-PATTERN_LIMIT.false))
+      (omega (arith, length_read third, c.if-read_length-gt-PATTERN_LIMIT.false))
       ∙ ap (λ (a : FirstLine). as_request a (length (line₁ third.before)) (length (line₂ third.before)) (length (line₃ third)))
       (sym c.read_first_line.ensures ∙ e)
 
-find-requires : tie.Need-find-first_end-requires
-find-requires c κs = search rules
+find-first_end-requires : tie.Need-find-first_end-requires
+find-first_end-requires c κs = search rules
 
-returns : tie.Need-returns-then-first_end-end
-returns c = refused _ (first_end (bytes c.before) (n₁ c.before) c.find-first_end.ensures c.if-first_end-end.true) (few_lines _ (omega arith))
+returns-then-first_end-end : tie.Need-returns-then-first_end-end
+returns-then-first_end-end c = refused _ (first_end (bytes c.before) (n₁ c.before) c.find-first_end.ensures c.if-first_end-end.true) (few_lines _ (omega arith))
 
-add-text : tie.Need-overflow_add-text
-add-text c = omega (arith, text-inside c)
+overflow_add-text : tie.Need-overflow_add-text
+overflow_add-text c = omega (arith, text_inside c)
 
-sub-find : tie.Need-slice_bounds-find-count
-sub-find c = text-inside c
+slice_bounds-find-count : tie.Need-slice_bounds-find-count
+slice_bounds-find-count c = text_inside c
 
-part-find-start : tie.Need-slice_bounds-find-start
-part-find-start c = text-inside c
+slice_bounds-find-start : tie.Need-slice_bounds-find-start
+slice_bounds-find-start c = text_inside c
 
-part-find-end : tie.Need-slice_bounds-find-end
-part-find-end c = search rules
+slice_bounds-find-end : tie.Need-slice_bounds-find-end
+slice_bounds-find-end c = search rules
 
-find-requires-2 : tie.Need-find-text_length-requires
-find-requires-2 c κs = search rules
+find-text_length-requires : tie.Need-find-text_length-requires
+find-text_length-requires c κs = search rules
 
-add-text-end : tie.Need-overflow_add-text_end
-add-text-end c = omega (arith, inside₂ c)
+overflow_add-text_end : tie.Need-overflow_add-text_end
+overflow_add-text_end c = omega (arith, inside₂ c)
 
-returns-2 : tie.Need-returns-then-text_end-end
-returns-2 c = refused _ (two-lines c.before c.if-text_end-end.true) (few_lines _ (omega arith))
+returns-then-text_end-end : tie.Need-returns-then-text_end-end
+returns-then-text_end-end c = refused _ (two_lines c.before c.if-text_end-end.true) (few_lines _ (omega arith))
 
-add_read : tie.Need-overflow_add-read
-add_read c = omega (arith, read-inside c)
+overflow_add-read : tie.Need-overflow_add-read
+overflow_add-read c = omega (arith, read_inside c)
 
-sub-find-2 : tie.Need-slice_bounds-find-count-2
-sub-find-2 c = read-inside c
+slice_bounds-find-count-2 : tie.Need-slice_bounds-find-count-2
+slice_bounds-find-count-2 c = read_inside c
 
-part-find-start-2 : tie.Need-slice_bounds-find-start-2
-part-find-start-2 c = read-inside c
+slice_bounds-find-start-2 : tie.Need-slice_bounds-find-start-2
+slice_bounds-find-start-2 c = read_inside c
 
-part-find-end-2 : tie.Need-slice_bounds-find-end-2
-part-find-end-2 c = search rules
+slice_bounds-find-end-2 : tie.Need-slice_bounds-find-end-2
+slice_bounds-find-end-2 c = search rules
 
-find-requires-3 : tie.Need-find-read_length-requires
-find-requires-3 c κs = search rules
+find-read_length-requires : tie.Need-find-read_length-requires
+find-read_length-requires c κs = search rules
 
-add-read-end : tie.Need-overflow_add-read_end
-add-read-end c = omega (arith, inside₃ c)
+overflow_add-read_end : tie.Need-overflow_add-read_end
+overflow_add-read_end c = omega (arith, inside₃ c)
 
-returns-3 : tie.Need-returns-then-read_end-end
-returns-3 c = refused _ (three_lines c.before c.if-read_end-end.true) (few_lines _ (omega arith))
+returns-then-read_end-end : tie.Need-returns-then-read_end-end
+returns-then-read_end-end c = refused _ (three_lines c.before c.if-read_end-end.true) (few_lines _ (omega arith))
 
-returns-4 : tie.Need-returns-then-text_length-gt-PATTERN_LIMIT
-returns-4 c = refused _ (lines₃ c.before) (long_text _ (omega (arith, length-text c.before, c.if-text_length-gt-PATTERN_LIMIT.true)))
+returns-then-text_length-gt-PATTERN_LIMIT : tie.Need-returns-then-text_length-gt-PATTERN_LIMIT
+returns-then-text_length-gt-PATTERN_LIMIT c = refused _ (lines₃ c.before) (long_text _ (omega (arith, length_text c.before, c.if-text_length-gt-PATTERN_LIMIT.true)))
 
-returns-5 : tie.Need-returns-then-read_length-gt-PATTERN_LIMIT
-returns-5 c = refused _ (lines₃ c.before.before) (long_read _ (omega (arith, length-read c.before.before, c.if-read_length-gt-PATTERN_LIMIT.true)))
+returns-then-read_length-gt-PATTERN_LIMIT : tie.Need-returns-then-read_length-gt-PATTERN_LIMIT
+returns-then-read_length-gt-PATTERN_LIMIT c = refused _ (lines₃ c.before.before) (long_read _ (omega (arith, length_read c.before.before, c.if-read_length-gt-PATTERN_LIMIT.true)))
 
-slice-aggregate-read-first-line : tie.Need-slice_bounds-read_first_line-end
-slice-aggregate-read-first-line c = sym (length-take-le _ _ (inside₁ (found₁ (found₂ c.before.before.before))))
+slice_bounds-read_first_line-end : tie.Need-slice_bounds-read_first_line-end
+slice_bounds-read_first_line-end c = sym (length-take-le _ _ (inside₁ (found₁ (found₂ c.before.before.before))))
 
-read-first-line-requires : tie.Need-read_first_line-requires
-read-first-line-requires c κs = search rules
+read_first_line-requires : tie.Need-read_first_line-requires
+read_first_line-requires c κs = search rules
 
-enum_told : tie.Need-enum_told-1
-enum_told c = search rules
+enum_told-1 : tie.Need-enum_told-1
+enum_told-1 c = search rules
 
-enum-known-k : tie.Need-enum_known-k
-enum-known-k c = search rules
+enum_known-k : tie.Need-enum_known-k
+enum_known-k c = search rules
 
-returns-6 : tie.Need-returns-in-Malformed
-returns-6 c = sym (first-line-decides c.before c.in-Malformed.is)
+returns-in-Malformed : tie.Need-returns-in-Malformed
+returns-in-Malformed c = sym (first_line_decides c.before c.in-Malformed.is)
 
-returns-7 : tie.Need-returns-in-Given
-returns-7 c =
-    let at-line = c.before in
-    let at-third = third at-line in
-    let n = length-first at-third in
-    let m = length-text at-third in
-    let l = length-read at-third in
+returns-in-Given : tie.Need-returns-in-Given
+returns-in-Given c =
+    let at_line = c.before in
+    let at_third = third at_line in
+    let n = length_first at_third in
+    let m = length_text at_third in
+    let l = length_read at_third in
     (λ i. request_at (record { k = c.in-Given.k; w = c.in-Given.w; c = c.in-Given.c; scoring = c.in-Given.scoring }) (sym n i) (sym m i) (sym l i))
-    ∙ sym (first-line-decides at-line c.in-Given.is)
+    ∙ sym (first_line_decides at_line c.in-Given.is)
 
 pub read_input_spec : {M : Type 1} → statement M
 read_input_spec =
     tie.close
-    (tie.spec find-requires returns add-text sub-find part-find-start part-find-end find-requires-2 add-text-end returns-2 add_read sub-find-2 part-find-start-2 part-find-end-2 find-requires-3 add-read-end returns-3 returns-4 returns-5 slice-aggregate-read-first-line read-first-line-requires enum_told enum-known-k returns-6 returns-7)
+    (tie.spec
+    find-first_end-requires
+    returns-then-first_end-end
+    overflow_add-text
+    slice_bounds-find-count
+    slice_bounds-find-start
+    slice_bounds-find-end
+    find-text_length-requires
+    overflow_add-text_end
+    returns-then-text_end-end
+    overflow_add-read
+    slice_bounds-find-count-2
+    slice_bounds-find-start-2
+    slice_bounds-find-end-2
+    find-read_length-requires
+    overflow_add-read_end
+    returns-then-read_end-end
+    returns-then-text_length-gt-PATTERN_LIMIT
+    returns-then-read_length-gt-PATTERN_LIMIT
+    slice_bounds-read_first_line-end
+    read_first_line-requires
+    enum_told-1
+    enum_known-k
+    returns-in-Malformed
+    returns-in-Given)

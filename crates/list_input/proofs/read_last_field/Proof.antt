@@ -17,8 +17,8 @@ use Rattle.list_input.proofs.read_last_field.Statement.{statement}
 use Rattle.list_input.proofs.read_last_field.Tie as tie
 
 -- places, each named for where it leads and from where
-abbrev else1-read-signed : tie.After-read_signed → tie.Else-same
-else1-read-signed c = c.before
+abbrev else1_read_signed : tie.After-read_signed → tie.Else-same
+else1_read_signed c = c.before
 
 module _ (c : tie.After-same) where
   abbrev bytes : List ℕ
@@ -32,7 +32,7 @@ module _ (c : tie.After-same) where
 -- what the threshold makes, where the word does not stand there
 module _ (c : tie.After-read_signed) where
   abbrev compared : tie.After-same
-  compared = (else1-read-signed c).before
+  compared = (else1_read_signed c).before
 
   read : {other : Threshold} → c.read_signed.result ≡ other
       → as_linear c.args.fourth c.args.fifth other ≡ last_field_of c.args.fourth c.args.fifth (bytes compared)
@@ -43,29 +43,36 @@ module _ (c : tie.After-read_signed) where
 same-requires : tie.Need-same-requires
 same-requires c κs = search rules
 
-returns : tie.Need-returns-then-same
-returns c = sym (last_word _ _ _ (tested c.before c.if-same.true))
+returns-then-same : tie.Need-returns-then-same
+returns-then-same c = sym (last_word _ _ _ (tested c.before c.if-same.true))
 
-read-signed-requires : tie.Need-read_signed-requires
-read-signed-requires c κs = search rules
+read_signed-requires : tie.Need-read_signed-requires
+read_signed-requires c κs = search rules
 
-enum_told : tie.Need-enum_told-1
-enum_told c = search rules
+enum_told-1 : tie.Need-enum_told-1
+enum_told-1 c = search rules
 
-enum-known-threshold : tie.Need-enum_known-threshold
-enum-known-threshold c = search rules
+enum_known-threshold : tie.Need-enum_known-threshold
+enum_known-threshold c = search rules
 
-returns-2 : tie.Need-returns-in-Malformed
-returns-2 c = read c.before c.in-Malformed.is
+returns-in-Malformed : tie.Need-returns-in-Malformed
+returns-in-Malformed c = read c.before c.in-Malformed.is
 
-returns-3 : tie.Need-returns-in-Value
-returns-3 c =
-    let at-signed = c.before in
-    let args = at-signed.args in
+returns-in-Value : tie.Need-returns-in-Value
+returns-in-Value c =
+    let at_signed = c.before in
+    let args = at_signed.args in
     ap (λ (z : ℤ). scored (Linear args.fourth args.fifth z)) (to_z-of_z {w = w32} (sfits_of c.in-Value.known_told-1-own.given.0.1))
-    ∙ read at-signed c.in-Value.is
+    ∙ read at_signed c.in-Value.is
 
 pub read_last_field_spec : {M : Type 1} → statement M
 read_last_field_spec =
     tie.close
-    (tie.spec same-requires returns read-signed-requires enum_told enum-known-threshold returns-2 returns-3)
+    (tie.spec
+    same-requires
+    returns-then-same
+    read_signed-requires
+    enum_told-1
+    enum_known-threshold
+    returns-in-Malformed
+    returns-in-Value)

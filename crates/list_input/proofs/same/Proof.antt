@@ -20,11 +20,11 @@ abbrev decreases-loop : tie.decreases-loop-i
 decreases-loop a b i₀ i = length a - i
 
 -- places, each named for where it leads and from where
-abbrev in-loop-then2 : tie.Then-a-i invariant-loop decreases-loop → tie.In-loop-i invariant-loop decreases-loop
-in-loop-then2 c = c.before.before.before
+abbrev in_loop_then2 : tie.Then-a-i invariant-loop decreases-loop → tie.In-loop-i invariant-loop decreases-loop
+in_loop_then2 c = c.before.before.before
 
-abbrev in-loop-else2 : tie.Else-a-i invariant-loop decreases-loop → tie.In-loop-i invariant-loop decreases-loop
-in-loop-else2 c = c.before.before.before
+abbrev in_loop_else2 : tie.Else-a-i invariant-loop decreases-loop → tie.In-loop-i invariant-loop decreases-loop
+in_loop_else2 c = c.before.before.before
 
 module _ (a b : List ℕ) where
   unlike : (length a ≡ length b → ⊥) → false ≡ same_bytes a b
@@ -48,50 +48,61 @@ module _ (a b : List ℕ) where
   none_left : (i : ℕ) → length a ≤ i → length a ≡ length b → same_bytes (drop i a) (drop i b) ≡ true
   none_left i h long = ap₂ same_bytes (drop_of_length-le a h) (let h₂ : length b ≤ i = omega arith in drop_of_length-le b h₂)
 
-returns : tie.Need-returns-then-a-b invariant-loop decreases-loop
-returns c = unlike c.args.a.now c.args.b.now (λ e. omega (arith, e, c.if-a-b.true))
+returns-then-a-b : tie.Need-returns-then-a-b invariant-loop decreases-loop
+returns-then-a-b c = unlike c.args.a.now c.args.b.now (λ e. omega (arith, e, c.if-a-b.true))
 
-loop-holds : tie.Need-loop-i-init invariant-loop decreases-loop
-loop-holds c = (omega arith, c.if-a-b.false, refl)
+loop-i-init : tie.Need-loop-i-init invariant-loop decreases-loop
+loop-i-init c = (omega arith, c.if-a-b.false, refl)
 
-shared-slice-read-if2 : tie.Need-bounds-a-i invariant-loop decreases-loop
-shared-slice-read-if2 c = omega arith
+bounds-a-i : tie.Need-bounds-a-i invariant-loop decreases-loop
+bounds-a-i c = omega arith
 
-shared-slice-read-if2-2 : tie.Need-bounds-b-i invariant-loop decreases-loop
-shared-slice-read-if2-2 c = omega arith
+bounds-b-i : tie.Need-bounds-b-i invariant-loop decreases-loop
+bounds-b-i c = omega arith
 
-returns-2 : tie.Need-returns-then-a-i invariant-loop decreases-loop
-returns-2 c =
-    let inside = in-loop-then2 c in
-    let at-loop = inside in
-    let args = at-loop.args in
-    sym (other_byte args.a.now args.b.now at-loop.loop-i.i inside.loop-i-test.true at-loop.loop-i.invariant.1 c.if-a-i.true)
-    ∙ at-loop.loop-i.invariant.2
+returns-then-a-i : tie.Need-returns-then-a-i invariant-loop decreases-loop
+returns-then-a-i c =
+    let inside = in_loop_then2 c in
+    let at_loop = inside in
+    let args = at_loop.args in
+    sym (other_byte args.a.now args.b.now at_loop.loop-i.i inside.loop-i-test.true at_loop.loop-i.invariant.1 c.if-a-i.true)
+    ∙ at_loop.loop-i.invariant.2
 
-add-i : tie.Need-overflow_add-i invariant-loop decreases-loop
-add-i c = omega arith
+overflow_add-i : tie.Need-overflow_add-i invariant-loop decreases-loop
+overflow_add-i c = omega arith
 
-loop-less : tie.Need-loop-i-smaller invariant-loop decreases-loop
-loop-less c = omega arith
+loop-i-smaller : tie.Need-loop-i-smaller invariant-loop decreases-loop
+loop-i-smaller c = omega arith
 
-loop-again : tie.Need-loop-i-preserved invariant-loop decreases-loop
-loop-again c =
-    let inside = in-loop-else2 c in
-    let at-loop = inside in
-    let args = at-loop.args in (
+loop-i-preserved : tie.Need-loop-i-preserved invariant-loop decreases-loop
+loop-i-preserved c =
+    let inside = in_loop_else2 c in
+    let at_loop = inside in
+    let args = at_loop.args in (
       omega arith,
-      at-loop.loop-i.invariant.1,
-      sym (same_byte args.a.now args.b.now at-loop.loop-i.i inside.loop-i-test.true at-loop.loop-i.invariant.1 c.if-a-i.false)
-          ∙ at-loop.loop-i.invariant.2,
+      at_loop.loop-i.invariant.1,
+      sym (same_byte args.a.now args.b.now at_loop.loop-i.i inside.loop-i-test.true at_loop.loop-i.invariant.1 c.if-a-i.false)
+          ∙ at_loop.loop-i.invariant.2,
     )
 
-returns-3 : tie.Need-returns invariant-loop decreases-loop
-returns-3 c =
-    let at-loop = c in
-    let args = at-loop.args in
-    sym (none_left args.a.now args.b.now at-loop.loop-i.i c.loop-i-test.false at-loop.loop-i.invariant.1) ∙ at-loop.loop-i.invariant.2
+returns : tie.Need-returns invariant-loop decreases-loop
+returns c =
+    let at_loop = c in
+    let args = at_loop.args in
+    sym (none_left args.a.now args.b.now at_loop.loop-i.i c.loop-i-test.false at_loop.loop-i.invariant.1) ∙ at_loop.loop-i.invariant.2
 
 pub same_spec : {M : Type 1} → statement M
 same_spec =
     tie.close
-    (tie.spec invariant-loop decreases-loop returns loop-holds shared-slice-read-if2 shared-slice-read-if2-2 returns-2 add-i loop-less loop-again returns-3)
+    (tie.spec
+    invariant-loop
+    decreases-loop
+    returns-then-a-b
+    loop-i-init
+    bounds-a-i
+    bounds-b-i
+    returns-then-a-i
+    overflow_add-i
+    loop-i-smaller
+    loop-i-preserved
+    returns)

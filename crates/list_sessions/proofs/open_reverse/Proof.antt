@@ -16,8 +16,8 @@ use Rattle.list_sessions.proofs.open_reverse.Tie as tie
 abbrev at_open : tie.After-slice_known-4-1 → tie.After-open
 at_open c = c.before.before.before.before
 
-abbrev at-letters : tie.After-open → tie.After-letters-3-1
-at-letters c = c.before.before.before
+abbrev at_letters : tie.After-open → tie.After-letters-3-1
+at_letters c = c.before.before.before
 
 -- the local letters behind the call
 module _ (c : tie.After-letters-3-1) where
@@ -30,29 +30,29 @@ module _ (c : tie.After-letters-3-1) where
       let room : length read ≤ length c.line_bytes-letters.result = omega (arith, c.requires, c.line_bytes-letters.ensures) in
       ap (take (length read)) c.reverse_complement.ensures.1 ∙ front_complement read c.line_bytes-letters.result room
 
-line-bytes-requires : tie.Need-line_bytes-letters-requires
-line-bytes-requires c κs = search rules
+line_bytes-letters-requires : tie.Need-line_bytes-letters-requires
+line_bytes-letters-requires c κs = search rules
 
-slice-aggregate-reverse-complement : tie.Need-slice_bounds-reverse_complement-end
-slice-aggregate-reverse-complement c = search rules
+slice_bounds-reverse_complement-end : tie.Need-slice_bounds-reverse_complement-end
+slice_bounds-reverse_complement-end c = search rules
 
-reverse-complement-requires : tie.Need-reverse_complement-requires
-reverse-complement-requires c κs = search rules
+reverse_complement-requires : tie.Need-reverse_complement-requires
+reverse_complement-requires c κs = search rules
 
-array-share-prefix-letters : tie.Need-slice_bounds-letters-end
-array-share-prefix-letters c = search rules
+slice_bounds-letters-end : tie.Need-slice_bounds-letters-end
+slice_bounds-letters-end c = search rules
 
-slice-aggregate-open : tie.Need-slice_bounds-open-end
-slice-aggregate-open c = sym (ap length (front c) ∙ length_complement (read c))
+slice_bounds-open-end : tie.Need-slice_bounds-open-end
+slice_bounds-open-end c = sym (ap length (front c) ∙ length_complement (read c))
 
 open-requires : tie.Need-open-requires
 open-requires c κs = search rules
 
-same_length : tie.Need-shape_of-positions
-same_length c = search rules
+shape_of-positions : tie.Need-shape_of-positions
+shape_of-positions c = search rules
 
-same-length-2 : tie.Need-shape_of-work
-same-length-2 c = search rules
+shape_of-work : tie.Need-shape_of-work
+shape_of-work c = search rules
 
 returns : tie.Need-returns
 returns c =
@@ -61,9 +61,18 @@ returns c =
     (λ (l : List ℕ).
     Opens args.settings args.text.now l args.positions.now args.work.now c.«open».result c.«open».new.positions
     c.«open».new.work)
-    (front (at-letters (at_open c))) c.«open».ensures
+    (front (at_letters (at_open c))) c.«open».ensures
 
 pub open_reverse_spec : {M : Type 1} → statement M
 open_reverse_spec =
     tie.close
-    (tie.spec line-bytes-requires slice-aggregate-reverse-complement reverse-complement-requires array-share-prefix-letters slice-aggregate-open open-requires same_length same-length-2 returns)
+    (tie.spec
+    line_bytes-letters-requires
+    slice_bounds-reverse_complement-end
+    reverse_complement-requires
+    slice_bounds-letters-end
+    slice_bounds-open-end
+    open-requires
+    shape_of-positions
+    shape_of-work
+    returns)

@@ -13,71 +13,71 @@ use Rattle.list_sessions.proofs.open_sessions.Tie as tie
 abbrev told : tie.After-open_both-arg-in-Given-1 → tie.In-Given
 told c = c.before.before
 
-abbrev at-lines : tie.After-open_both-arg-in-Given-4-1 → tie.After-open_both-arg-in-Given-1
-at-lines c = c.before.before.before
+abbrev at_lines : tie.After-open_both-arg-in-Given-4-1 → tie.After-open_both-arg-in-Given-1
+at_lines c = c.before.before.before
 
 abbrev at_both : tie.After-slice_known-in-Given-3-1 → tie.After-open_both
 at_both c = c.before.before.before.before.before.before
 
 -- where the two lines lie
-lines-lie : (c : tie.In-Given)
+lines_lie : (c : tie.In-Given)
     → LinesInside c.in-Given.text c.in-Given.text_end c.in-Given.read c.in-Given.read_end
     c.args.bytes.now
-lines-lie c = lines_inside _ _ c.read_input.ensures _ _ _ _ _ _ _ _ c.in-Given.is
+lines_lie c = lines_inside _ _ c.read_input.ensures _ _ _ _ _ _ _ _ c.in-Given.is
 
-part-short : (bytes : List ℕ) (from end limit : ℕ) → end - from ≤ limit → length (take (end - from) (drop from bytes)) ≤ limit
-part-short bytes from end limit h = simp length-take (omega arith)
+part_short : (bytes : List ℕ) (from end limit : ℕ) → end - from ≤ limit → length (take (end - from) (drop from bytes)) ≤ limit
+part_short bytes from end limit h = simp length-take (omega arith)
 
-read-input-requires : tie.Need-read_input-requires
-read-input-requires c κs = search rules
+read_input-requires : tie.Need-read_input-requires
+read_input-requires c κs = search rules
 
-enum_told : tie.Need-enum_told-1
-enum_told c = search rules
+enum_told-1 : tie.Need-enum_told-1
+enum_told-1 c = search rules
 
-enum-known-k : tie.Need-enum_known-k
-enum-known-k c = search rules
+enum_known-k : tie.Need-enum_known-k
+enum_known-k c = search rules
 
-sub-open-both : tie.Need-slice_bounds-open_both-count
-sub-open-both c = (lines-lie c).text-order
+slice_bounds-open_both-count : tie.Need-slice_bounds-open_both-count
+slice_bounds-open_both-count c = (lines_lie c).text-order
 
-part-open-both-start : tie.Need-slice_bounds-open_both-start
-part-open-both-start c = (lines-lie c).text-order
+slice_bounds-open_both-start : tie.Need-slice_bounds-open_both-start
+slice_bounds-open_both-start c = (lines_lie c).text-order
 
-part-open-both-end : tie.Need-slice_bounds-open_both-end
-part-open-both-end c = (lines-lie c).text-inside
+slice_bounds-open_both-end : tie.Need-slice_bounds-open_both-end
+slice_bounds-open_both-end c = (lines_lie c).text-inside
 
-sub-open-both-2 : tie.Need-slice_bounds-open_both-count-in-Given
-sub-open-both-2 c = (lines-lie c.before).read-order
+slice_bounds-open_both-count-in-Given : tie.Need-slice_bounds-open_both-count-in-Given
+slice_bounds-open_both-count-in-Given c = (lines_lie c.before).read-order
 
-part-open-both-start-2 : tie.Need-slice_bounds-open_both-start-in-Given
-part-open-both-start-2 c = (lines-lie c.before).read-order
+slice_bounds-open_both-start-in-Given : tie.Need-slice_bounds-open_both-start-in-Given
+slice_bounds-open_both-start-in-Given c = (lines_lie c.before).read-order
 
-part-open-both-end-2 : tie.Need-slice_bounds-open_both-end-in-Given
-part-open-both-end-2 c = (lines-lie c.before).read-inside
+slice_bounds-open_both-end-in-Given : tie.Need-slice_bounds-open_both-end-in-Given
+slice_bounds-open_both-end-in-Given c = (lines_lie c.before).read-inside
 
-open-both-requires : tie.Need-open_both-requires
-open-both-requires c κs = part-short _ _ _ _ (lines-lie (told (at-lines c))).read_short
+open_both-requires : tie.Need-open_both-requires
+open_both-requires c κs = part_short _ _ _ _ (lines_lie (told (at_lines c))).read_short
 
-returns : tie.Need-returns-in-Malformed
-returns c =
+returns-in-Malformed : tie.Need-returns-in-Malformed
+returns-in-Malformed c =
     let read = c in
     let args = read.args in
     opens_malformed args.bytes.now read.read_input.result read.read_input.ensures c.in-Malformed.is args.positions.now
     args.forward.now args.reverse.now
 
-same_length : tie.Need-shape_of-positions
-same_length c = search rules
+shape_of-positions : tie.Need-shape_of-positions
+shape_of-positions c = search rules
 
-same-length-2 : tie.Need-shape_of-forward
-same-length-2 c = search rules
+shape_of-forward : tie.Need-shape_of-forward
+shape_of-forward c = search rules
 
-same-length-3 : tie.Need-shape_of-reverse
-same-length-3 c = search rules
+shape_of-reverse : tie.Need-shape_of-reverse
+shape_of-reverse c = search rules
 
-returns-2 : tie.Need-returns-in-Given
-returns-2 c =
+returns-in-Given : tie.Need-returns-in-Given
+returns-in-Given c =
     let both = at_both c in
-    let known = told (at-lines both.before) in
+    let known = told (at_lines both.before) in
     let read = known in
     let args = read.args in
     opens_given args.bytes.now read.read_input.result read.read_input.ensures _ _ _ _ _ _ _ _ known.in-Given.is
@@ -86,4 +86,19 @@ returns-2 c =
 pub open_sessions_spec : {M : Type 1} → statement M
 open_sessions_spec =
     tie.close
-    (tie.spec read-input-requires enum_told enum-known-k sub-open-both part-open-both-start part-open-both-end sub-open-both-2 part-open-both-start-2 part-open-both-end-2 open-both-requires returns same_length same-length-2 same-length-3 returns-2)
+    (tie.spec
+    read_input-requires
+    enum_told-1
+    enum_known-k
+    slice_bounds-open_both-count
+    slice_bounds-open_both-start
+    slice_bounds-open_both-end
+    slice_bounds-open_both-count-in-Given
+    slice_bounds-open_both-start-in-Given
+    slice_bounds-open_both-end-in-Given
+    open_both-requires
+    returns-in-Malformed
+    shape_of-positions
+    shape_of-forward
+    shape_of-reverse
+    returns-in-Given)

@@ -7,30 +7,37 @@ use borrow.Author.Rules.{rules}
 use Rattle.marking.proofs.mark_rare.Statement.{statement}
 use Rattle.marking.proofs.mark_rare.Tie as tie
 
-returns : tie.Need-returns-then-deciding-gt-TEXT_LIMIT
-returns c = mark_many _ _ _ _ c.if-deciding-gt-TEXT_LIMIT.true
+returns-then-deciding-gt-TEXT_LIMIT : tie.Need-returns-then-deciding-gt-TEXT_LIMIT
+returns-then-deciding-gt-TEXT_LIMIT c = mark_many _ _ _ _ c.if-deciding-gt-TEXT_LIMIT.true
 
-returns-2 : tie.Need-returns-then-marks-n
-returns-2 c = mark_short _ _ _ _ c.if-deciding-gt-TEXT_LIMIT.false c.if-marks-n.true
+returns-then-marks-n : tie.Need-returns-then-marks-n
+returns-then-marks-n c = mark_short _ _ _ _ c.if-deciding-gt-TEXT_LIMIT.false c.if-marks-n.true
 
-slice-relend-prefix-mark-words : tie.Need-slice_bounds-mark_words-end
-slice-relend-prefix-mark-words c = search rules
+slice_bounds-mark_words-end : tie.Need-slice_bounds-mark_words-end
+slice_bounds-mark_words-end c = search rules
 
-slice-aggregate-mark-words : tie.Need-slice_bounds-mark_words-end-2
-slice-aggregate-mark-words c = sym (length-take-le _ _ (omega arith))
+slice_bounds-mark_words-end-2 : tie.Need-slice_bounds-mark_words-end-2
+slice_bounds-mark_words-end-2 c = sym (length-take-le _ _ (omega arith))
 
-mark-words-requires : tie.Need-mark_words-requires
-mark-words-requires c κs = (c.if-deciding-gt-TEXT_LIMIT.false, length-take-le _ _ (omega arith))
+mark_words-requires : tie.Need-mark_words-requires
+mark_words-requires c κs = (c.if-deciding-gt-TEXT_LIMIT.false, length-take-le _ _ (omega arith))
 
-same_length : tie.Need-shape_of-marks
-same_length c = search rules
+shape_of-marks : tie.Need-shape_of-marks
+shape_of-marks c = search rules
 
-returns-3 : tie.Need-returns
-returns-3 c =
+returns : tie.Need-returns
+returns c =
     let marked = c in
     mark_enough _ _ _ _ _ marked.if-deciding-gt-TEXT_LIMIT.false marked.if-marks-n.false marked.mark_words.ensures
 
 pub mark_rare_spec : {M : Type 1} → statement M
 mark_rare_spec =
     tie.close
-    (tie.spec returns returns-2 slice-relend-prefix-mark-words slice-aggregate-mark-words mark-words-requires same_length returns-3)
+    (tie.spec
+    returns-then-deciding-gt-TEXT_LIMIT
+    returns-then-marks-n
+    slice_bounds-mark_words-end
+    slice_bounds-mark_words-end-2
+    mark_words-requires
+    shape_of-marks
+    returns)

@@ -16,28 +16,28 @@ listed c = c.before.before.before.before
 long : (c : tie.After-list_frequent-n) → length (take c.list_frequent-n.result c.list_frequent-n.new.list) ≡ c.list_frequent-n.result
 long c = length-take-le _ _ (omega arith)
 
-text-zeros-requires : tie.Need-text_zeros-list-requires
-text-zeros-requires c κs = search rules
+text_zeros-list-requires : tie.Need-text_zeros-list-requires
+text_zeros-list-requires c κs = search rules
 
-slice-aggregate-list-frequent : tie.Need-slice_bounds-list_frequent-end
-slice-aggregate-list-frequent c = search rules
+slice_bounds-list_frequent-end : tie.Need-slice_bounds-list_frequent-end
+slice_bounds-list_frequent-end c = search rules
 
-list-frequent-requires : tie.Need-list_frequent-n-requires
-list-frequent-requires c κs = search rules
+list_frequent-n-requires : tie.Need-list_frequent-n-requires
+list_frequent-n-requires c κs = search rules
 
-array-share-prefix-list : tie.Need-slice_bounds-list-end
-array-share-prefix-list c = search rules
+slice_bounds-list-end : tie.Need-slice_bounds-list-end
+slice_bounds-list-end c = search rules
 
-slice-aggregate-mark-by-list : tie.Need-slice_bounds-mark_by_list-end
-slice-aggregate-mark-by-list c = sym (long c.before.before)
+slice_bounds-mark_by_list-end : tie.Need-slice_bounds-mark_by_list-end
+slice_bounds-mark_by_list-end c = sym (long c.before.before)
 
-mark-by-list-requires : tie.Need-mark_by_list-requires
-mark-by-list-requires c κs =
+mark_by_list-requires : tie.Need-mark_by_list-requires
+mark_by_list-requires c κs =
     let listed = c.before.before.before in
     (listed.list_frequent-n.ensures.1.in_order, omega (arith, long listed), search rules)
 
-same_length : tie.Need-shape_of-marks
-same_length c = search rules
+shape_of-marks : tie.Need-shape_of-marks
+shape_of-marks c = search rules
 
 returns : tie.Need-returns
 returns c =
@@ -48,4 +48,12 @@ returns c =
 pub mark_words_spec : {M : Type 1} → statement M
 mark_words_spec =
     tie.close
-    (tie.spec text-zeros-requires slice-aggregate-list-frequent list-frequent-requires array-share-prefix-list slice-aggregate-mark-by-list mark-by-list-requires same_length returns)
+    (tie.spec
+    text_zeros-list-requires
+    slice_bounds-list_frequent-end
+    list_frequent-n-requires
+    slice_bounds-list-end
+    slice_bounds-mark_by_list-end
+    mark_by_list-requires
+    shape_of-marks
+    returns)

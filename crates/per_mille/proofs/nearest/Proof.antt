@@ -17,42 +17,51 @@ module _ (dividend divisor : ℕ) where
   unfolding nearest rounded
   more l m = simp (le-ltb _ _ l, lt-ltb _ _ m)
 
-  half-even : divisor ≤ 2 * (dividend % divisor) → 2 * (dividend % divisor) ≤ divisor → dividend / divisor % 2 ≡ 0
+  half_even : divisor ≤ 2 * (dividend % divisor) → 2 * (dividend % divisor) ≤ divisor → dividend / divisor % 2 ≡ 0
       → dividend / divisor ≡ nearest dividend divisor
   unfolding nearest rounded even_of
-  half-even l m e = simp (le-ltb _ _ l, le-ltb _ _ m, eq-eqb _ _ e)
+  half_even l m e = simp (le-ltb _ _ l, le-ltb _ _ m, eq-eqb _ _ e)
 
-  half-odd : divisor ≤ 2 * (dividend % divisor) → 2 * (dividend % divisor) ≤ divisor → (dividend / divisor % 2 ≡ 0 → ⊥)
+  half_odd : divisor ≤ 2 * (dividend % divisor) → 2 * (dividend % divisor) ≤ divisor → (dividend / divisor % 2 ≡ 0 → ⊥)
       → dividend / divisor + 1 ≡ nearest dividend divisor
   unfolding nearest rounded even_of
-  half-odd l m o = simp (le-ltb _ _ l, le-ltb _ _ m, ne_eqb _ _ o)
+  half_odd l m o = simp (le-ltb _ _ l, le-ltb _ _ m, ne_eqb _ _ o)
 
-div-quotient : tie.Need-nonzero_div-quotient
-div-quotient c = search rules
+nonzero_div-quotient : tie.Need-nonzero_div-quotient
+nonzero_div-quotient c = search rules
 
-rem-twice : tie.Need-nonzero_rem-twice
-rem-twice c = search rules
+nonzero_rem-twice : tie.Need-nonzero_rem-twice
+nonzero_rem-twice c = search rules
 
-mul-twice : tie.Need-overflow_mul-twice
-mul-twice c = search (rules, mod-lt c.args.dividend c.requires.0)
+overflow_mul-twice : tie.Need-overflow_mul-twice
+overflow_mul-twice c = search (rules, mod-lt c.args.dividend c.requires.0)
 
-returns : tie.Need-returns-then-twice-divisor
-returns c = less _ _ c.if-twice-divisor.true
+returns-then-twice-divisor : tie.Need-returns-then-twice-divisor
+returns-then-twice-divisor c = less _ _ c.if-twice-divisor.true
 
-add-result : tie.Need-overflow_add-result
-add-result c = let entry = c.args in search (rules, div-le_self entry.dividend entry.divisor)
+overflow_add-result : tie.Need-overflow_add-result
+overflow_add-result c = let entry = c.args in search (rules, div-le_self entry.dividend entry.divisor)
 
-returns-2 : tie.Need-returns-then-divisor-twice
-returns-2 c = more _ _ c.if-twice-divisor.false c.if-divisor-twice.true
+returns-then-divisor-twice : tie.Need-returns-then-divisor-twice
+returns-then-divisor-twice c = more _ _ c.if-twice-divisor.false c.if-divisor-twice.true
 
-returns-3 : tie.Need-returns-then-quotient-eq0
-returns-3 c = half-even _ _ c.if-twice-divisor.false c.if-divisor-twice.false c.if-quotient-eq0.true
+returns-then-quotient-eq0 : tie.Need-returns-then-quotient-eq0
+returns-then-quotient-eq0 c = half_even _ _ c.if-twice-divisor.false c.if-divisor-twice.false c.if-quotient-eq0.true
 
-add-result-2 : tie.Need-overflow_add-result-2
-add-result-2 c = let entry = c.args in search (rules, div-le_self entry.dividend entry.divisor)
+overflow_add-result-2 : tie.Need-overflow_add-result-2
+overflow_add-result-2 c = let entry = c.args in search (rules, div-le_self entry.dividend entry.divisor)
 
-returns-4 : tie.Need-returns
-returns-4 c = half-odd _ _ c.if-twice-divisor.false c.if-divisor-twice.false c.if-quotient-eq0.false
+returns : tie.Need-returns
+returns c = half_odd _ _ c.if-twice-divisor.false c.if-divisor-twice.false c.if-quotient-eq0.false
 
 pub nearest_spec : {M : Type 1} → statement M
-nearest_spec = tie.close (tie.spec div-quotient rem-twice mul-twice returns add-result returns-2 returns-3 add-result-2 returns-4)
+nearest_spec = tie.close (tie.spec
+    nonzero_div-quotient
+    nonzero_rem-twice
+    overflow_mul-twice
+    returns-then-twice-divisor
+    overflow_add-result
+    returns-then-divisor-twice
+    returns-then-quotient-eq0
+    overflow_add-result-2
+    returns)

@@ -17,21 +17,21 @@ use Rattle.per_mille.proofs.PerMille.{per_mille_at_most}
 use Rattle.per_mille.proofs.per_mille.Statement.{statement}
 use Rattle.per_mille.proofs.per_mille.Tie as tie
 
-returns : tie.Need-returns-then-len-m
+returns-then-len-m : tie.Need-returns-then-len-m
 unfolding per_mille_number is_refused
-returns c = simp (lt-ltb _ _ c.if-len-m.true)
+returns-then-len-m c = simp (lt-ltb _ _ c.if-len-m.true)
 
-returns-2 : tie.Need-returns-then-size-m
+returns-then-size-m : tie.Need-returns-then-size-m
 unfolding per_mille_number is_refused
-returns-2 c = simp (le-ltb _ _ c.if-len-m.false, lt-ltb _ _ c.if-size-m.true)
+returns-then-size-m c = simp (le-ltb _ _ c.if-len-m.false, lt-ltb _ _ c.if-size-m.true)
 
-returns-3 : tie.Need-returns-then-len-gt-TEXT_LIMIT
+returns-then-len-gt-TEXT_LIMIT : tie.Need-returns-then-len-gt-TEXT_LIMIT
 unfolding per_mille_number is_refused
-returns-3 c = simp (le-ltb _ _ c.if-len-m.false, le-ltb _ _ c.if-size-m.false, lt-ltb _ _ c.if-len-gt-TEXT_LIMIT.true)
+returns-then-len-gt-TEXT_LIMIT c = simp (le-ltb _ _ c.if-len-m.false, le-ltb _ _ c.if-size-m.false, lt-ltb _ _ c.if-len-gt-TEXT_LIMIT.true)
 
-returns-4 : tie.Need-returns-then-size-gt-PATTERN_LIMIT
+returns-then-size-gt-PATTERN_LIMIT : tie.Need-returns-then-size-gt-PATTERN_LIMIT
 unfolding per_mille_number is_refused
-returns-4 c =
+returns-then-size-gt-PATTERN_LIMIT c =
     let first = c in
     simp (
       le-ltb _ _ first.if-len-m.false,
@@ -40,8 +40,8 @@ returns-4 c =
       lt-ltb pattern_limit first.args.size (omega arith),
     )
 
-add-if5 : tie.Need-overflow_add-len
-add-if5 c = search rules
+overflow_add-len : tie.Need-overflow_add-len
+overflow_add-len c = search rules
 
 module _ (m len size : ℕ) (in_len : m ≤ len) (in_size : m ≤ size) (len-fits : len ≤ text_limit) (size_fits : size ≤ pattern_limit) where
   both_zero : len + size ≡ 0 → negsuc 15 ≡ per_mille_number m len size
@@ -50,8 +50,8 @@ module _ (m len size : ℕ) (in_len : m ≤ len) (in_size : m ≤ size) (len-fit
       simp
       (le-ltb _ _ in_len, le-ltb _ _ in_size, le-ltb _ _ len-fits, le-ltb _ _ size_fits, eq-eqb len 0 (omega arith), eq-eqb size 0 (omega arith))
 
-  not-both-zero : (len + size ≡ 0 → ⊥) → (eqb len 0 && eqb size 0) ≡ false
-  not-both-zero ne = go (eqb len 0) refl
+  not_both_zero : (len + size ≡ 0 → ⊥) → (eqb len 0 && eqb size 0) ≡ false
+  not_both_zero ne = go (eqb len 0) refl
     where
       go : (b : Bool) → eqb len 0 ≡ b → (b && eqb size 0) ≡ false
       go true e = let z : len ≡ 0 = eqb-true len 0 e in ne_eqb size 0 (λ y. ne (omega arith))
@@ -62,21 +62,21 @@ module _ (m len size : ℕ) (in_len : m ≤ len) (in_size : m ≤ size) (len-fit
   accepted ne =
       let most : per_mille m len size ≤ 1000 = per_mille_at_most m len size in_len in_size (omega arith) in
       let fits : per_mille m len size < 2 ^ 31 = omega arith in
-      (fits, to_z_pos w32 fits ∙ simp (le-ltb _ _ in_len, le-ltb _ _ in_size, le-ltb _ _ len-fits, le-ltb _ _ size_fits, not-both-zero ne))
+      (fits, to_z_pos w32 fits ∙ simp (le-ltb _ _ in_len, le-ltb _ _ in_size, le-ltb _ _ len-fits, le-ltb _ _ size_fits, not_both_zero ne))
 
-returns-5 : tie.Need-returns-then-len-size-eq0
-returns-5 c =
+returns-then-len-size-eq0 : tie.Need-returns-then-len-size-eq0
+returns-then-len-size-eq0 c =
     let third = c in
     both_zero _ _ _ third.if-len-m.false third.if-size-m.false third.if-len-gt-TEXT_LIMIT.false c.if-size-gt-PATTERN_LIMIT.false c.if-len-size-eq0.true
 
-mul-nearest : tie.Need-overflow_mul-m
-mul-nearest c = search rules
+overflow_mul-m : tie.Need-overflow_mul-m
+overflow_mul-m c = search rules
 
-add-nearest : tie.Need-overflow_add-len-2
-add-nearest c = search rules
+overflow_add-len-2 : tie.Need-overflow_add-len-2
+overflow_add-len-2 c = search rules
 
-sub-nearest : tie.Need-overflow_sub-len
-sub-nearest c = search rules
+overflow_sub-len : tie.Need-overflow_sub-len
+overflow_sub-len c = search rules
 
 nearest-requires : tie.Need-nearest-requires
 nearest-requires c κs = search rules
@@ -95,18 +95,30 @@ module _ (c : tie.After-nearest) where
   unfolding per_mille
   computed = c.nearest.ensures
 
-  computed-is : (c.nearest.result < 2 ^ 31) × (to_z w32 c.nearest.result ≡ per_mille_number entry.args.m entry.args.len entry.args.size)
-  computed-is =
+  computed_is : (c.nearest.result < 2 ^ 31) × (to_z w32 c.nearest.result ≡ per_mille_number entry.args.m entry.args.len entry.args.size)
+  computed_is =
       subst (λ (x : ℕ). (x < 2 ^ 31) × (to_z w32 x ≡ per_mille_number entry.args.m entry.args.len entry.args.size)) (sym computed)
       (accepted _ _ _ first.if-len-m.false third.if-size-m.false third.if-len-gt-TEXT_LIMIT.false c.if-size-gt-PATTERN_LIMIT.false c.if-len-size-eq0.false)
 
-cast-result : tie.Need-overflow_cast-result
-cast-result c = record { sfits = (computed-is c).0 }
+overflow_cast-result : tie.Need-overflow_cast-result
+overflow_cast-result c = record { sfits = (computed_is c).0 }
 
-returns-6 : tie.Need-returns
-returns-6 c = (computed-is c).1
+returns : tie.Need-returns
+returns c = (computed_is c).1
 
 pub per_mille_spec : {M : Type 1} → statement M
 per_mille_spec =
     tie.close
-    (tie.spec returns returns-2 returns-3 returns-4 add-if5 returns-5 mul-nearest add-nearest sub-nearest nearest-requires cast-result returns-6)
+    (tie.spec
+    returns-then-len-m
+    returns-then-size-m
+    returns-then-len-gt-TEXT_LIMIT
+    returns-then-size-gt-PATTERN_LIMIT
+    overflow_add-len
+    returns-then-len-size-eq0
+    overflow_mul-m
+    overflow_add-len-2
+    overflow_sub-len
+    nearest-requires
+    overflow_cast-result
+    returns)

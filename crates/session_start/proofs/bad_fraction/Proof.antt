@@ -5,21 +5,21 @@ use Rattle.session_start.specs.Start.{bad_fraction}
 use Rattle.session_start.proofs.bad_fraction.Statement.{statement}
 use Rattle.session_start.proofs.bad_fraction.Tie as tie
 
-returns : tie.Need-returns-then-g-lt1
+returns-then-g-lt1 : tie.Need-returns-then-g-lt1
 unfolding bad_fraction
-returns c = rw (lt-ltb c.args.g 1 c.if-g-lt1.true)
+returns-then-g-lt1 c = rw (lt-ltb c.args.g 1 c.if-g-lt1.true)
 
-returns-2 : tie.Need-returns-then-g-gt-DIVISOR_LIMIT
+returns-then-g-gt-DIVISOR_LIMIT : tie.Need-returns-then-g-gt-DIVISOR_LIMIT
 unfolding bad_fraction
-returns-2 c =
+returns-then-g-gt-DIVISOR_LIMIT c =
     let g = c.args.g in
     rw (le-ltb g 1 c.if-g-lt1.false, lt-ltb divisor_limit g c.if-g-gt-DIVISOR_LIMIT.true)
 
-returns-3 : tie.Need-returns
+returns : tie.Need-returns
 unfolding bad_fraction
-returns-3 c =
+returns c =
     let g = c.args.g in
     rw (le-ltb g 1 c.if-g-lt1.false, le-ltb divisor_limit g c.if-g-gt-DIVISOR_LIMIT.false)
 
 pub bad_fraction_spec : {M : Type 1} → statement M
-bad_fraction_spec = tie.close (tie.spec returns returns-2 returns-3)
+bad_fraction_spec = tie.close (tie.spec returns-then-g-lt1 returns-then-g-gt-DIVISOR_LIMIT returns)

@@ -6,35 +6,43 @@ use mathlib.Core.Path.{sym, ap, ◌∙◌}
 use Rattle.session_start.proofs.bad_scoring.Statement.{statement}
 use Rattle.session_start.proofs.bad_scoring.Tie as tie
 
-enum-known-scoring : tie.Need-enum_known-scoring
-enum-known-scoring c = search rules
+enum_known-scoring : tie.Need-enum_known-scoring
+enum_known-scoring c = search rules
 
-bad-weight-requires : tie.Need-bad_weight-requires
-bad-weight-requires c κs = search rules
+bad_weight-requires : tie.Need-bad_weight-requires
+bad_weight-requires c κs = search rules
 
-bad-weight-requires-2 : tie.Need-bad_weight-requires-else-bad_weight
-bad-weight-requires-2 c κs = search rules
+bad_weight-requires-else-bad_weight : tie.Need-bad_weight-requires-else-bad_weight
+bad_weight-requires-else-bad_weight c κs = search rules
 
-enum-known-scoring-2 : tie.Need-enum_known-scoring-in-Jaccard-1
-enum-known-scoring-2 c = search rules
+enum_known-scoring-in-Jaccard-1 : tie.Need-enum_known-scoring-in-Jaccard-1
+enum_known-scoring-in-Jaccard-1 c = search rules
 
-bad-fraction-requires : tie.Need-bad_fraction-requires
-bad-fraction-requires c κs = search rules
+bad_fraction-requires : tie.Need-bad_fraction-requires
+bad_fraction-requires c κs = search rules
 
-returns : tie.Need-returns-then-bad_weight
-returns c =
-    let bad-u = sym c.bad_weight.ensures ∙ c.if-bad_weight.true in
-    c.if-bad_weight.true ∙ sym (ap bad_scoring c.in-Linear.is ∙ bad_first c.in-Linear.u c.in-Linear.v bad-u)
+returns-then-bad_weight : tie.Need-returns-then-bad_weight
+returns-then-bad_weight c =
+    let bad_u = sym c.bad_weight.ensures ∙ c.if-bad_weight.true in
+    c.if-bad_weight.true ∙ sym (ap bad_scoring c.in-Linear.is ∙ bad_first c.in-Linear.u c.in-Linear.v bad_u)
 
-returns-2 : tie.Need-returns-else-bad_weight
-returns-2 c =
-    let good-u = sym c.bad_weight.ensures ∙ c.if-bad_weight.false in
-    c.bad_weight-else-bad_weight.ensures ∙ sym (ap bad_scoring c.in-Linear.is ∙ good_first c.in-Linear.u c.in-Linear.v good-u)
+returns-else-bad_weight : tie.Need-returns-else-bad_weight
+returns-else-bad_weight c =
+    let good_u = sym c.bad_weight.ensures ∙ c.if-bad_weight.false in
+    c.bad_weight-else-bad_weight.ensures ∙ sym (ap bad_scoring c.in-Linear.is ∙ good_first c.in-Linear.u c.in-Linear.v good_u)
 
-returns-3 : tie.Need-returns-in-Jaccard
-returns-3 c = c.bad_fraction.ensures ∙ sym (ap bad_scoring c.in-Jaccard.is)
+returns-in-Jaccard : tie.Need-returns-in-Jaccard
+returns-in-Jaccard c = c.bad_fraction.ensures ∙ sym (ap bad_scoring c.in-Jaccard.is)
 
 pub bad_scoring_spec : {M : Type 1} → statement M
 bad_scoring_spec =
     tie.close
-    (tie.spec enum-known-scoring bad-weight-requires bad-weight-requires-2 enum-known-scoring-2 bad-fraction-requires returns returns-2 returns-3)
+    (tie.spec
+    enum_known-scoring
+    bad_weight-requires
+    bad_weight-requires-else-bad_weight
+    enum_known-scoring-in-Jaccard-1
+    bad_fraction-requires
+    returns-then-bad_weight
+    returns-else-bad_weight
+    returns-in-Jaccard)

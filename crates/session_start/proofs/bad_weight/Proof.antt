@@ -5,11 +5,11 @@ use Rattle.session_start.proofs.bad_weight.Tie as tie
 use Rattle.session_start.proofs.bad_weight.Reads as reads
 use Rattle.session_start.proofs.bad_weight.Lts as lts
 
-returns : tie.Need-returns-then-w-lt1
-returns c = rw (lt-ltb c.args.w 1 c.if-w-lt1.true)
+returns-then-w-lt1 : tie.Need-returns-then-w-lt1
+returns-then-w-lt1 c = rw (lt-ltb c.args.w 1 c.if-w-lt1.true)
 
-returns-2 : tie.Need-returns-else-w-lt1
-returns-2 c = rw (le-ltb c.args.w 1 c.if-w-lt1.false)
+returns-else-w-lt1 : tie.Need-returns-else-w-lt1
+returns-else-w-lt1 c = rw (le-ltb c.args.w 1 c.if-w-lt1.false)
 
 pub bad_weight_spec : {M : Type 1} → statement M
-bad_weight_spec = tie.close (tie.spec returns returns-2)
+bad_weight_spec = tie.close (tie.spec returns-then-w-lt1 returns-else-w-lt1)

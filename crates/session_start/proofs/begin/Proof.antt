@@ -12,15 +12,14 @@ use Prim.Native.Nat.{◌≤◌}
 use Rattle.session_start.proofs.begin.Statement.{statement}
 use Rattle.session_start.proofs.begin.Tie as tie
 
--- the places that the proofs below speak of, each from a later one
-pattern-zeros-requires : tie.Need-pattern_zeros-sorted-requires
-pattern-zeros-requires c κs = search rules
+pattern_zeros-sorted-requires : tie.Need-pattern_zeros-sorted-requires
+pattern_zeros-sorted-requires c κs = search rules
 
-array-borrow-prefix-sorted : tie.Need-slice_bounds-sorted-end
-array-borrow-prefix-sorted c = search rules
+slice_bounds-sorted-end : tie.Need-slice_bounds-sorted-end
+slice_bounds-sorted-end c = search rules
 
-slice-aggregate-sort-words : tie.Need-slice_bounds-sort_words-end
-slice-aggregate-sort-words c =
+slice_bounds-sort_words-end : tie.Need-slice_bounds-sort_words-end
+slice_bounds-sort_words-end c =
     let pattern = c.args.pattern.now in
     let zeros = c.pattern_zeros-sorted in
     let few : length pattern ≤ pattern_limit = c.requires.1 in
@@ -28,11 +27,11 @@ slice-aggregate-sort-words c =
     length-take-le (length pattern) zeros.result (omega (arith, zeros.ensures.0)) in
     sym part
 
-sort-words-requires : tie.Need-sort_words-requires
-sort-words-requires c κs = search rules
+sort_words-requires : tie.Need-sort_words-requires
+sort_words-requires c κs = search rules
 
-array-share-prefix-sorted : tie.Need-slice_bounds-sorted-end-2
-array-share-prefix-sorted c =
+slice_bounds-sorted-end-2 : tie.Need-slice_bounds-sorted-end-2
+slice_bounds-sorted-end-2 c =
     let pattern = c.args.pattern.now in
     let zeros = c.pattern_zeros-sorted in
     let few : length pattern ≤ pattern_limit = c.requires.1 in
@@ -43,8 +42,8 @@ array-share-prefix-sorted c =
     let rest = drop (length pattern) zeros.result in
     omega (arith, length-append new rest, sort.auto.sorted)
 
-slice-aggregate-begin-sorted : tie.Need-slice_bounds-begin_sorted-end
-slice-aggregate-begin-sorted c =
+slice_bounds-begin_sorted-end : tie.Need-slice_bounds-begin_sorted-end
+slice_bounds-begin_sorted-end c =
     let pattern = c.args.pattern.now in
     let zeros = c.pattern_zeros-sorted in
     let few : length pattern ≤ pattern_limit = c.requires.1 in
@@ -57,8 +56,8 @@ slice-aggregate-begin-sorted c =
     sorted_front pattern (take (length pattern) zeros.result) new rest sort.ensures.1 few part in
     sym copy.same_length
 
-begin-sorted-requires : tie.Need-begin_sorted-requires
-begin-sorted-requires c κs =
+begin_sorted-requires : tie.Need-begin_sorted-requires
+begin_sorted-requires c κs =
     let pattern = c.args.pattern.now in
     let zeros = c.pattern_zeros-sorted in
     let few : length pattern ≤ pattern_limit = c.requires.1 in
@@ -71,8 +70,8 @@ begin-sorted-requires c κs =
     sorted_front pattern (take (length pattern) zeros.result) new rest sort.ensures.1 few part in
     (c.requires.0, omega (arith, copy.same_length), c.requires.2, copy.in_order, c.requires.3)
 
-same_length : tie.Need-shape_of-work
-same_length c = search rules
+shape_of-work : tie.Need-shape_of-work
+shape_of-work c = search rules
 
 returns : tie.Need-returns
 returns c =
@@ -92,4 +91,13 @@ returns c =
 pub begin_spec : {M : Type 1} → statement M
 begin_spec =
     tie.close
-    (tie.spec pattern-zeros-requires array-borrow-prefix-sorted slice-aggregate-sort-words sort-words-requires array-share-prefix-sorted slice-aggregate-begin-sorted begin-sorted-requires same_length returns)
+    (tie.spec
+    pattern_zeros-sorted-requires
+    slice_bounds-sorted-end
+    slice_bounds-sort_words-end
+    sort_words-requires
+    slice_bounds-sorted-end-2
+    slice_bounds-begin_sorted-end
+    begin_sorted-requires
+    shape_of-work
+    returns)

@@ -28,11 +28,11 @@ abbrev filled : tie.After-put_words-arg-1 → tie.After-put_back
 filled c = c.before.before.before
 
 -- the part that is lent has a word for each hit
-part-long : (c : tie.After-hit_zeros-backs) → length (take (length (slots c)) c.hit_zeros-backs.result) ≡ length (slots c)
-part-long c = length-take-le (length (slots c)) c.hit_zeros-backs.result (omega (arith, c.requires.1, c.hit_zeros-backs.ensures.0))
+part_long : (c : tie.After-hit_zeros-backs) → length (take (length (slots c)) c.hit_zeros-backs.result) ≡ length (slots c)
+part_long c = length-take-le (length (slots c)) c.hit_zeros-backs.result (omega (arith, c.requires.1, c.hit_zeros-backs.ensures.0))
 
-backs-long : (c : tie.After-put_back) → length c.put_back.new.backs ≡ length (slots (zeroed c))
-backs-long c = c.put_back.auto.backs ∙ part-long (zeroed c)
+backs_long : (c : tie.After-put_back) → length c.put_back.new.backs ≡ length (slots (zeroed c))
+backs_long c = c.put_back.auto.backs ∙ part_long (zeroed c)
 
 -- the rest of the array
 abbrev rest : tie.After-put_back → List ℕ
@@ -40,46 +40,46 @@ rest c = drop (length (slots (zeroed c))) c.hit_zeros-backs.result
 
 -- and is the front of the array once it is back
 front : (c : tie.After-put_back) → take (length (slots (zeroed c))) (c.put_back.new.backs ++ rest c) ≡ c.put_back.new.backs
-front c = take_at c.put_back.new.backs (rest c) (length (slots (zeroed c))) (backs-long c)
+front c = take_at c.put_back.new.backs (rest c) (length (slots (zeroed c))) (backs_long c)
 
-hit-zeros-requires : tie.Need-hit_zeros-backs-requires
-hit-zeros-requires c κs = search rules
+hit_zeros-backs-requires : tie.Need-hit_zeros-backs-requires
+hit_zeros-backs-requires c κs = search rules
 
-array-borrow-prefix-backs : tie.Need-slice_bounds-backs-end
-array-borrow-prefix-backs c = search rules
+slice_bounds-backs-end : tie.Need-slice_bounds-backs-end
+slice_bounds-backs-end c = search rules
 
-slice-aggregate-put-back : tie.Need-slice_bounds-put_back-end
-slice-aggregate-put-back c = sym (part-long c.before)
+slice_bounds-put_back-end : tie.Need-slice_bounds-put_back-end
+slice_bounds-put_back-end c = sym (part_long c.before)
 
-put-back-requires : tie.Need-put_back-requires
-put-back-requires c κs =
+put_back-requires : tie.Need-put_back-requires
+put_back-requires c κs =
     let start = c in
-    (start.requires.0, (start.requires.1.0, omega (arith, start.requires.1), part-long c.before))
+    (start.requires.0, (start.requires.1.0, omega (arith, start.requires.1), part_long c.before))
 
-array-share-prefix-backs : tie.Need-slice_bounds-backs-end-2
-array-share-prefix-backs c =
+slice_bounds-backs-end-2 : tie.Need-slice_bounds-backs-end-2
+slice_bounds-backs-end-2 c =
     let put = c.before in
-    omega (arith, backs-long put, length-append put.put_back.new.backs (rest put))
+    omega (arith, backs_long put, length-append put.put_back.new.backs (rest put))
 
-slice-aggregate-put-words : tie.Need-slice_bounds-put_words-end
-slice-aggregate-put-words c = sym (ap length (front c.before.before) ∙ backs-long c.before.before)
+slice_bounds-put_words-end : tie.Need-slice_bounds-put_words-end
+slice_bounds-put_words-end c = sym (ap length (front c.before.before) ∙ backs_long c.before.before)
 
-cast-put-words : tie.Need-overflow_cast-sorted
-cast-put-words c = search rules
+overflow_cast-sorted : tie.Need-overflow_cast-sorted
+overflow_cast-sorted c = search rules
 
-put-words-requires : tie.Need-put_words-requires
-put-words-requires c κs =
+put_words-requires : tie.Need-put_words-requires
+put_words-requires c κs =
     let put = filled c in
     let start = put in
     let sorted = start.args.sorted.now in
     let taken = start.args.slots.now in (
-      (start.requires.1.1, ap length (front put) ∙ backs-long put ∙ start.requires.1.2, start.requires.1.3, start.requires.1.4),
+      (start.requires.1.1, ap length (front put) ∙ backs_long put ∙ start.requires.1.2, start.requires.1.3, start.requires.1.4),
       subst (λ (l : List ℕ). (k : ℕ) → k < length l → get_or l k 0 ≤ k) (sym (front put ∙ put.put_back.ensures))
           (backs_within sorted (words_at sorted taken) (words_in sorted taken start.requires.0)),
     )
 
-same_length : tie.Need-shape_of-work
-same_length c = search rules
+shape_of-work : tie.Need-shape_of-work
+shape_of-work c = search rules
 
 returns : tie.Need-returns
 returns c =
@@ -94,4 +94,14 @@ returns c =
 pub put_session_spec : {M : Type 1} → statement M
 put_session_spec =
     tie.close
-    (tie.spec hit-zeros-requires array-borrow-prefix-backs slice-aggregate-put-back put-back-requires array-share-prefix-backs slice-aggregate-put-words cast-put-words put-words-requires same_length returns)
+    (tie.spec
+    hit_zeros-backs-requires
+    slice_bounds-backs-end
+    slice_bounds-put_back-end
+    put_back-requires
+    slice_bounds-backs-end-2
+    slice_bounds-put_words-end
+    overflow_cast-sorted
+    put_words-requires
+    shape_of-work
+    returns)

@@ -15,67 +15,67 @@ use Rattle.session_start.proofs.word_tables.put_heading.Reads as put-heading-rea
 use Rattle.session_start.proofs.word_tables.put_table.Reads as put-table-reads
 
 -- where each table was put, from the call for the next one; and the entry of the function
-abbrev tops-put : tie.After-put_heading-arg-1 → tie.After-fill-2
-tops-put c = c.before.before.before
+abbrev tops_put : tie.After-put_heading-arg-1 → tie.After-fill-2
+tops_put c = c.before.before.before
 
-abbrev blocks-counted : tie.After-fill-arg-2-1 → tie.After-block_count
-blocks-counted c = c.before
+abbrev blocks_counted : tie.After-fill-arg-2-1 → tie.After-block_count
+blocks_counted c = c.before
 
-abbrev best-put : tie.After-block_count → tie.After-fill
-best-put c = c.before.before.before
+abbrev best_put : tie.After-block_count → tie.After-fill
+best_put c = c.before.before.before
 
-abbrev starts-put : tie.After-fill-arg-1 → tie.After-put_starts-shared
-starts-put c = c.before.before.before
+abbrev starts_put : tie.After-fill-arg-1 → tie.After-put_starts-shared
+starts_put c = c.before.before.before
 
 abbrev reach_put : tie.After-put_starts-arg-1 → tie.After-put_reach
 reach_put c = c.before.before.before
 
-abbrev index-put : tie.After-put_reach-arg-1 → tie.After-put_table-2
-index-put c = c.before.before.before
+abbrev index_put : tie.After-put_reach-arg-1 → tie.After-put_table-2
+index_put c = c.before.before.before
 
-abbrev back-put : tie.After-put_table-arg-2-1 → tie.After-put_table
-back-put c = c.before.before.before
+abbrev back_put : tie.After-put_table-arg-2-1 → tie.After-put_table
+back_put c = c.before.before.before
 
-put-table-requires : tie.Need-put_table-requires
-put-table-requires c κs = search rules
+put_table-requires : tie.Need-put_table-requires
+put_table-requires c κs = search rules
 
-put-table-requires-2 : tie.Need-put_table-requires-2
-put-table-requires-2 c κs = search rules
+put_table-requires-2 : tie.Need-put_table-requires-2
+put_table-requires-2 c κs = search rules
 
-put-reach-requires : tie.Need-put_reach-requires
-put-reach-requires c κs = search rules
+put_reach-requires : tie.Need-put_reach-requires
+put_reach-requires c κs = search rules
 
-put-starts-requires : tie.Need-put_starts-shared-requires
-put-starts-requires c κs = search rules
+put_starts-shared-requires : tie.Need-put_starts-shared-requires
+put_starts-shared-requires c κs = search rules
 
 fill-requires : tie.Need-fill-requires
 fill-requires c κs = search rules
 
-block-count-requires : tie.Need-block_count-requires
-block-count-requires c κs = search rules
+block_count-requires : tie.Need-block_count-requires
+block_count-requires c κs = search rules
 
 fill-requires-2 : tie.Need-fill-requires-2
 fill-requires-2 c κs = search rules
 
-cast-put-heading : tie.Need-overflow_cast-h
-cast-put-heading c = search rules
+overflow_cast-h : tie.Need-overflow_cast-h
+overflow_cast-h c = search rules
 
-put-heading-requires : tie.Need-put_heading-requires
-put-heading-requires c κs = search rules
+put_heading-requires : tie.Need-put_heading-requires
+put_heading-requires c κs = search rules
 
-same_length : tie.Need-shape_of-work
-same_length c = search rules
+shape_of-work : tie.Need-shape_of-work
+shape_of-work c = search rules
 
 returns : tie.Need-returns
 returns c =
     let heading = c.before.before in
-    let tops = tops-put heading.before in
-    let blocks = blocks-counted tops.before in
-    let best = best-put blocks in
-    let starts = starts-put best.before in
+    let tops = tops_put heading.before in
+    let blocks = blocks_counted tops.before in
+    let best = best_put blocks in
+    let starts = starts_put best.before in
     let reach = reach_put starts.before in
-    let index = index-put reach.before in
-    let back = back-put index.before in
+    let index = index_put reach.before in
+    let back = back_put index.before in
     let start = back in
     let args = start.args in
     λ task ready.
@@ -97,4 +97,15 @@ returns c =
 pub put_words_spec : {M : Type 1} → statement M
 put_words_spec =
     tie.close
-    (tie.spec put-table-requires put-table-requires-2 put-reach-requires put-starts-requires fill-requires block-count-requires fill-requires-2 cast-put-heading put-heading-requires same_length returns)
+    (tie.spec
+    put_table-requires
+    put_table-requires-2
+    put_reach-requires
+    put_starts-shared-requires
+    fill-requires
+    block_count-requires
+    fill-requires-2
+    overflow_cast-h
+    put_heading-requires
+    shape_of-work
+    returns)

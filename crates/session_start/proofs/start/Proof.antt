@@ -12,11 +12,11 @@ use mathlib.Core.Path.{◌≡◌, subst}
 use Rattle.session_start.proofs.start.Statement.{statement}
 use Rattle.session_start.proofs.start.Tie as tie
 
-start-scored-requires : tie.Need-start_scored-requires
-start-scored-requires c κs = search rules
+start_scored-requires : tie.Need-start_scored-requires
+start_scored-requires c κs = search rules
 
-same_length : tie.Need-shape_of-work
-same_length c = search rules
+shape_of-work : tie.Need-shape_of-work
+shape_of-work c = search rules
 
 returns : tie.Need-returns
 returns c =
@@ -31,4 +31,4 @@ returns c =
     )
 
 pub start_spec : {M : Type 1} → statement M
-start_spec = tie.close (tie.spec start-scored-requires same_length returns)
+start_spec = tie.close (tie.spec start_scored-requires shape_of-work returns)

@@ -32,14 +32,14 @@ task c = let args = c.args in task_with args.text.now args.pattern.now args.scor
 good : (c : tie.Else-bad_scoring) → bad_scoring (task c.before).scoring ≡ false
 good c = sym c.bad_scoring.ensures ∙ c.if-bad_scoring.false
 
-bad-scoring-requires : tie.Need-bad_scoring-requires
-bad-scoring-requires c κs = search rules
+bad_scoring-requires : tie.Need-bad_scoring-requires
+bad_scoring-requires c κs = search rules
 
-scoring-refusal-requires : tie.Need-scoring_refusal-requires
-scoring-refusal-requires c κs = search rules
+scoring_refusal-requires : tie.Need-scoring_refusal-requires
+scoring_refusal-requires c κs = search rules
 
-returns : tie.Need-returns-then-bad_scoring
-returns c =
+returns-then-bad_scoring : tie.Need-returns-then-bad_scoring
+returns-then-bad_scoring c =
     let judged = c.before.before in
     let scoring = (task judged).scoring in
     let e = bad_numbers (task judged) (length (work judged)) (sym judged.bad_scoring.ensures ∙ c.if-bad_scoring.true) in (
@@ -47,27 +47,27 @@ returns c =
       refusal_words (task judged) (work judged) scoring ∙ words_of (task judged) (work judged) (scoring_reply scoring) e,
     )
 
-returns-2 : tie.Need-returns-then-text-gt-TEXT_LIMIT
-returns-2 c =
+returns-then-text-gt-TEXT_LIMIT : tie.Need-returns-then-text-gt-TEXT_LIMIT
+returns-then-text-gt-TEXT_LIMIT c =
     let judged = c.before.before in
     let e = long_text (task judged) (length (work judged)) (good c.before) c.if-text-gt-TEXT_LIMIT.true in
     (e, words_of (task judged) (work judged) (refused 8 []) e)
 
-returns-3 : tie.Need-returns-then-pattern-lt1
-returns-3 c =
+returns-then-pattern-lt1 : tie.Need-returns-then-pattern-lt1
+returns-then-pattern-lt1 c =
     let judged = c.before.before.before in
     let e = no_pattern (task judged) (length (work judged)) (good c.before.before) c.if-text-gt-TEXT_LIMIT.false c.if-pattern-lt1.true in
     (e, words_of (task judged) (work judged) (refused 9 []) e)
 
-returns-4 : tie.Need-returns-then-pattern-gt-PATTERN_LIMIT
-returns-4 c =
+returns-then-pattern-gt-PATTERN_LIMIT : tie.Need-returns-then-pattern-gt-PATTERN_LIMIT
+returns-then-pattern-gt-PATTERN_LIMIT c =
     let judged = (else1 c.before).before in
     let e =
     long_pattern (task judged) (length (work judged)) (good (else1 c.before)) c.if-text-gt-TEXT_LIMIT.false c.if-pattern-lt1.false c.if-pattern-gt-PATTERN_LIMIT.true in
     (e, words_of (task judged) (work judged) (refused 9 []) e)
 
-returns-5 : tie.Need-returns-then-work-lt-WORK_WORDS
-returns-5 c =
+returns-then-work-lt-WORK_WORDS : tie.Need-returns-then-work-lt-WORK_WORDS
+returns-then-work-lt-WORK_WORDS c =
     let third = c.before.before in
     let judged = (else1 third).before in
     let e =
@@ -80,11 +80,11 @@ begin-requires c κs =
     let third = else3 c.before in
     (third.if-text-gt-TEXT_LIMIT.false, c.if-pattern-gt-PATTERN_LIMIT.false, c.if-work-lt-WORK_WORDS.false, good (else1 third))
 
-same_length : tie.Need-shape_of-work
-same_length c = search rules
+shape_of-work : tie.Need-shape_of-work
+shape_of-work c = search rules
 
-returns-6 : tie.Need-returns
-returns-6 c =
+returns : tie.Need-returns
+returns c =
     let begun = c.before.before in
     let fifth = begun.before.before in
     let third = else3 fifth in
@@ -99,4 +99,14 @@ returns-6 c =
 pub start_scored_spec : {M : Type 1} → statement M
 start_scored_spec =
     tie.close
-    (tie.spec bad-scoring-requires scoring-refusal-requires returns returns-2 returns-3 returns-4 returns-5 begin-requires same_length returns-6)
+    (tie.spec
+    bad_scoring-requires
+    scoring_refusal-requires
+    returns-then-bad_scoring
+    returns-then-text-gt-TEXT_LIMIT
+    returns-then-pattern-lt1
+    returns-then-pattern-gt-PATTERN_LIMIT
+    returns-then-work-lt-WORK_WORDS
+    begin-requires
+    shape_of-work
+    returns)

@@ -56,26 +56,26 @@ small c =
 outside-requires : tie.Need-outside-requires
 outside-requires c κs = search rules
 
-returns : tie.Need-returns-then-outside
+returns-then-outside : tie.Need-returns-then-outside
 unfolding count_reply
-returns c =
+returns-then-outside c =
     let s = c.before.before.before in
     sym (ap host_number (checked_k s.args.k s.args.w s.args.letters.now (rest s) (sym c.outside.ensures ∙ c.if-outside.true)))
 
 outside-requires-2 : tie.Need-outside-requires-2
 outside-requires-2 c κs = search rules
 
-returns-2 : tie.Need-returns-then-outside-2
+returns-then-outside-2 : tie.Need-returns-then-outside-2
 unfolding count_reply
-returns-2 c =
+returns-then-outside-2 c =
     let d = c.before.before in
     let s = entry d in
     let bad = sym c.outside-2.ensures ∙ c.if-outside-2.true in
     sym (ap host_number (checked_w s.args.k s.args.w s.args.letters.now (rest s) (k_inside d) bad))
 
-returns-3 : tie.Need-returns-then-letters-gt-LETTER_LIMIT
+returns-then-letters-gt-LETTER_LIMIT : tie.Need-returns-then-letters-gt-LETTER_LIMIT
 unfolding count_reply
-returns-3 c =
+returns-then-letters-gt-LETTER_LIMIT c =
     let d = first c.before in
     let s = entry d in
     sym (ap host_number
@@ -84,12 +84,12 @@ returns-3 c =
 entries-requires : tie.Need-entries-requires
 entries-requires c κs = ranges c
 
-cast-result : tie.Need-overflow_cast-result
-cast-result c = record { sfits = small c }
+overflow_cast-result : tie.Need-overflow_cast-result
+overflow_cast-result c = record { sfits = small c }
 
-returns-4 : tie.Need-returns
+returns : tie.Need-returns
 unfolding count_reply
-returns-4 c =
+returns c =
     let d = c.before in
     let s = began d in
     to_z_pos w32 c.entries.result (small c)
@@ -100,4 +100,12 @@ returns-4 c =
 pub count_spec : {M : Type 1} → statement M
 count_spec =
     tie.close
-    (tie.spec outside-requires returns outside-requires-2 returns-2 returns-3 entries-requires cast-result returns-4)
+    (tie.spec
+    outside-requires
+    returns-then-outside
+    outside-requires-2
+    returns-then-outside-2
+    returns-then-letters-gt-LETTER_LIMIT
+    entries-requires
+    overflow_cast-result
+    returns)

@@ -12,12 +12,11 @@ use Rattle.sketch.proofs.Buffers.{written_nowhere}
 use Rattle.sketch.proofs.entries.Statement.{statement}
 use Rattle.sketch.proofs.entries.Tie as tie
 
--- places, each named for where it leads and from where
-slice-aggregate-winnow : tie.Need-slice_bounds-winnow-end
-slice-aggregate-winnow c = search rules
+slice_bounds-winnow-end : tie.Need-slice_bounds-winnow-end
+slice_bounds-winnow-end c = search rules
 
-slice-aggregate-winnow-2 : tie.Need-slice_bounds-winnow-end-2
-slice-aggregate-winnow-2 c = search rules
+slice_bounds-winnow-end-2 : tie.Need-slice_bounds-winnow-end-2
+slice_bounds-winnow-end-2 c = search rules
 
 winnow-requires : tie.Need-winnow-requires
 winnow-requires c κs = search rules
@@ -33,4 +32,4 @@ returns c =
 
 pub entries_spec : {M : Type 1} → statement M
 entries_spec =
-    tie.close (tie.spec slice-aggregate-winnow slice-aggregate-winnow-2 winnow-requires returns)
+    tie.close (tie.spec slice_bounds-winnow-end slice_bounds-winnow-end-2 winnow-requires returns)

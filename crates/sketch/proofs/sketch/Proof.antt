@@ -19,14 +19,14 @@ use Rattle.sketch.proofs.sketch.Statement.{statement}
 use Rattle.sketch.proofs.sketch.Tie as tie
 
 -- places, each named for where it leads and from where
-abbrev else3-else4 : tie.Else-letters-room → tie.Else-letters-gt-LETTER_LIMIT
-else3-else4 c = c.before.before
+abbrev else3_else4 : tie.Else-letters-room → tie.Else-letters-gt-LETTER_LIMIT
+else3_else4 c = c.before.before
 
-abbrev smaller-codes : tie.After-codes-1 → tie.After-smaller-room
-smaller-codes c = c.before.before.before.before.before
+abbrev smaller_codes : tie.After-codes-1 → tie.After-smaller-room
+smaller_codes c = c.before.before.before.before.before
 
-abbrev entries-codes2 : tie.After-codes-2-1 → tie.After-entries-needed
-entries-codes2 c = c.before.before.before.before.before
+abbrev entries_codes2 : tie.After-codes-2-1 → tie.After-entries-needed
+entries_codes2 c = c.before.before.before.before.before
 
 outside-requires : tie.Need-outside-requires
 outside-requires c κs = search rules
@@ -69,9 +69,9 @@ left c =
     (room_for (length (sketch args.k args.w args.letters.now)) (length args.codes.now) (length args.positions.now)) all.0 all.1
     all.2
 
-returns : tie.Need-returns-then-outside
+returns-then-outside : tie.Need-returns-then-outside
 unfolding sketch_reply
-returns c =
+returns-then-outside c =
     let args = c.args in
     let letters = args.letters.now in
     let rest = room_for (length (sketch args.k args.w letters)) (length args.codes.now) (length args.positions.now) in
@@ -81,9 +81,9 @@ returns c =
 outside-requires-2 : tie.Need-outside-requires-2
 outside-requires-2 c κs = search rules
 
-returns-2 : tie.Need-returns-then-outside-2
+returns-then-outside-2 : tie.Need-returns-then-outside-2
 unfolding sketch_reply
-returns-2 c =
+returns-then-outside-2 c =
     let args = c.args in
     let letters = args.letters.now in
     let rest = room_for (length (sketch args.k args.w letters)) (length args.codes.now) (length args.positions.now) in
@@ -91,9 +91,9 @@ returns-2 c =
     (checked_w args.k args.w letters rest (sym c.outside.ensures ∙ c.if-outside.false)
     (sym c.outside-2.ensures ∙ c.if-outside-2.true))
 
-returns-3 : tie.Need-returns-then-letters-gt-LETTER_LIMIT
+returns-then-letters-gt-LETTER_LIMIT : tie.Need-returns-then-letters-gt-LETTER_LIMIT
 unfolding sketch_reply
-returns-3 c =
+returns-then-letters-gt-LETTER_LIMIT c =
     let args = c.args in
     let letters = args.letters.now in
     let rest = room_for (length (sketch args.k args.w letters)) (length args.codes.now) (length args.positions.now) in
@@ -102,61 +102,61 @@ returns-3 c =
     (sym c.outside.ensures ∙ c.if-outside.false)
     (sym c.outside-2.ensures ∙ c.if-outside-2.false) c.if-letters-gt-LETTER_LIMIT.true)
 
-smaller-requires : tie.Need-smaller-room-requires
-smaller-requires c κs = search rules
+smaller-room-requires : tie.Need-smaller-room-requires
+smaller-room-requires c κs = search rules
 
 winnow-requires : tie.Need-winnow-requires
 winnow-requires c κs = search rules
 
-same_length : tie.Need-shape_of-codes-then-letters-room
-same_length c = search rules
+shape_of-codes-then-letters-room : tie.Need-shape_of-codes-then-letters-room
+shape_of-codes-then-letters-room c = search rules
 
-same-length-2 : tie.Need-shape_of-positions-then-letters-room
-same-length-2 c = search rules
+shape_of-positions-then-letters-room : tie.Need-shape_of-positions-then-letters-room
+shape_of-positions-then-letters-room c = search rules
 
-returns-4 : tie.Need-returns-then-letters-room
-returns-4 c =
+returns-then-letters-room : tie.Need-returns-then-letters-room
+returns-then-letters-room c =
     let args = c.args in
     let letters = args.letters.now in
     let room = c.smaller-room.result in
     let least : room ≡ min (length args.codes.now) (length args.positions.now) = c.smaller-room.ensures in
     let call = c.winnow in
     let n = length (sketch args.k args.w letters) in
-    let limits = ranges (smaller-codes c.before.before.before).before in
+    let limits = ranges (smaller_codes c.before.before.before).before in
     let fits : n ≤ room =
     le_trans (sketch_length args.k args.w letters limits.0) c.if-letters-room.true in
     sketches_accepted args.k args.w letters args.codes.now args.positions.now room call.result call.new.codes
     call.new.positions
     fits (omega arith) (omega arith)
     (call.ensures ∙ winnowed_within args.k args.w letters room args.codes.now args.positions.now limits (omega arith) (omega arith))
-    (left (smaller-codes c.before.before.before).before ∙ room_enough n (length args.codes.now) (length args.positions.now) (omega arith))
+    (left (smaller_codes c.before.before.before).before ∙ room_enough n (length args.codes.now) (length args.positions.now) (omega arith))
 
-entries-requires : tie.Need-entries-needed-requires
-entries-requires c κs = ranges c.before.before
+entries-needed-requires : tie.Need-entries-needed-requires
+entries-needed-requires c κs = ranges c.before.before
 
-returns-5 : tie.Need-returns-then-room-needed
-returns-5 c =
+returns-then-room-needed : tie.Need-returns-then-room-needed
+returns-then-room-needed c =
     let args = c.args in
     let letters = args.letters.now in
     let needed = c.entries-needed.result in
     let n = length (sketch args.k args.w letters) in
     let same : needed ≡ n = c.entries-needed.ensures in
     sketches_refused args.k args.w letters args.codes.now args.positions.now (TooShort needed) 4 (needed ∷ []) refl
-    (left (else3-else4 c.before.before)
+    (left (else3_else4 c.before.before)
     ∙ room_short n (length args.codes.now) (length args.positions.now)
     (omega (arith, c.if-room-needed.true, c.smaller-room.ensures)) ∙ ap (λ (x : ℕ). refused 4 (x ∷ [])) (sym same))
 
 winnow-requires-2 : tie.Need-winnow-requires-2
 winnow-requires-2 c κs = search rules
 
-same-length-3 : tie.Need-shape_of-codes
-same-length-3 c = search rules
+shape_of-codes : tie.Need-shape_of-codes
+shape_of-codes c = search rules
 
-same-length-4 : tie.Need-shape_of-positions
-same-length-4 c = search rules
+shape_of-positions : tie.Need-shape_of-positions
+shape_of-positions c = search rules
 
-returns-6 : tie.Need-returns
-returns-6 c =
+returns : tie.Need-returns
+returns c =
     let args = c.args in
     let letters = args.letters.now in
     let room = c.smaller-room.result in
@@ -164,7 +164,7 @@ returns-6 c =
     c.smaller-room.ensures in
     let call = c.winnow-2 in
     let n = length (sketch args.k args.w letters) in
-    let limits = ranges (entries-codes2 c.before.before.before).before.before.before in
+    let limits = ranges (entries_codes2 c.before.before.before).before.before.before in
     let fits : n ≤ room =
     subst (λ (x : ℕ). x ≤ room) c.entries-needed.ensures
     c.if-room-needed.false in
@@ -172,10 +172,26 @@ returns-6 c =
     call.new.positions
     fits (omega arith) (omega arith)
     (call.ensures ∙ winnowed_within args.k args.w letters room args.codes.now args.positions.now limits (omega arith) (omega arith))
-    (left (entries-codes2 c.before.before.before).before.before.before
+    (left (entries_codes2 c.before.before.before).before.before.before
     ∙ room_enough n (length args.codes.now) (length args.positions.now) (omega arith))
 
 pub sketch_spec : {M : Type 1} → statement M
 sketch_spec =
     tie.close
-    (tie.spec outside-requires returns outside-requires-2 returns-2 returns-3 smaller-requires winnow-requires same_length same-length-2 returns-4 entries-requires returns-5 winnow-requires-2 same-length-3 same-length-4 returns-6)
+    (tie.spec
+    outside-requires
+    returns-then-outside
+    outside-requires-2
+    returns-then-outside-2
+    returns-then-letters-gt-LETTER_LIMIT
+    smaller-room-requires
+    winnow-requires
+    shape_of-codes-then-letters-room
+    shape_of-positions-then-letters-room
+    returns-then-letters-room
+    entries-needed-requires
+    returns-then-room-needed
+    winnow-requires-2
+    shape_of-codes
+    shape_of-positions
+    returns)

@@ -15,38 +15,47 @@ invariant-loop k limit₀ i₀ limit i = (i ≤ min k k_limit) × (limit ≡ 4 ^
 abbrev decreases-loop : tie.decreases-loop-i
 decreases-loop k limit₀ i₀ limit i = k_limit - i
 
-loop-holds : tie.Need-loop-i-init invariant-loop decreases-loop
-loop-holds c = (omega arith, refl)
+loop-i-init : tie.Need-loop-i-init invariant-loop decreases-loop
+loop-i-init c = (omega arith, refl)
 
-returns : tie.Need-returns-then-i-k invariant-loop decreases-loop
-returns c =
+returns-then-i-k : tie.Need-returns-then-i-k invariant-loop decreases-loop
+returns-then-i-k c =
     let l = c.loop-i in
     let e : l.i ≡ min c.args.k k_limit = omega arith in
     l.invariant.1 ∙ ap (λ (x : ℕ). 4 ^ x) e
 
-mul-limit : tie.Need-overflow_mul-limit invariant-loop decreases-loop
-mul-limit c =
+overflow_mul-limit : tie.Need-overflow_mul-limit invariant-loop decreases-loop
+overflow_mul-limit c =
     let l = c.loop-i in
     let early : l.i ≤ 14 = omega arith in
     let below : 4 ^ l.i ≤ 4 ^ 14 = pow-le-pow_right (lit< tt) early in
     omega (arith, l.invariant.1)
 
-add-i : tie.Need-overflow_add-i invariant-loop decreases-loop
-add-i c = omega arith
+overflow_add-i : tie.Need-overflow_add-i invariant-loop decreases-loop
+overflow_add-i c = omega arith
 
-loop-less : tie.Need-loop-i-smaller invariant-loop decreases-loop
-loop-less c = omega arith
+loop-i-smaller : tie.Need-loop-i-smaller invariant-loop decreases-loop
+loop-i-smaller c = omega arith
 
-loop-again : tie.Need-loop-i-preserved invariant-loop decreases-loop
-loop-again c =
+loop-i-preserved : tie.Need-loop-i-preserved invariant-loop decreases-loop
+loop-i-preserved c =
     let l = c.loop-i in
     (omega arith, ap (λ (x : ℕ). x * 4) l.invariant.1 ∙ sym (ap (λ (x : ℕ). 4 ^ x) (add-one l.i) ∙ pow-suc 4 l.i))
 
-returns-2 : tie.Need-returns invariant-loop decreases-loop
-returns-2 c =
+returns : tie.Need-returns invariant-loop decreases-loop
+returns c =
     let l = c.loop-i in
     let e : l.i ≡ min c.args.k k_limit = omega arith in
     l.invariant.1 ∙ ap (λ (x : ℕ). 4 ^ x) e
 
 pub code_limit_spec : {M : Type 1} → statement M
-code_limit_spec = tie.close (tie.spec invariant-loop decreases-loop loop-holds returns mul-limit add-i loop-less loop-again returns-2)
+code_limit_spec = tie.close (tie.spec
+    invariant-loop
+    decreases-loop
+    loop-i-init
+    returns-then-i-k
+    overflow_mul-limit
+    overflow_add-i
+    loop-i-smaller
+    loop-i-preserved
+    returns)

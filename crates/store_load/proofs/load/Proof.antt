@@ -25,8 +25,8 @@ use Rattle.store_load.proofs.load.Lts.{then-codes-entries-via-then-codes-entries
 use Rattle.store_load.proofs.load.Tie as tie
 
 -- places, each named for where it leads and from where
-abbrev good-read : tie.After-read → tie.In-Good
-good-read c = c.before.before.before.before.before
+abbrev good_read : tie.After-read → tie.In-Good
+good_read c = c.before.before.before.before.before
 
 module _ (ws cs ps : List ℕ) where
   -- a refusal changes nothing
@@ -62,38 +62,38 @@ module _ (ws cs ps : List ℕ) where
       ap (λ (j : Judged). judged_reply (store_k ws) (store_w ws) j (length cs) (length ps)) e
       ∙ ap (λ (m : ℕ). load_room (store_k ws) (store_w ws) m (length cs) (length ps)) size
 
-returns : tie.Need-returns-then-words-eq0
-returns c =
+returns-then-words-eq0 : tie.Need-returns-then-words-eq0
+returns-then-words-eq0 c =
     let a = c.args in
     judged_bad a.words.now a.codes.now a.positions.now (judge_empty a.words.now c.if-words-eq0.true)
 
-shared-slice-read-header : tie.Need-bounds-words-0
-shared-slice-read-header c = search rules
+bounds-words-0 : tie.Need-bounds-words-0
+bounds-words-0 c = search rules
 
-is-header-requires : tie.Need-is_header-requires
-is-header-requires c κs = search rules
+is_header-requires : tie.Need-is_header-requires
+is_header-requires c κs = search rules
 
-returns-2 : tie.Need-returns-then-not-is_header
-returns-2 c =
+returns-then-not-is_header : tie.Need-returns-then-not-is_header
+returns-then-not-is_header c =
     let a = c.args in
     judged_bad a.words.now a.codes.now a.positions.now
     (judge_no_header a.words.now (sym c.is_header.ensures ∙ not-true c.is_header.result c.if-not-is_header.true-raw))
 
-header-k-requires : tie.Need-header_k-k-requires
-header-k-requires c κs = search rules
+header_k-k-requires : tie.Need-header_k-k-requires
+header_k-k-requires c κs = search rules
 
-header-w-requires : tie.Need-header_w-w-requires
-header-w-requires c κs = search rules
+header_w-w-requires : tie.Need-header_w-w-requires
+header_w-w-requires c κs = search rules
 
 -- word 0 is there, and is one
-header-good : (c : tie.Else-not-is_header) → is_header (get_or c.args.words.now 0 0) ≡ true
-header-good c = sym c.is_header.ensures ∙ not-false c.is_header.result c.if-not-is_header.false-raw
+header_good : (c : tie.Else-not-is_header) → is_header (get_or c.args.words.now 0 0) ≡ true
+header_good c = sym c.is_header.ensures ∙ not-false c.is_header.result c.if-not-is_header.false-raw
 
 judge-requires : tie.Need-judge-requires
 judge-requires c κs =
     let d = c.before.before in
     let x = get_or d.args.words.now 0 0 in
-    let k_high : header_k x ≤ k_limit = (is_header_holds x (header-good d)).k_high in
+    let k_high : header_k x ≤ k_limit = (is_header_holds x (header_good d)).k_high in
     (search rules, rw c.header_k-k.ensures k_high)
 
 -- what the call of judge found is what judging all words finds
@@ -105,16 +105,16 @@ found c =
     let ws = d.args.words.now in
     let some : 1 ≤ length ws = search rules in
     c.judge.ensures
-    ∙ ap (counted 0) (ap (λ (k : ℕ). judge_from k 1 0 0 (drop 1 ws)) c.header_k-k.ensures ∙ sym (judge_header ws some (header-good d)))
+    ∙ ap (counted 0) (ap (λ (k : ℕ). judge_from k 1 0 0 (drop 1 ws)) c.header_k-k.ensures ∙ sym (judge_header ws some (header_good d)))
 
-enum-known-index : tie.Need-enum_known-index
-enum-known-index c = search rules
+enum_known-index : tie.Need-enum_known-index
+enum_known-index c = search rules
 
-enum-known-index-2 : tie.Need-enum_known-index-in-BadEnd-1
-enum-known-index-2 c = search rules
+enum_known-index-in-BadEnd-1 : tie.Need-enum_known-index-in-BadEnd-1
+enum_known-index-in-BadEnd-1 c = search rules
 
-enum-known-entries : tie.Need-enum_known-entries
-enum-known-entries c = search rules
+enum_known-entries : tie.Need-enum_known-entries
+enum_known-entries c = search rules
 
 -- the entries that the call of judge found
 loads :
@@ -124,9 +124,9 @@ loads :
     × (length es ≡ c.in-Good.entries)
 loads c = counted_good _ (sym (ap verdict_reply c.in-Good.is) ∙ found c.before)
 
-returns-3 : tie.Need-returns-then-codes-entries
+returns-then-codes-entries : tie.Need-returns-then-codes-entries
 unfolding load_room
-returns-3 c =
+returns-then-codes-entries c =
     let d = c.before in
     let a = d.args in
     let n = d.in-Good.entries in
@@ -147,47 +147,64 @@ read-requires c κs =
     let loaded = loads e.before.before in
     (loaded.0, (loaded.1, (e.if-codes-entries.false, ltb-false _ _ e.if-positions-entries.false-raw)))
 
-returns-4 : tie.Need-returns-in-BadWord
-returns-4 c =
+returns-in-BadWord : tie.Need-returns-in-BadWord
+returns-in-BadWord c =
     let d = c.before in
     let a = d.args in
     judged_bad a.words.now a.codes.now a.positions.now
     (counted_bad 0 (judge a.words.now) (sym (ap verdict_reply c.in-BadWord.is) ∙ found d))
 
-returns-5 : tie.Need-returns-in-BadEnd
-returns-5 c =
+returns-in-BadEnd : tie.Need-returns-in-BadEnd
+returns-in-BadEnd c =
     let d = c.before in
     let a = d.args in
     judged_bad a.words.now a.codes.now a.positions.now
     (counted_bad 0 (judge a.words.now) (sym (ap verdict_reply c.in-BadEnd.is) ∙ found d))
 
-same_length : tie.Need-shape_of-codes
-same_length c = search rules
+shape_of-codes : tie.Need-shape_of-codes
+shape_of-codes c = search rules
 
-same-length-2 : tie.Need-shape_of-positions
-same-length-2 c = search rules
+shape_of-positions : tie.Need-shape_of-positions
+shape_of-positions c = search rules
 
-returns-6 : tie.Need-returns-else-positions-entries
-returns-6 c =
+returns-else-positions-entries : tie.Need-returns-else-positions-entries
+returns-else-positions-entries c =
     let ws = c.args.words.now in
     let cs = c.args.codes.now in
     let ps = c.args.positions.now in
     let es = entries_of (judge ws) in
     let some : 1 ≤ length ws = omega (arith, c.if-words-eq0.false) in
-    let found-entries = loads (good-read c.before.before.before.before) in
+    let found_entries = loads (good_read c.before.before.before.before) in
     let loaded : Loads ws es (length cs) (length ps) = record {
-      judged = found-entries.0;
-      code_enough = rw found-entries.1 c.if-codes-entries.false;
-      position_enough = rw found-entries.1 (ltb-false _ _ c.if-positions-entries.false-raw);
+      judged = found_entries.0;
+      code_enough = rw found_entries.1 c.if-codes-entries.false;
+      position_enough = rw found_entries.1 (ltb-false _ _ c.if-positions-entries.false-raw);
     } in
     let fills = load_fills ws cs ps es loaded in (
       sym
           (load_accepts ws (length cs) (length ps) es loaded
-          ∙ rw (found-entries.1, store_k_header ws some, store_w_header ws some, ← c.header_k-k.ensures, ← c.header_w-w.ensures)),
+          ∙ rw (found_entries.1, store_k_header ws some, store_w_header ws some, ← c.header_k-k.ensures, ← c.header_w-w.ensures)),
       (c.read.ensures.0 ∙ sym fills.0, c.read.ensures.1 ∙ sym fills.1),
     )
 
 pub load_spec : {M : Type 1} → statement M
 load_spec =
     tie.close
-    (tie.spec returns shared-slice-read-header is-header-requires returns-2 header-k-requires header-w-requires judge-requires enum-known-index enum-known-index-2 enum-known-entries returns-3 read-requires returns-4 returns-5 same_length same-length-2 returns-6)
+    (tie.spec
+    returns-then-words-eq0
+    bounds-words-0
+    is_header-requires
+    returns-then-not-is_header
+    header_k-k-requires
+    header_w-w-requires
+    judge-requires
+    enum_known-index
+    enum_known-index-in-BadEnd-1
+    enum_known-entries
+    returns-then-codes-entries
+    read-requires
+    returns-in-BadWord
+    returns-in-BadEnd
+    shape_of-codes
+    shape_of-positions
+    returns-else-positions-entries)

@@ -18,8 +18,8 @@ use Rattle.store_save.proofs.save.Statement.{statement}
 use Rattle.store_save.proofs.save.Tie as tie
 
 -- places, each named for where it leads and from where
-abbrev else5-write-arg : tie.After-write-arg-1 → tie.Else-words-needed
-else5-write-arg c = c.before
+abbrev else5_write_arg : tie.After-write-arg-1 → tie.Else-words-needed
+else5_write_arg c = c.before
 
 -- a refusal changes nothing
 refusal :
@@ -32,9 +32,9 @@ refusal k w cs ps ws e = (sym e, sym (ap (λ (r : Reply). after r (stored k w (e
 outside-requires : tie.Need-outside-requires
 outside-requires c κs = search rules
 
-returns : tie.Need-returns-then-outside
+returns-then-outside : tie.Need-returns-then-outside
 unfolding save_reply
-returns c =
+returns-then-outside c =
     let a = c.args in
     refusal a.k a.w a.codes.now a.positions.now a.words.now (rw (sym c.outside.ensures ∙ c.if-outside.true))
 
@@ -44,9 +44,9 @@ outside-requires-2 c κs = search rules
 k_inside : (c : tie.Else-outside) → outside 1 k_limit c.args.k ≡ false
 k_inside c = sym c.outside.ensures ∙ c.if-outside.false
 
-returns-2 : tie.Need-returns-then-outside-2
+returns-then-outside-2 : tie.Need-returns-then-outside-2
 unfolding save_reply
-returns-2 c =
+returns-then-outside-2 c =
     let d = c.before.before in
     let a = d.args in
     refusal a.k a.w a.codes.now a.positions.now a.words.now (rw (k_inside d, sym c.outside-2.ensures ∙ c.if-outside-2.true))
@@ -54,38 +54,38 @@ returns-2 c =
 w_inside : (c : tie.Else-outside-2) → outside 1 w_limit c.args.w ≡ false
 w_inside c = sym c.outside-2.ensures ∙ c.if-outside-2.false
 
-returns-3 : tie.Need-returns-then-codes-positions
+returns-then-codes-positions : tie.Need-returns-then-codes-positions
 unfolding save_reply
-returns-3 c =
+returns-then-codes-positions c =
     let d = c.before.before.before in
     let a = d.args in
     refusal a.k a.w a.codes.now a.positions.now a.words.now
     (rw (k_inside d, w_inside c.before, ne_eqb (length a.codes.now) (length a.positions.now) c.if-codes-positions.true))
 
-are-storable-requires : tie.Need-are_storable-requires
-are-storable-requires c κs =
+are_storable-requires : tie.Need-are_storable-requires
+are_storable-requires c κs =
     let d = c.before.before.before in
     ((inside_range 1 k_limit d.args.k (k_inside d)).1, c.if-codes-positions.false)
 
 same_size : (c : tie.Else-codes-positions) → let a = c.args in eqb (length a.codes.now) (length a.positions.now) ≡ true
 same_size c = eq-eqb _ _ c.if-codes-positions.false
 
-returns-4 : tie.Need-returns-then-not-are_storable
+returns-then-not-are_storable : tie.Need-returns-then-not-are_storable
 unfolding save_reply
-returns-4 c =
+returns-then-not-are_storable c =
     let e = c.before.before in
     let d = e.before.before.before in
     let a = d.args in
-    let no-good : storable a.k 0 (entries a.codes.now a.positions.now) ≡ false =
+    let no_good : storable a.k 0 (entries a.codes.now a.positions.now) ≡ false =
     sym c.are_storable.ensures ∙ not-true c.are_storable.result c.if-not-are_storable.true-raw
     in
-    refusal a.k a.w a.codes.now a.positions.now a.words.now (rw (k_inside d, w_inside e.before, same_size e, no-good))
+    refusal a.k a.w a.codes.now a.positions.now a.words.now (rw (k_inside d, w_inside e.before, same_size e, no_good))
 
-mul-needed : tie.Need-overflow_mul-needed
-mul-needed c = search rules
+overflow_mul-needed : tie.Need-overflow_mul-needed
+overflow_mul-needed c = search rules
 
-add-needed : tie.Need-overflow_add-needed
-add-needed c = search rules
+overflow_add-needed : tie.Need-overflow_add-needed
+overflow_add-needed c = search rules
 
 entries_good :
     (c : tie.Else-not-are_storable) →
@@ -102,9 +102,9 @@ size c =
     length_stored a.k a.w (entries a.codes.now a.positions.now)
     ∙ ap (λ (n : ℕ). 2 * n + 2) (length_entries a.codes.now a.positions.now c.if-codes-positions.false)
 
-returns-5 : tie.Need-returns-then-words-needed
+returns-then-words-needed : tie.Need-returns-then-words-needed
 unfolding save_reply
-returns-5 c =
+returns-then-words-needed c =
     let f = c.before in
     let e = f.before.before in
     let d = e.before.before.before in
@@ -135,12 +135,12 @@ write-requires c κs =
       ),
     )
 
-same_length : tie.Need-shape_of-words
-same_length c = search rules
+shape_of-words : tie.Need-shape_of-words
+shape_of-words c = search rules
 
-returns-6 : tie.Need-returns
-returns-6 c =
-    let g = else5-write-arg c.before.before.before in
+returns : tie.Need-returns
+returns c =
+    let g = else5_write_arg c.before.before.before in
     let f = g.before in
     let e = f.before.before in
     let d = e.before.before.before in
@@ -160,4 +160,17 @@ returns-6 c =
 pub save_spec : {M : Type 1} → statement M
 save_spec =
     tie.close
-    (tie.spec outside-requires returns outside-requires-2 returns-2 returns-3 are-storable-requires returns-4 mul-needed add-needed returns-5 write-requires same_length returns-6)
+    (tie.spec
+    outside-requires
+    returns-then-outside
+    outside-requires-2
+    returns-then-outside-2
+    returns-then-codes-positions
+    are_storable-requires
+    returns-then-not-are_storable
+    overflow_mul-needed
+    overflow_add-needed
+    returns-then-words-needed
+    write-requires
+    shape_of-words
+    returns)

@@ -5,25 +5,25 @@ use Rattle.strands.specs.Complement.{complement}
 use Rattle.strands.proofs.complement.Statement.{statement}
 use Rattle.strands.proofs.complement.Tie as tie
 
-returns : tie.Need-returns-in-65
+returns-in-65 : tie.Need-returns-in-65
 unfolding complement
-returns c = ⊎_elim (λ h. rw h) (λ h. rw h) c.in-65.is
+returns-in-65 c = ⊎_elim (λ h. rw h) (λ h. rw h) c.in-65.is
 
-returns-2 : tie.Need-returns-in-67
+returns-in-67 : tie.Need-returns-in-67
 unfolding complement
-returns-2 c = ⊎_elim (λ h. rw h) (λ h. rw h) c.in-67.is
+returns-in-67 c = ⊎_elim (λ h. rw h) (λ h. rw h) c.in-67.is
 
-returns-3 : tie.Need-returns-in-71
+returns-in-71 : tie.Need-returns-in-71
 unfolding complement
-returns-3 c = ⊎_elim (λ h. rw h) (λ h. rw h) c.in-71.is
+returns-in-71 c = ⊎_elim (λ h. rw h) (λ h. rw h) c.in-71.is
 
-returns-4 : tie.Need-returns-in-84
+returns-in-84 : tie.Need-returns-in-84
 unfolding complement
-returns-4 c = ⊎_elim (λ h. rw h) (λ h. rw h) c.in-84.is
+returns-in-84 c = ⊎_elim (λ h. rw h) (λ h. rw h) c.in-84.is
 
-returns-5 : tie.Need-returns-in_default
+returns-in_default : tie.Need-returns-in_default
 unfolding complement
-returns-5 c =
+returns-in_default c =
     let b = c.args.b in
     let none = c.in_default.in_default-own.rest in
     simp (
@@ -38,4 +38,4 @@ returns-5 c =
     )
 
 pub complement_spec : {M : Type 1} → statement M
-complement_spec = tie.close (tie.spec returns returns-2 returns-3 returns-4 returns-5)
+complement_spec = tie.close (tie.spec returns-in-65 returns-in-67 returns-in-71 returns-in-84 returns-in_default)

@@ -54,50 +54,61 @@ abbrev decreases-loop : tie.decreases-loop-i
 decreases-loop read out₀ n i₀ out i = n - i
 
 -- the turn of the loop, from where the letter is complemented
-abbrev turn : tie.After-complement invariant-loop decreases-loop → tie.At-loop-i invariant-loop decreases-loop
-turn c = c.before.before.before
+returns-then-out-n : tie.Need-returns-then-out-n invariant-loop decreases-loop
+returns-then-out-n c = too_short _ _ c.if-out-n.true
 
-returns : tie.Need-returns-then-out-n invariant-loop decreases-loop
-returns c = too_short _ _ c.if-out-n.true
+loop-i-init : tie.Need-loop-i-init invariant-loop decreases-loop
+loop-i-init c = search rules
 
-loop-holds : tie.Need-loop-i-init invariant-loop decreases-loop
-loop-holds c = search rules
+overflow_sub-n : tie.Need-overflow_sub-n invariant-loop decreases-loop
+overflow_sub-n c = search rules
 
-sub-complement : tie.Need-overflow_sub-n invariant-loop decreases-loop
-sub-complement c = search rules
+overflow_sub-n-in-loop-i : tie.Need-overflow_sub-n-in-loop-i invariant-loop decreases-loop
+overflow_sub-n-in-loop-i c = search rules
 
-sub-complement-2 : tie.Need-overflow_sub-n-in-loop-i invariant-loop decreases-loop
-sub-complement-2 c = search rules
-
-shared-slice-read-complement : tie.Need-bounds-read-n invariant-loop decreases-loop
-shared-slice-read-complement c = search rules
+bounds-read-n : tie.Need-bounds-read-n invariant-loop decreases-loop
+bounds-read-n c = search rules
 
 complement-requires : tie.Need-complement-requires invariant-loop decreases-loop
 complement-requires c κs = search rules
 
-slice-write-out : tie.Need-bounds-out-i invariant-loop decreases-loop
-slice-write-out c = search rules
+bounds-out-i : tie.Need-bounds-out-i invariant-loop decreases-loop
+bounds-out-i c = search rules
 
-add-i : tie.Need-overflow_add-i invariant-loop decreases-loop
-add-i c = search rules
+overflow_add-i : tie.Need-overflow_add-i invariant-loop decreases-loop
+overflow_add-i c = search rules
 
-loop-less : tie.Need-loop-i-smaller invariant-loop decreases-loop
-loop-less c = search rules
+loop-i-smaller : tie.Need-loop-i-smaller invariant-loop decreases-loop
+loop-i-smaller c = search rules
 
-loop-again : tie.Need-loop-i-preserved invariant-loop decreases-loop
-loop-again c =
+loop-i-preserved : tie.Need-loop-i-preserved invariant-loop decreases-loop
+loop-i-preserved c =
     let held = c.loop-i.invariant in
     (omega arith, more _ _ _ _ _ (omega arith) (omega arith) c.complement.ensures held.1, search rules)
 
-same_length : tie.Need-shape_of-out invariant-loop decreases-loop
-same_length c = search rules
+shape_of-out : tie.Need-shape_of-out invariant-loop decreases-loop
+shape_of-out c = search rules
 
-returns-2 : tie.Need-returns invariant-loop decreases-loop
-returns-2 c =
+returns : tie.Need-returns invariant-loop decreases-loop
+returns c =
     let held = c.loop-i.invariant in
     all _ _ _ _ held.0 c.loop-i-test.false (omega arith) held.1
 
 pub reverse_complement_spec : {M : Type 1} → statement M
 reverse_complement_spec =
     tie.close
-    (tie.spec invariant-loop decreases-loop returns loop-holds sub-complement sub-complement-2 shared-slice-read-complement complement-requires slice-write-out add-i loop-less loop-again same_length returns-2)
+    (tie.spec
+    invariant-loop
+    decreases-loop
+    returns-then-out-n
+    loop-i-init
+    overflow_sub-n
+    overflow_sub-n-in-loop-i
+    bounds-read-n
+    complement-requires
+    bounds-out-i
+    overflow_add-i
+    loop-i-smaller
+    loop-i-preserved
+    shape_of-out
+    returns)

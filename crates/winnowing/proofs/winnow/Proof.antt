@@ -7,13 +7,12 @@ use Rattle.winnowing.proofs.Within.{not_beyond}
 use Rattle.winnowing.proofs.winnow.Statement.{statement}
 use Rattle.winnowing.proofs.winnow.Tie as tie
 
--- places, each named for where it leads and from where
-is-beyond-requires : tie.Need-is_beyond-requires
-is-beyond-requires c κs = search rules
+is_beyond-requires : tie.Need-is_beyond-requires
+is_beyond-requires c κs = search rules
 
-returns : tie.Need-returns-then-is_beyond
+returns-then-is_beyond : tie.Need-returns-then-is_beyond
 unfolding winnowed
-returns c = rw (sym c.is_beyond.ensures ∙ c.if-is_beyond.true)
+returns-then-is_beyond c = rw (sym c.is_beyond.ensures ∙ c.if-is_beyond.true)
 
 scan-requires : tie.Need-scan-requires
 scan-requires c κs =
@@ -21,19 +20,19 @@ scan-requires c κs =
     not_beyond args.k args.w (length args.letters.now) args.codes.now args.positions.now args.room
     (sym c.is_beyond.ensures ∙ c.if-is_beyond.false)
 
-same_length : tie.Need-shape_of-codes
-same_length c = search rules
+shape_of-codes : tie.Need-shape_of-codes
+shape_of-codes c = search rules
 
-same-length-2 : tie.Need-shape_of-positions
-same-length-2 c = search rules
+shape_of-positions : tie.Need-shape_of-positions
+shape_of-positions c = search rules
 
-returns-2 : tie.Need-returns
+returns : tie.Need-returns
 unfolding winnowed
-returns-2 c =
+returns c =
     rw (sym c.is_beyond.ensures ∙ c.if-is_beyond.false)
     c.scan.ensures
 
 pub winnow_spec : {M : Type 1} → statement M
 winnow_spec =
     tie.close
-    (tie.spec is-beyond-requires returns scan-requires same_length same-length-2 returns-2)
+    (tie.spec is_beyond-requires returns-then-is_beyond scan-requires shape_of-codes shape_of-positions returns)

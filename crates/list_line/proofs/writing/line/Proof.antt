@@ -4,14 +4,14 @@ use borrow.Author.Rules.{rules}
 use Rattle.list_line.proofs.writing.line.Statement.{statement}
 use Rattle.list_line.proofs.writing.line.Tie as tie
 
-write-line-requires : tie.Need-write_line-n-requires
-write-line-requires c κs = search rules
+write_line-n-requires : tie.Need-write_line-n-requires
+write_line-n-requires c κs = search rules
 
-slice-aggregate-result : tie.Need-slice_bounds-result-end
-slice-aggregate-result c = line_count c.write_line-n.ensures
+slice_bounds-result-end : tie.Need-slice_bounds-result-end
+slice_bounds-result-end c = line_count c.write_line-n.ensures
 
 returns : tie.Need-returns
 returns c = line_part c.write_line-n.ensures
 
 pub line_spec : {M : Type 1} → statement M
-line_spec = tie.close (tie.spec write-line-requires slice-aggregate-result returns)
+line_spec = tie.close (tie.spec write_line-n-requires slice_bounds-result-end returns)

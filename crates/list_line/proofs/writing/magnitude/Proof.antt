@@ -40,17 +40,17 @@ module _ (z : ℤ) (fits : SFits w32 z) (below : le_z (pos 0) z ≡ false) where
   cast_fits : T (non_neg (to_z w64 (of_z w64 number))) × Fits w32 (nat_abs (to_z w64 (of_z w64 number)))
   cast_fits = subst (λ (y : ℤ). T (non_neg y) × Fits w32 (nat_abs y)) (sym read_is) (tt, Fits-nat_abs tt fits)
 
-cast-result : tie.Need-overflow_cast-result
-cast-result c = wide c.args.z c.ranges.z c.requires
+overflow_cast-result : tie.Need-overflow_cast-result
+overflow_cast-result c = wide c.args.z c.ranges.z c.requires
 
-sub-result : tie.Need-overflow_sub-result
-sub-result c = number_fits c.args.z c.ranges.z c.requires
+overflow_sub-result : tie.Need-overflow_sub-result
+overflow_sub-result c = number_fits c.args.z c.ranges.z c.requires
 
-cast-result-2 : tie.Need-overflow_cast-result-2
-cast-result-2 c = cast_fits c.args.z c.ranges.z c.requires
+overflow_cast-result-2 : tie.Need-overflow_cast-result-2
+overflow_cast-result-2 c = cast_fits c.args.z c.ranges.z c.requires
 
 returns : tie.Need-returns
 returns c = ap nat_abs (read_is c.args.z c.ranges.z c.requires)
 
 pub magnitude_spec : {M : Type 1} → statement M
-magnitude_spec = tie.close (tie.spec cast-result sub-result cast-result-2 returns)
+magnitude_spec = tie.close (tie.spec overflow_cast-result overflow_sub-result overflow_cast-result-2 returns)

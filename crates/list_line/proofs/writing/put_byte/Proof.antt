@@ -20,20 +20,20 @@ stored b at old h =
     set_split old at b h ∙ sym (append_snoc (take at old) b (drop (at + 1) old) ∙ ap (λ (n : ℕ). take at old ++ b ∷ drop n old) (add-one at)) in
     record { index = w.index; buffer = e ∙ w.buffer }
 
-returns : tie.Need-returns-then-out-at
-returns c = let args = c.args in kept_behind (args.b ∷ []) args.at args.out.now (omega arith)
+returns-then-out-at : tie.Need-returns-then-out-at
+returns-then-out-at c = let args = c.args in kept_behind (args.b ∷ []) args.at args.out.now (omega arith)
 
-slice-write-out : tie.Need-bounds-out-at
-slice-write-out c = search rules
+bounds-out-at : tie.Need-bounds-out-at
+bounds-out-at c = search rules
 
-add-result : tie.Need-overflow_add-result
-add-result c = search rules
+overflow_add-result : tie.Need-overflow_add-result
+overflow_add-result c = search rules
 
-same_length : tie.Need-shape_of-out
-same_length c = search rules
+shape_of-out : tie.Need-shape_of-out
+shape_of-out c = search rules
 
-returns-2 : tie.Need-returns
-returns-2 c = stored _ _ _ c.if-out-at.false
+returns : tie.Need-returns
+returns c = stored _ _ _ c.if-out-at.false
 
 pub put_byte_spec : {M : Type 1} → statement M
-put_byte_spec = tie.close (tie.spec returns slice-write-out add-result same_length returns-2)
+put_byte_spec = tie.close (tie.spec returns-then-out-at bounds-out-at overflow_add-result shape_of-out returns)

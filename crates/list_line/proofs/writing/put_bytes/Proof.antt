@@ -36,60 +36,75 @@ whole old bytes new at j e room end =
     ∙ ap (λ (l : List ℕ). take at old ++ l ++ drop (at + length bytes) old) (take-length bytes) in
     record { index = ap (λ (n : ℕ). at + n) end ∙ w.index; buffer = d ∙ w.buffer }
 
-returns : tie.Need-returns-then-out-at invariant-loop decreases-loop
-returns c = kept_behind _ _ _ (le_of_lt c.if-out-at.true)
+returns-then-out-at : tie.Need-returns-then-out-at invariant-loop decreases-loop
+returns-then-out-at c = kept_behind _ _ _ (le_of_lt c.if-out-at.true)
 
-sub-if2 : tie.Need-overflow_sub-out invariant-loop decreases-loop
-sub-if2 c = omega arith
+overflow_sub-out : tie.Need-overflow_sub-out invariant-loop decreases-loop
+overflow_sub-out c = omega arith
 
-returns-2 : tie.Need-returns-then-out-at-2 invariant-loop decreases-loop
-returns-2 c = kept_short _ _ _ c.if-out-at-2.true
+returns-then-out-at-2 : tie.Need-returns-then-out-at-2 invariant-loop decreases-loop
+returns-then-out-at-2 c = kept_short _ _ _ c.if-out-at-2.true
 
-loop-holds : tie.Need-loop-j-init invariant-loop decreases-loop
-loop-holds c = (omega arith, refl, paste-zero c.args.out.now c.args.at c.args.bytes.now)
+loop-j-init : tie.Need-loop-j-init invariant-loop decreases-loop
+loop-j-init c = (omega arith, refl, paste-zero c.args.out.now c.args.at c.args.bytes.now)
 
-shared-slice-read-out : tie.Need-bounds-bytes-j invariant-loop decreases-loop
-shared-slice-read-out c = omega arith
+bounds-bytes-j : tie.Need-bounds-bytes-j invariant-loop decreases-loop
+bounds-bytes-j c = omega arith
 
-add-out : tie.Need-overflow_add-out invariant-loop decreases-loop
-add-out c = omega arith
+overflow_add-out : tie.Need-overflow_add-out invariant-loop decreases-loop
+overflow_add-out c = omega arith
 
-slice-write-out : tie.Need-bounds-out-at invariant-loop decreases-loop
-slice-write-out c = omega arith
+bounds-out-at : tie.Need-bounds-out-at invariant-loop decreases-loop
+bounds-out-at c = omega arith
 
-add-j : tie.Need-overflow_add-j invariant-loop decreases-loop
-add-j c = omega arith
+overflow_add-j : tie.Need-overflow_add-j invariant-loop decreases-loop
+overflow_add-j c = omega arith
 
-loop-less : tie.Need-loop-j-smaller invariant-loop decreases-loop
-loop-less c = omega arith
+loop-j-smaller : tie.Need-loop-j-smaller invariant-loop decreases-loop
+loop-j-smaller c = omega arith
 
-loop-again : tie.Need-loop-j-preserved invariant-loop decreases-loop
-loop-again c =
-    let at-loop = c.before.before in
-    let at-start = at-loop.before.before.before in (
+loop-j-preserved : tie.Need-loop-j-preserved invariant-loop decreases-loop
+loop-j-preserved c =
+    let at_loop = c.before.before in
+    let at_start = at_loop.before.before.before in (
       omega arith,
-      simp length-set at-loop.loop-j.invariant.1,
+      simp length-set at_loop.loop-j.invariant.1,
       copied
-          at-start.args.out.now
-          at-start.args.bytes.now
-          at-loop.loop-j.out
-          at-start.args.at
-          at-loop.loop-j.j
-          at-loop.loop-j.invariant.2
+          at_start.args.out.now
+          at_start.args.bytes.now
+          at_loop.loop-j.out
+          at_start.args.at
+          at_loop.loop-j.j
+          at_loop.loop-j.invariant.2
           (omega arith)
           c.loop-j-test.true,
     )
 
-add-result : tie.Need-overflow_add-result invariant-loop decreases-loop
-add-result c = omega arith
+overflow_add-result : tie.Need-overflow_add-result invariant-loop decreases-loop
+overflow_add-result c = omega arith
 
-same_length : tie.Need-shape_of-out invariant-loop decreases-loop
-same_length c = c.loop-j.invariant.1
+shape_of-out : tie.Need-shape_of-out invariant-loop decreases-loop
+shape_of-out c = c.loop-j.invariant.1
 
-returns-3 : tie.Need-returns invariant-loop decreases-loop
-returns-3 c = whole _ _ _ _ _ c.loop-j.invariant.2 (omega arith) (omega arith)
+returns : tie.Need-returns invariant-loop decreases-loop
+returns c = whole _ _ _ _ _ c.loop-j.invariant.2 (omega arith) (omega arith)
 
 pub put_bytes_spec : {M : Type 1} → statement M
 put_bytes_spec =
     tie.close
-    (tie.spec invariant-loop decreases-loop returns sub-if2 returns-2 loop-holds shared-slice-read-out add-out slice-write-out add-j loop-less loop-again add-result same_length returns-3)
+    (tie.spec
+    invariant-loop
+    decreases-loop
+    returns-then-out-at
+    overflow_sub-out
+    returns-then-out-at-2
+    loop-j-init
+    bounds-bytes-j
+    overflow_add-out
+    bounds-out-at
+    overflow_add-j
+    loop-j-smaller
+    loop-j-preserved
+    overflow_add-result
+    shape_of-out
+    returns)

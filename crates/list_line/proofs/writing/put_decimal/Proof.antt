@@ -8,36 +8,43 @@ use Rattle.list_line.proofs.Buffers.{same_bytes, part_to_end}
 use Rattle.list_line.proofs.writing.put_decimal.Statement.{statement}
 use Rattle.list_line.proofs.writing.put_decimal.Tie as tie
 
--- places, each named for where it leads and from where
-slice-aggregate-write-digits : tie.Need-slice_bounds-write_digits-end
-slice-aggregate-write-digits c = search rules
+slice_bounds-write_digits-end : tie.Need-slice_bounds-write_digits-end
+slice_bounds-write_digits-end c = search rules
 
-write-digits-requires : tie.Need-write_digits-from-requires
-write-digits-requires c κs = search rules
+write_digits-from-requires : tie.Need-write_digits-from-requires
+write_digits-from-requires c κs = search rules
 
-sub-put-bytes : tie.Need-slice_bounds-put_bytes-count
-sub-put-bytes c = search rules
+slice_bounds-put_bytes-count : tie.Need-slice_bounds-put_bytes-count
+slice_bounds-put_bytes-count c = search rules
 
-part-put-bytes-start : tie.Need-slice_bounds-put_bytes-start
-part-put-bytes-start c = search rules
+slice_bounds-put_bytes-start : tie.Need-slice_bounds-put_bytes-start
+slice_bounds-put_bytes-start c = search rules
 
-part-put-bytes-end : tie.Need-slice_bounds-put_bytes-end
-part-put-bytes-end c = search rules
+slice_bounds-put_bytes-end : tie.Need-slice_bounds-put_bytes-end
+slice_bounds-put_bytes-end c = search rules
 
-put-bytes-requires : tie.Need-put_bytes-requires
-put-bytes-requires c κs = search rules
+put_bytes-requires : tie.Need-put_bytes-requires
+put_bytes-requires c κs = search rules
 
-same_length : tie.Need-shape_of-out
-same_length c = search rules
+shape_of-out : tie.Need-shape_of-out
+shape_of-out c = search rules
 
 returns : tie.Need-returns
 returns c =
-    let at-digits = c in
-    let digits = at-digits.write_digits-from.new.digits in
+    let at_digits = c in
+    let digits = at_digits.write_digits-from.new.digits in
     let long : length digits ≤ 10 = omega arith in
-    same_bytes (part_to_end digits 10 at-digits.write_digits-from.result long ∙ at-digits.write_digits-from.ensures.1) c.put_bytes.ensures
+    same_bytes (part_to_end digits 10 at_digits.write_digits-from.result long ∙ at_digits.write_digits-from.ensures.1) c.put_bytes.ensures
 
 pub put_decimal_spec : {M : Type 1} → statement M
 put_decimal_spec =
     tie.close
-    (tie.spec slice-aggregate-write-digits write-digits-requires sub-put-bytes part-put-bytes-start part-put-bytes-end put-bytes-requires same_length returns)
+    (tie.spec
+    slice_bounds-write_digits-end
+    write_digits-from-requires
+    slice_bounds-put_bytes-count
+    slice_bounds-put_bytes-start
+    slice_bounds-put_bytes-end
+    put_bytes-requires
+    shape_of-out
+    returns)

@@ -15,8 +15,8 @@ use Rattle.list_line.proofs.writing.put_fraction.Statement.{statement}
 use Rattle.list_line.proofs.writing.put_fraction.Tie as tie
 
 -- places, each named for where it leads and from where
-abbrev put-decimal2-text6 : tie.After-text-6-1 → tie.After-put_decimal-end-2
-put-decimal2-text6 c = c.before
+abbrev put_decimal2_text6 : tie.After-text-6-1 → tie.After-put_decimal-end-2
+put_decimal2_text6 c = c.before
 
 -- the calls, from the last to the first
 module _ (c : tie.After-put_decimal-end-2) where
@@ -33,8 +33,8 @@ module _ (c : tie.After-put_decimal-end-2) where
   printed = decimal entry.args.m ++ slash ∷ decimal entry.args.divisor
 
   -- the fraction in the local bytes
-  text-is : Written printed 0 (replicate 21 0) c.put_decimal-end-2.new.out c.put_decimal-end-2.result
-  text-is =
+  text_is : Written printed 0 (replicate 21 0) c.put_decimal-end-2.new.out c.put_decimal-end-2.result
+  text_is =
       let a : length (decimal entry.args.m) ≤ 10 = length_decimal entry.args.m in
       let b : length (decimal entry.args.divisor) ≤ 10 = length_decimal entry.args.divisor in
       joined_by c1.put_decimal-end.ensures c2.put_byte-end.ensures c.put_decimal-end-2.ensures (omega arith)
@@ -44,49 +44,60 @@ module _ (c : tie.After-put_decimal-end-2) where
 
   inside : c.put_decimal-end-2.result ≤ length c.put_decimal-end-2.new.out
   inside =
-      let e : c.put_decimal-end-2.result ≡ length printed = start_index text-is short in
-      let l : length c.put_decimal-end-2.new.out ≡ 21 = start_length text-is short in
+      let e : c.put_decimal-end-2.result ≡ length printed = start_index text_is short in
+      let l : length c.put_decimal-end-2.new.out ≡ 21 = start_length text_is short in
       let h : length printed ≤ 21 = short in
       omega arith
 
-slice-aggregate-put-decimal : tie.Need-slice_bounds-put_decimal-end
-slice-aggregate-put-decimal c = search rules
+slice_bounds-put_decimal-end : tie.Need-slice_bounds-put_decimal-end
+slice_bounds-put_decimal-end c = search rules
 
-put-decimal-requires : tie.Need-put_decimal-end-requires
-put-decimal-requires c κs = search rules
+put_decimal-end-requires : tie.Need-put_decimal-end-requires
+put_decimal-end-requires c κs = search rules
 
-slice-aggregate-put-byte : tie.Need-slice_bounds-put_byte-end
-slice-aggregate-put-byte c = search rules
+slice_bounds-put_byte-end : tie.Need-slice_bounds-put_byte-end
+slice_bounds-put_byte-end c = search rules
 
-put-byte-requires : tie.Need-put_byte-end-requires
-put-byte-requires c κs = search rules
+put_byte-end-requires : tie.Need-put_byte-end-requires
+put_byte-end-requires c κs = search rules
 
-slice-aggregate-put-decimal-2 : tie.Need-slice_bounds-put_decimal-end-2
-slice-aggregate-put-decimal-2 c = search rules
+slice_bounds-put_decimal-end-2 : tie.Need-slice_bounds-put_decimal-end-2
+slice_bounds-put_decimal-end-2 c = search rules
 
-put-decimal-requires-2 : tie.Need-put_decimal-end-requires-2
-put-decimal-requires-2 c κs = search rules
+put_decimal-end-requires-2 : tie.Need-put_decimal-end-requires-2
+put_decimal-end-requires-2 c κs = search rules
 
-array-share-prefix-text : tie.Need-slice_bounds-text-end
-array-share-prefix-text c = inside c.before.before
+slice_bounds-text-end : tie.Need-slice_bounds-text-end
+slice_bounds-text-end c = inside c.before.before
 
-slice-aggregate-put-bytes : tie.Need-slice_bounds-put_bytes-end
-slice-aggregate-put-bytes c = let at_end =
+slice_bounds-put_bytes-end : tie.Need-slice_bounds-put_bytes-end
+slice_bounds-put_bytes-end c = let at_end =
     c.before.before.before in sym (length-take-le at_end.put_decimal-end-2.result at_end.put_decimal-end-2.new.out (inside at_end))
 
-put-bytes-requires : tie.Need-put_bytes-requires
-put-bytes-requires c κs = search rules
+put_bytes-requires : tie.Need-put_bytes-requires
+put_bytes-requires c κs = search rules
 
-same_length : tie.Need-shape_of-out
-same_length c = search rules
+shape_of-out : tie.Need-shape_of-out
+shape_of-out c = search rules
 
 returns : tie.Need-returns
 returns c =
     let wrote = c.before.before in
-    let at_end = put-decimal2-text6 wrote.before.before.before in
-    same_bytes (start_part (text-is at_end) (short at_end)) wrote.put_bytes.ensures
+    let at_end = put_decimal2_text6 wrote.before.before.before in
+    same_bytes (start_part (text_is at_end) (short at_end)) wrote.put_bytes.ensures
 
 pub put_fraction_spec : {M : Type 1} → statement M
 put_fraction_spec =
     tie.close
-    (tie.spec slice-aggregate-put-decimal put-decimal-requires slice-aggregate-put-byte put-byte-requires slice-aggregate-put-decimal-2 put-decimal-requires-2 array-share-prefix-text slice-aggregate-put-bytes put-bytes-requires same_length returns)
+    (tie.spec
+    slice_bounds-put_decimal-end
+    put_decimal-end-requires
+    slice_bounds-put_byte-end
+    put_byte-end-requires
+    slice_bounds-put_decimal-end-2
+    put_decimal-end-requires-2
+    slice_bounds-text-end
+    slice_bounds-put_bytes-end
+    put_bytes-requires
+    shape_of-out
+    returns)

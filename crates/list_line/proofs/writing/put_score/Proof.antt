@@ -8,37 +8,44 @@ use borrow.Author.Rules.{rules, sfits_of}
 use Rattle.list_line.proofs.writing.put_score.Statement.{statement}
 use Rattle.list_line.proofs.writing.put_score.Tie as tie
 
--- places, each named for where it leads and from where
-enum-known-score : tie.Need-enum_known-score
-enum-known-score c = search rules
+enum_known-score : tie.Need-enum_known-score
+enum_known-score c = search rules
 
-put-signed-requires : tie.Need-put_signed-requires
-put-signed-requires c κs = search rules
+put_signed-requires : tie.Need-put_signed-requires
+put_signed-requires c κs = search rules
 
-enum-known-score-2 : tie.Need-enum_known-score-in-Fraction-1
-enum-known-score-2 c = search rules
+enum_known-score-in-Fraction-1 : tie.Need-enum_known-score-in-Fraction-1
+enum_known-score-in-Fraction-1 c = search rules
 
-put-fraction-requires : tie.Need-put_fraction-requires
-put-fraction-requires c κs = search rules
+put_fraction-requires : tie.Need-put_fraction-requires
+put_fraction-requires c κs = search rules
 
-same_length : tie.Need-shape_of-out-in-Number
-same_length c = search rules
+shape_of-out-in-Number : tie.Need-shape_of-out-in-Number
+shape_of-out-in-Number c = search rules
 
-returns : tie.Need-returns-in-Number
+returns-in-Number : tie.Need-returns-in-Number
 unfolding shown_score
-returns c =
+returns-in-Number c =
     same_bytes (ap signed (to_z-of_z {w = w32} (sfits_of c.in-Number.known_told-1-own.given.0.1)) ∙ sym (ap shown_score c.in-Number.is))
     c.put_signed.ensures
 
-same-length-2 : tie.Need-shape_of-out-in-Fraction
-same-length-2 c = search rules
+shape_of-out-in-Fraction : tie.Need-shape_of-out-in-Fraction
+shape_of-out-in-Fraction c = search rules
 
-returns-2 : tie.Need-returns-in-Fraction
+returns-in-Fraction : tie.Need-returns-in-Fraction
 unfolding shown_score
-returns-2 c =
+returns-in-Fraction c =
     same_bytes (sym (ap shown_score c.in-Fraction.is)) c.put_fraction.ensures
 
 pub put_score_spec : {M : Type 1} → statement M
 put_score_spec =
     tie.close
-    (tie.spec enum-known-score put-signed-requires enum-known-score-2 put-fraction-requires same_length returns same-length-2 returns-2)
+    (tie.spec
+    enum_known-score
+    put_signed-requires
+    enum_known-score-in-Fraction-1
+    put_fraction-requires
+    shape_of-out-in-Number
+    returns-in-Number
+    shape_of-out-in-Fraction
+    returns-in-Fraction)

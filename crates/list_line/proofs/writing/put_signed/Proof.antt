@@ -19,11 +19,6 @@ use borrow.Author.Rules.{rules}
 use Rattle.list_line.proofs.writing.put_signed.Statement.{statement}
 use Rattle.list_line.proofs.writing.put_signed.Tie as tie
 
--- places, each named for where it leads and from where
-abbrev write-digits-put-bytes-arg2 : tie.After-put_bytes-arg-2-1 → tie.After-write_digits-from
-write-digits-put-bytes-arg2 c = c.before.before.before
-
--- a number from 0 on
 module _ (z : ℤ) (fits : SFits w32 z) (above : le_z (pos 0) (to_z w32 (of_z w32 z)) ≡ true) where
   not_negative : (y : ℤ) → le_z (pos 0) y ≡ true → T (non_neg y)
   not_negative (pos n) e = tt
@@ -64,56 +59,56 @@ module _ (z : ℤ) (fits : SFits w32 z) (below : le_z (pos 0) (to_z w32 (of_z w3
 sized : (d : List ℕ) (from b : ℕ) → length d ≡ 10 → 11 ≤ length (set (0 ∷ (d ++ [])) from b)
 sized d from b long = let longer : length (d ++ []) ≡ 10 = ap length (append-nil d) ∙ long in simp length-set (omega arith)
 
-cast-put-decimal : tie.Need-overflow_cast-z
-cast-put-decimal c = let at-start = c in cast_fits at-start.args.z at-start.ranges.z c.if-z-ge0.true
+overflow_cast-z : tie.Need-overflow_cast-z
+overflow_cast-z c = let at_start = c in cast_fits at_start.args.z at_start.ranges.z c.if-z-ge0.true
 
-put-decimal-requires : tie.Need-put_decimal-requires
-put-decimal-requires c κs = search rules
+put_decimal-requires : tie.Need-put_decimal-requires
+put_decimal-requires c κs = search rules
 
-same_length : tie.Need-shape_of-out-then-z-ge0
-same_length c = search rules
+shape_of-out-then-z-ge0 : tie.Need-shape_of-out-then-z-ge0
+shape_of-out-then-z-ge0 c = search rules
 
-returns : tie.Need-returns-then-z-ge0
-returns c =
-    let at-start = c in
-    same_bytes (digits_are at-start.args.z at-start.ranges.z c.if-z-ge0.true)
+returns-then-z-ge0 : tie.Need-returns-then-z-ge0
+returns-then-z-ge0 c =
+    let at_start = c in
+    same_bytes (digits_are at_start.args.z at_start.ranges.z c.if-z-ge0.true)
     c.put_decimal.ensures
 
-sub-write-digits : tie.Need-slice_bounds-write_digits-count
-sub-write-digits c = search rules
+slice_bounds-write_digits-count : tie.Need-slice_bounds-write_digits-count
+slice_bounds-write_digits-count c = search rules
 
-part-digits-start : tie.Need-slice_bounds-digits-start
-part-digits-start c = search rules
+slice_bounds-digits-start : tie.Need-slice_bounds-digits-start
+slice_bounds-digits-start c = search rules
 
-part-digits-end : tie.Need-slice_bounds-digits-end
-part-digits-end c = search rules
+slice_bounds-digits-end : tie.Need-slice_bounds-digits-end
+slice_bounds-digits-end c = search rules
 
 magnitude-requires : tie.Need-magnitude-requires
 magnitude-requires c κs = search rules
 
-write-digits-requires : tie.Need-write_digits-from-requires
-write-digits-requires c κs = search rules
+write_digits-from-requires : tie.Need-write_digits-from-requires
+write_digits-from-requires c κs = search rules
 
-array-write-digits : tie.Need-bounds-digits-from
-array-write-digits c = search rules
+bounds-digits-from : tie.Need-bounds-digits-from
+bounds-digits-from c = search rules
 
-sub-put-bytes : tie.Need-slice_bounds-put_bytes-count
-sub-put-bytes c = search rules
+slice_bounds-put_bytes-count : tie.Need-slice_bounds-put_bytes-count
+slice_bounds-put_bytes-count c = search rules
 
-part-put-bytes-start : tie.Need-slice_bounds-put_bytes-start
-part-put-bytes-start c = search rules
+slice_bounds-put_bytes-start : tie.Need-slice_bounds-put_bytes-start
+slice_bounds-put_bytes-start c = search rules
 
-part-put-bytes-end : tie.Need-slice_bounds-put_bytes-end
-part-put-bytes-end c = let at-digits = c in sized at-digits.write_digits-from.new.digits at-digits.write_digits-from.result _ at-digits.write_digits-from.auto.digits
+slice_bounds-put_bytes-end : tie.Need-slice_bounds-put_bytes-end
+slice_bounds-put_bytes-end c = let at_digits = c in sized at_digits.write_digits-from.new.digits at_digits.write_digits-from.result _ at_digits.write_digits-from.auto.digits
 
-put-bytes-requires : tie.Need-put_bytes-requires
-put-bytes-requires c κs = search rules
+put_bytes-requires : tie.Need-put_bytes-requires
+put_bytes-requires c κs = search rules
 
-same-length-2 : tie.Need-shape_of-out
-same-length-2 c = search rules
+shape_of-out : tie.Need-shape_of-out
+shape_of-out c = search rules
 
-returns-2 : tie.Need-returns
-returns-2 c =
+returns : tie.Need-returns
+returns c =
     same_bytes
     (all_are
     c.args.z
@@ -129,4 +124,20 @@ returns-2 c =
 pub put_signed_spec : {M : Type 1} → statement M
 put_signed_spec =
     tie.close
-    (tie.spec cast-put-decimal put-decimal-requires same_length returns sub-write-digits part-digits-start part-digits-end magnitude-requires write-digits-requires array-write-digits sub-put-bytes part-put-bytes-start part-put-bytes-end put-bytes-requires same-length-2 returns-2)
+    (tie.spec
+    overflow_cast-z
+    put_decimal-requires
+    shape_of-out-then-z-ge0
+    returns-then-z-ge0
+    slice_bounds-write_digits-count
+    slice_bounds-digits-start
+    slice_bounds-digits-end
+    magnitude-requires
+    write_digits-from-requires
+    bounds-digits-from
+    slice_bounds-put_bytes-count
+    slice_bounds-put_bytes-start
+    slice_bounds-put_bytes-end
+    put_bytes-requires
+    shape_of-out
+    returns)

@@ -50,42 +50,42 @@ invariant-loop digits₀ n rest₀ i₀ digits rest i = (length digits ≡ 10) �
 abbrev decreases-loop : tie.decreases-loop-rest
 decreases-loop digits₀ n rest₀ i₀ digits rest i = rest
 
-loop-holds : tie.Need-loop-rest-init invariant-loop decreases-loop
-loop-holds c = (c.requires, (omega arith, omega arith, omega arith, none c.args.digits.now c.args.n c.requires))
+loop-rest-init : tie.Need-loop-rest-init invariant-loop decreases-loop
+loop-rest-init c = (c.requires, (omega arith, omega arith, omega arith, none c.args.digits.now c.args.n c.requires))
 
-sub-i : tie.Need-overflow_sub-i invariant-loop decreases-loop
-sub-i c = omega arith
+overflow_sub-i : tie.Need-overflow_sub-i invariant-loop decreases-loop
+overflow_sub-i c = omega arith
 
-cast-digits : tie.Need-overflow_cast-digits invariant-loop decreases-loop
-cast-digits c = omega arith
+overflow_cast-digits : tie.Need-overflow_cast-digits invariant-loop decreases-loop
+overflow_cast-digits c = omega arith
 
-add-digits : tie.Need-overflow_add-digits invariant-loop decreases-loop
-add-digits c = omega arith
+overflow_add-digits : tie.Need-overflow_add-digits invariant-loop decreases-loop
+overflow_add-digits c = omega arith
 
-slice-write-digits : tie.Need-bounds-digits-i invariant-loop decreases-loop
-slice-write-digits c = omega arith
+bounds-digits-i : tie.Need-bounds-digits-i invariant-loop decreases-loop
+bounds-digits-i c = omega arith
 
-loop-less : tie.Need-loop-rest-smaller invariant-loop decreases-loop
-loop-less c = omega arith
+loop-rest-smaller : tie.Need-loop-rest-smaller invariant-loop decreases-loop
+loop-rest-smaller c = omega arith
 
-loop-again : tie.Need-loop-rest-preserved invariant-loop decreases-loop
-loop-again c =
+loop-rest-preserved : tie.Need-loop-rest-preserved invariant-loop decreases-loop
+loop-rest-preserved c =
     (simp length-set c.loop-rest.invariant.0, more c.loop-rest.digits _ _ _ c.loop-rest.invariant.0 c.loop-rest-test.true c.loop-rest.invariant.1)
 
-sub-i-2 : tie.Need-overflow_sub-i-2 invariant-loop decreases-loop
-sub-i-2 c = omega arith
+overflow_sub-i-2 : tie.Need-overflow_sub-i-2 invariant-loop decreases-loop
+overflow_sub-i-2 c = omega arith
 
-cast-digits-2 : tie.Need-overflow_cast-digits-2 invariant-loop decreases-loop
-cast-digits-2 c = omega arith
+overflow_cast-digits-2 : tie.Need-overflow_cast-digits-2 invariant-loop decreases-loop
+overflow_cast-digits-2 c = omega arith
 
-add-digits-2 : tie.Need-overflow_add-digits-2 invariant-loop decreases-loop
-add-digits-2 c = omega arith
+overflow_add-digits-2 : tie.Need-overflow_add-digits-2 invariant-loop decreases-loop
+overflow_add-digits-2 c = omega arith
 
-slice-write-digits-2 : tie.Need-bounds-digits-i-2 invariant-loop decreases-loop
-slice-write-digits-2 c = omega arith
+bounds-digits-i-2 : tie.Need-bounds-digits-i-2 invariant-loop decreases-loop
+bounds-digits-i-2 c = omega arith
 
-same_length : tie.Need-shape_of-digits invariant-loop decreases-loop
-same_length c = simp length-set (c.loop-rest.invariant.0 ∙ sym c.requires)
+shape_of-digits : tie.Need-shape_of-digits invariant-loop decreases-loop
+shape_of-digits c = simp length-set (c.loop-rest.invariant.0 ∙ sym c.requires)
 
 returns : tie.Need-returns invariant-loop decreases-loop
 returns c = (
@@ -96,4 +96,19 @@ returns c = (
 pub write_digits_spec : {M : Type 1} → statement M
 write_digits_spec =
     tie.close
-    (tie.spec invariant-loop decreases-loop loop-holds sub-i cast-digits add-digits slice-write-digits loop-less loop-again sub-i-2 cast-digits-2 add-digits-2 slice-write-digits-2 same_length returns)
+    (tie.spec
+    invariant-loop
+    decreases-loop
+    loop-rest-init
+    overflow_sub-i
+    overflow_cast-digits
+    overflow_add-digits
+    bounds-digits-i
+    loop-rest-smaller
+    loop-rest-preserved
+    overflow_sub-i-2
+    overflow_cast-digits-2
+    overflow_add-digits-2
+    bounds-digits-i-2
+    shape_of-digits
+    returns)

@@ -17,8 +17,8 @@ use Rattle.list_line.proofs.writing.write_line.Statement.{statement}
 use Rattle.list_line.proofs.writing.write_line.Tie as tie
 
 -- places, each named for where it leads and from where
-abbrev put-byte7-text24 : tie.After-text-24-1 → tie.After-put_byte-at-7
-put-byte7-text24 c = c.before
+abbrev put_byte7_text24 : tie.After-text-24-1 → tie.After-put_byte-at-7
+put_byte7_text24 c = c.before
 
 module _ (first last : ℕ) (score : Score) (m per_mille : ℕ) (strand : Strand) {t0 t1 t2 t3 t4 t5 t6 t7 t8 t9 t10 t11 t12 : List ℕ}
     {n1 n2 n3 n4 n5 n6 n7 n8 n9 n10 n11 n12 : ℕ} (room : length t0 ≡ 68) where
@@ -89,8 +89,8 @@ module _ (c : tie.After-put_byte-at-7) where
   printed = let args = entry.args in line args.first args.last args.score args.m args.per_mille args.strand
 
   -- the line in the local bytes
-  text-is : Written printed 0 (replicate 68 0) c.put_byte-at-7.new.out c.put_byte-at-7.result
-  text-is =
+  text_is : Written printed 0 (replicate 68 0) c.put_byte-at-7.new.out c.put_byte-at-7.result
+  text_is =
       let args = entry.args in
       pieces
       args.first
@@ -118,106 +118,136 @@ module _ (c : tie.After-put_byte-at-7) where
 
   inside : c.put_byte-at-7.result ≤ length c.put_byte-at-7.new.out
   inside =
-      let e : c.put_byte-at-7.result ≡ length printed = start_index text-is short in
-      let l : length c.put_byte-at-7.new.out ≡ 68 = start_length text-is short in
+      let e : c.put_byte-at-7.result ≡ length printed = start_index text_is short in
+      let l : length c.put_byte-at-7.new.out ≡ 68 = start_length text_is short in
       let h : length printed ≤ 68 = short in
       omega arith
 
-slice-aggregate-put-decimal : tie.Need-slice_bounds-put_decimal-end
-slice-aggregate-put-decimal c = search rules
+slice_bounds-put_decimal-end : tie.Need-slice_bounds-put_decimal-end
+slice_bounds-put_decimal-end c = search rules
 
-put-decimal-requires : tie.Need-put_decimal-at-requires
-put-decimal-requires c κs = search rules
+put_decimal-at-requires : tie.Need-put_decimal-at-requires
+put_decimal-at-requires c κs = search rules
 
-slice-aggregate-put-byte : tie.Need-slice_bounds-put_byte-end
-slice-aggregate-put-byte c = search rules
+slice_bounds-put_byte-end : tie.Need-slice_bounds-put_byte-end
+slice_bounds-put_byte-end c = search rules
 
-put-byte-requires : tie.Need-put_byte-at-requires
-put-byte-requires c κs = search rules
+put_byte-at-requires : tie.Need-put_byte-at-requires
+put_byte-at-requires c κs = search rules
 
-slice-aggregate-put-decimal-2 : tie.Need-slice_bounds-put_decimal-end-2
-slice-aggregate-put-decimal-2 c = search rules
+slice_bounds-put_decimal-end-2 : tie.Need-slice_bounds-put_decimal-end-2
+slice_bounds-put_decimal-end-2 c = search rules
 
-put-decimal-requires-2 : tie.Need-put_decimal-at-requires-2
-put-decimal-requires-2 c κs = search rules
+put_decimal-at-requires-2 : tie.Need-put_decimal-at-requires-2
+put_decimal-at-requires-2 c κs = search rules
 
-slice-aggregate-put-byte-2 : tie.Need-slice_bounds-put_byte-end-2
-slice-aggregate-put-byte-2 c = search rules
+slice_bounds-put_byte-end-2 : tie.Need-slice_bounds-put_byte-end-2
+slice_bounds-put_byte-end-2 c = search rules
 
-put-byte-requires-2 : tie.Need-put_byte-at-requires-2
-put-byte-requires-2 c κs = search rules
+put_byte-at-requires-2 : tie.Need-put_byte-at-requires-2
+put_byte-at-requires-2 c κs = search rules
 
-slice-aggregate-put-score : tie.Need-slice_bounds-put_score-end
-slice-aggregate-put-score c = search rules
+slice_bounds-put_score-end : tie.Need-slice_bounds-put_score-end
+slice_bounds-put_score-end c = search rules
 
-put-score-requires : tie.Need-put_score-at-requires
-put-score-requires c κs = search rules
+put_score-at-requires : tie.Need-put_score-at-requires
+put_score-at-requires c κs = search rules
 
-slice-aggregate-put-byte-3 : tie.Need-slice_bounds-put_byte-end-3
-slice-aggregate-put-byte-3 c = search rules
+slice_bounds-put_byte-end-3 : tie.Need-slice_bounds-put_byte-end-3
+slice_bounds-put_byte-end-3 c = search rules
 
-put-byte-requires-3 : tie.Need-put_byte-at-requires-3
-put-byte-requires-3 c κs = search rules
+put_byte-at-requires-3 : tie.Need-put_byte-at-requires-3
+put_byte-at-requires-3 c κs = search rules
 
-slice-aggregate-put-decimal-3 : tie.Need-slice_bounds-put_decimal-end-3
-slice-aggregate-put-decimal-3 c = search rules
+slice_bounds-put_decimal-end-3 : tie.Need-slice_bounds-put_decimal-end-3
+slice_bounds-put_decimal-end-3 c = search rules
 
-put-decimal-requires-3 : tie.Need-put_decimal-at-requires-3
-put-decimal-requires-3 c κs = search rules
+put_decimal-at-requires-3 : tie.Need-put_decimal-at-requires-3
+put_decimal-at-requires-3 c κs = search rules
 
-slice-aggregate-put-byte-4 : tie.Need-slice_bounds-put_byte-end-4
-slice-aggregate-put-byte-4 c = search rules
+slice_bounds-put_byte-end-4 : tie.Need-slice_bounds-put_byte-end-4
+slice_bounds-put_byte-end-4 c = search rules
 
-put-byte-requires-4 : tie.Need-put_byte-at-requires-4
-put-byte-requires-4 c κs = search rules
+put_byte-at-requires-4 : tie.Need-put_byte-at-requires-4
+put_byte-at-requires-4 c κs = search rules
 
-slice-aggregate-put-decimal-4 : tie.Need-slice_bounds-put_decimal-end-4
-slice-aggregate-put-decimal-4 c = search rules
+slice_bounds-put_decimal-end-4 : tie.Need-slice_bounds-put_decimal-end-4
+slice_bounds-put_decimal-end-4 c = search rules
 
-put-decimal-requires-4 : tie.Need-put_decimal-at-requires-4
-put-decimal-requires-4 c κs = search rules
+put_decimal-at-requires-4 : tie.Need-put_decimal-at-requires-4
+put_decimal-at-requires-4 c κs = search rules
 
-slice-aggregate-put-byte-5 : tie.Need-slice_bounds-put_byte-end-5
-slice-aggregate-put-byte-5 c = search rules
+slice_bounds-put_byte-end-5 : tie.Need-slice_bounds-put_byte-end-5
+slice_bounds-put_byte-end-5 c = search rules
 
-put-byte-requires-5 : tie.Need-put_byte-at-requires-5
-put-byte-requires-5 c κs = search rules
+put_byte-at-requires-5 : tie.Need-put_byte-at-requires-5
+put_byte-at-requires-5 c κs = search rules
 
-slice-aggregate-put-byte-6 : tie.Need-slice_bounds-put_byte-end-6
-slice-aggregate-put-byte-6 c = search rules
+slice_bounds-put_byte-end-6 : tie.Need-slice_bounds-put_byte-end-6
+slice_bounds-put_byte-end-6 c = search rules
 
 sign-requires : tie.Need-sign-requires
 sign-requires c κs = search rules
 
-put-byte-requires-6 : tie.Need-put_byte-at-requires-6
-put-byte-requires-6 c κs = search rules
+put_byte-at-requires-6 : tie.Need-put_byte-at-requires-6
+put_byte-at-requires-6 c κs = search rules
 
-slice-aggregate-put-byte-7 : tie.Need-slice_bounds-put_byte-end-7
-slice-aggregate-put-byte-7 c = search rules
+slice_bounds-put_byte-end-7 : tie.Need-slice_bounds-put_byte-end-7
+slice_bounds-put_byte-end-7 c = search rules
 
-put-byte-requires-7 : tie.Need-put_byte-at-requires-7
-put-byte-requires-7 c κs = search rules
+put_byte-at-requires-7 : tie.Need-put_byte-at-requires-7
+put_byte-at-requires-7 c κs = search rules
 
-array-share-prefix-text : tie.Need-slice_bounds-text-end
-array-share-prefix-text c = inside c.before.before
+slice_bounds-text-end : tie.Need-slice_bounds-text-end
+slice_bounds-text-end c = inside c.before.before
 
-slice-aggregate-put-bytes : tie.Need-slice_bounds-put_bytes-end
-slice-aggregate-put-bytes c = let at-line =
-    c.before.before.before in sym (length-take-le at-line.put_byte-at-7.result at-line.put_byte-at-7.new.out (inside at-line))
+slice_bounds-put_bytes-end : tie.Need-slice_bounds-put_bytes-end
+slice_bounds-put_bytes-end c = let at_line =
+    c.before.before.before in sym (length-take-le at_line.put_byte-at-7.result at_line.put_byte-at-7.new.out (inside at_line))
 
-put-bytes-requires : tie.Need-put_bytes-requires
-put-bytes-requires c κs = search rules
+put_bytes-requires : tie.Need-put_bytes-requires
+put_bytes-requires c κs = search rules
 
-same_length : tie.Need-shape_of-out
-same_length c = search rules
+shape_of-out : tie.Need-shape_of-out
+shape_of-out c = search rules
 
 returns : tie.Need-returns
 returns c =
     let wrote = c.before.before in
-    let at-line = put-byte7-text24 wrote.before.before.before in
-    from_start (same_bytes (start_part (text-is at-line) (short at-line)) wrote.put_bytes.ensures)
+    let at_line = put_byte7_text24 wrote.before.before.before in
+    from_start (same_bytes (start_part (text_is at_line) (short at_line)) wrote.put_bytes.ensures)
 
 pub write_line_spec : {M : Type 1} → statement M
 write_line_spec =
     tie.close
-    (tie.spec slice-aggregate-put-decimal put-decimal-requires slice-aggregate-put-byte put-byte-requires slice-aggregate-put-decimal-2 put-decimal-requires-2 slice-aggregate-put-byte-2 put-byte-requires-2 slice-aggregate-put-score put-score-requires slice-aggregate-put-byte-3 put-byte-requires-3 slice-aggregate-put-decimal-3 put-decimal-requires-3 slice-aggregate-put-byte-4 put-byte-requires-4 slice-aggregate-put-decimal-4 put-decimal-requires-4 slice-aggregate-put-byte-5 put-byte-requires-5 slice-aggregate-put-byte-6 sign-requires put-byte-requires-6 slice-aggregate-put-byte-7 put-byte-requires-7 array-share-prefix-text slice-aggregate-put-bytes put-bytes-requires same_length returns)
+    (tie.spec
+    slice_bounds-put_decimal-end
+    put_decimal-at-requires
+    slice_bounds-put_byte-end
+    put_byte-at-requires
+    slice_bounds-put_decimal-end-2
+    put_decimal-at-requires-2
+    slice_bounds-put_byte-end-2
+    put_byte-at-requires-2
+    slice_bounds-put_score-end
+    put_score-at-requires
+    slice_bounds-put_byte-end-3
+    put_byte-at-requires-3
+    slice_bounds-put_decimal-end-3
+    put_decimal-at-requires-3
+    slice_bounds-put_byte-end-4
+    put_byte-at-requires-4
+    slice_bounds-put_decimal-end-4
+    put_decimal-at-requires-4
+    slice_bounds-put_byte-end-5
+    put_byte-at-requires-5
+    slice_bounds-put_byte-end-6
+    sign-requires
+    put_byte-at-requires-6
+    slice_bounds-put_byte-end-7
+    put_byte-at-requires-7
+    slice_bounds-text-end
+    slice_bounds-put_bytes-end
+    put_bytes-requires
+    shape_of-out
+    returns)

@@ -15,7 +15,6 @@ use borrow.Author.Rules.{rules}
 use Rattle.list_lines.proofs.words.cells_left.Statement.{statement}
 use Rattle.list_lines.proofs.words.cells_left.Tie as tie
 
--- the places that the proofs below speak of, each from a later one
 module _ (work : List ℕ) where
   short : length work < work_words → 0 ≡ cells_left work
   unfolding cells_left
@@ -48,73 +47,73 @@ module _ (h h' : ℕ) (e : h ≡ h') (few : h ≤ hit_limit) where
   product : h * (h + 1) ≤ hit_limit * (hit_limit + 1)
   product = let g : h + 1 ≤ hit_limit + 1 = omega arith in mul-le-mul few g
 
-  count-is : h * (h + 1) / 2 ≡ cell_count h'
+  count_is : h * (h + 1) / 2 ≡ cell_count h'
   unfolding cell_count
-  count-is = let s : h + 1 ≡ suc h = omega arith in ap (λ (n : ℕ). h * n / 2) s ∙ ap (λ (n : ℕ). n * suc n / 2) e
+  count_is = let s : h + 1 ≡ suc h = omega arith in ap (λ (n : ℕ). h * n / 2) s ∙ ap (λ (n : ℕ). n * suc n / 2) e
 
-returns : tie.Need-returns-then-work-lt-WORK_WORDS
-returns c = short c.args.work.now c.if-work-lt-WORK_WORDS.true
+returns-then-work-lt-WORK_WORDS : tie.Need-returns-then-work-lt-WORK_WORDS
+returns-then-work-lt-WORK_WORDS c = short c.args.work.now c.if-work-lt-WORK_WORDS.true
 
-shared-slice-read-wide : tie.Need-bounds-work-0
-shared-slice-read-wide c = search rules
+bounds-work-0 : tie.Need-bounds-work-0
+bounds-work-0 c = search rules
 
-wide-requires : tie.Need-wide-h-requires
-wide-requires c κs = search rules
+wide-h-requires : tie.Need-wide-h-requires
+wide-h-requires c κs = search rules
 
-returns-2 : tie.Need-returns-then-h-gt-HIT_LIMIT
-returns-2 c =
+returns-then-h-gt-HIT_LIMIT : tie.Need-returns-then-h-gt-HIT_LIMIT
+returns-then-h-gt-HIT_LIMIT c =
     many c.args.work.now c.if-work-lt-WORK_WORDS.false
     (omega (arith, c.wide-h.ensures.0, c.if-h-gt-HIT_LIMIT.true))
 
-add-cells : tie.Need-overflow_add-cells
-add-cells c = search rules
+overflow_add-cells : tie.Need-overflow_add-cells
+overflow_add-cells c = search rules
 
-mul-cells : tie.Need-overflow_mul-cells
-mul-cells c = omega (arith, product c.wide-h.result _ c.wide-h.ensures.0 c.if-h-gt-HIT_LIMIT.false)
+overflow_mul-cells : tie.Need-overflow_mul-cells
+overflow_mul-cells c = omega (arith, product c.wide-h.result _ c.wide-h.ensures.0 c.if-h-gt-HIT_LIMIT.false)
 
-shared-slice-read-wide-2 : tie.Need-bounds-work-3
-shared-slice-read-wide-2 c = search rules
+bounds-work-3 : tie.Need-bounds-work-3
+bounds-work-3 c = search rules
 
-wide-requires-2 : tie.Need-wide-passed-requires
-wide-requires-2 c κs = search rules
+wide-passed-requires : tie.Need-wide-passed-requires
+wide-passed-requires c κs = search rules
 
-returns-3 : tie.Need-returns-then-cells-passed
-returns-3 c =
+returns-then-cells-passed : tie.Need-returns-then-cells-passed
+returns-then-cells-passed c =
     let at_wide = c in
     let work = at_wide.args.work.now in
     let few : get_or work hits_at 0 ≤ hit_limit = omega (arith, at_wide.wide-h.ensures.0, c.if-h-gt-HIT_LIMIT.false) in
     let cells : at_wide.wide-h.result * (at_wide.wide-h.result + 1) / 2 ≡ cell_count (get_or work hits_at 0) =
-    count-is at_wide.wide-h.result (get_or work hits_at 0) at_wide.wide-h.ensures.0 c.if-h-gt-HIT_LIMIT.false in
+    count_is at_wide.wide-h.result (get_or work hits_at 0) at_wide.wide-h.ensures.0 c.if-h-gt-HIT_LIMIT.false in
     let passed : c.wide-passed.result ≡ get_or work passed_at 0 = c.wide-passed.ensures.0 in
     over work at_wide.if-work-lt-WORK_WORDS.false few (omega (arith, c.if-cells-passed.true))
 
-add-result : tie.Need-overflow_add-result
-add-result c =
+overflow_add-result : tie.Need-overflow_add-result
+overflow_add-result c =
     let at_wide = c in
     let work = at_wide.args.work.now in
     let few : get_or work hits_at 0 ≤ hit_limit = omega (arith, at_wide.wide-h.ensures.0, c.if-h-gt-HIT_LIMIT.false) in
     let cells : at_wide.wide-h.result * (at_wide.wide-h.result + 1) / 2 ≡ cell_count (get_or work hits_at 0) =
-    count-is at_wide.wide-h.result (get_or work hits_at 0) at_wide.wide-h.ensures.0 c.if-h-gt-HIT_LIMIT.false in
+    count_is at_wide.wide-h.result (get_or work hits_at 0) at_wide.wide-h.ensures.0 c.if-h-gt-HIT_LIMIT.false in
     let passed : c.wide-passed.result ≡ get_or work passed_at 0 = c.wide-passed.ensures.0 in
     let most : cell_count (get_or work hits_at 0) ≤ cell_limit = few_cells (get_or work hits_at 0) few in omega arith
 
-cast-result : tie.Need-overflow_cast-result
-cast-result c =
+overflow_cast-result : tie.Need-overflow_cast-result
+overflow_cast-result c =
     let at_wide = c in
     let work = at_wide.args.work.now in
     let few : get_or work hits_at 0 ≤ hit_limit = omega (arith, at_wide.wide-h.ensures.0, c.if-h-gt-HIT_LIMIT.false) in
     let cells : at_wide.wide-h.result * (at_wide.wide-h.result + 1) / 2 ≡ cell_count (get_or work hits_at 0) =
-    count-is at_wide.wide-h.result (get_or work hits_at 0) at_wide.wide-h.ensures.0 c.if-h-gt-HIT_LIMIT.false in
+    count_is at_wide.wide-h.result (get_or work hits_at 0) at_wide.wide-h.ensures.0 c.if-h-gt-HIT_LIMIT.false in
     let passed : c.wide-passed.result ≡ get_or work passed_at 0 = c.wide-passed.ensures.0 in
     let most : cell_count (get_or work hits_at 0) ≤ cell_limit = few_cells (get_or work hits_at 0) few in omega arith
 
-returns-4 : tie.Need-returns
-returns-4 c =
+returns : tie.Need-returns
+returns c =
     let at_wide = c in
     let work = at_wide.args.work.now in
     let few : get_or work hits_at 0 ≤ hit_limit = omega (arith, at_wide.wide-h.ensures.0, c.if-h-gt-HIT_LIMIT.false) in
     let cells : at_wide.wide-h.result * (at_wide.wide-h.result + 1) / 2 ≡ cell_count (get_or work hits_at 0) =
-    count-is at_wide.wide-h.result (get_or work hits_at 0) at_wide.wide-h.ensures.0 c.if-h-gt-HIT_LIMIT.false in
+    count_is at_wide.wide-h.result (get_or work hits_at 0) at_wide.wide-h.ensures.0 c.if-h-gt-HIT_LIMIT.false in
     let passed : c.wide-passed.result ≡ get_or work passed_at 0 = c.wide-passed.ensures.0 in
     (let n : at_wide.wide-h.result * (at_wide.wide-h.result + 1) / 2 - c.wide-passed.result + 1
     ≡ suc (cell_count (get_or work hits_at 0) - get_or work passed_at 0) = omega arith in n)
@@ -123,4 +122,16 @@ returns-4 c =
 pub cells_left_spec : {M : Type 1} → statement M
 cells_left_spec =
     tie.close
-    (tie.spec returns shared-slice-read-wide wide-requires returns-2 add-cells mul-cells shared-slice-read-wide-2 wide-requires-2 returns-3 add-result cast-result returns-4)
+    (tie.spec
+    returns-then-work-lt-WORK_WORDS
+    bounds-work-0
+    wide-h-requires
+    returns-then-h-gt-HIT_LIMIT
+    overflow_add-cells
+    overflow_mul-cells
+    bounds-work-3
+    wide-passed-requires
+    returns-then-cells-passed
+    overflow_add-result
+    overflow_cast-result
+    returns)

@@ -70,12 +70,12 @@ module _ (c : tie.After-of_strike-struck) where
 
 -- start's answer as numbers, and what it says
 module _ (c : tie.After-of_start-started) where
-  abbrev at-start : tie.After-start_scored
-  at-start = c.before.before.before
+  abbrev at_start : tie.After-start_scored
+  at_start = c.before.before.before
 
   -- the strike has accepted
   abbrev struck : tie.Else-struck-ne0
-  struck = at-start.before.before.before
+  struck = at_start.before.before.before
 
   abbrev call : tie.After-of_strike-struck
   call = struck.before.before
@@ -88,9 +88,9 @@ module _ (c : tie.After-of_start-started) where
       OpensPattern c.args.deciding.now c.args.text.now c.args.codes.now c.args.places.now
       c.args.settings c.args.work.now r work'
 
-  start-ends : (c.of_start-started.result.0 ≢ 0 → ended (Refused c.of_start-started.result.0))
+  start_ends : (c.of_start-started.result.0 ≢ 0 → ended (Refused c.of_start-started.result.0))
       × (c.of_start-started.result.0 ≡ 0 → ended (Session (m call)))
-  start-ends =
+  start_ends =
       let args = c.args in
       let zero : n call ≡ 0 = c.if-struck-ne0.false in
       let starts = c.start_scored in
@@ -103,54 +103,69 @@ module _ (c : tie.After-of_start-started) where
             c.of_start-started.ensures.0 z (m call) (strike_counts _ _ _ _ _ _ _ _ _ _ _ (made call) (long call) zero),
       )
 
-line-zeros-requires : tie.Need-line_zeros-pattern-requires
-line-zeros-requires c κs = search rules
+line_zeros-pattern-requires : tie.Need-line_zeros-pattern-requires
+line_zeros-pattern-requires c κs = search rules
 
-line-zeros-requires-2 : tie.Need-line_zeros-unused-requires
-line-zeros-requires-2 c κs = search rules
+line_zeros-unused-requires : tie.Need-line_zeros-unused-requires
+line_zeros-unused-requires c κs = search rules
 
-slice-aggregate-strike-read : tie.Need-slice_bounds-strike_read-end
-slice-aggregate-strike-read c = search rules
+slice_bounds-strike_read-end : tie.Need-slice_bounds-strike_read-end
+slice_bounds-strike_read-end c = search rules
 
-slice-aggregate-strike-read-2 : tie.Need-slice_bounds-strike_read-end-2
-slice-aggregate-strike-read-2 c = search rules
+slice_bounds-strike_read-end-2 : tie.Need-slice_bounds-strike_read-end-2
+slice_bounds-strike_read-end-2 c = search rules
 
-strike-read-requires : tie.Need-strike_read-requires
-strike-read-requires c κs = search rules
+strike_read-requires : tie.Need-strike_read-requires
+strike_read-requires c κs = search rules
 
-of-strike-requires : tie.Need-of_strike-struck-requires
-of-strike-requires c κs = search rules
+of_strike-struck-requires : tie.Need-of_strike-struck-requires
+of_strike-struck-requires c κs = search rules
 
-returns : tie.Need-returns-then-struck-ne0
-returns c = pattern_refused _ _ _ _ _ _ _ (numbered c.before.before) c.if-struck-ne0.true
+returns-then-struck-ne0 : tie.Need-returns-then-struck-ne0
+returns-then-struck-ne0 c = pattern_refused _ _ _ _ _ _ _ (numbered c.before.before) c.if-struck-ne0.true
 
-array-share-prefix-pattern : tie.Need-slice_bounds-pattern-end
-array-share-prefix-pattern c = inside c.before.before c.if-struck-ne0.false
+slice_bounds-pattern-end : tie.Need-slice_bounds-pattern-end
+slice_bounds-pattern-end c = inside c.before.before c.if-struck-ne0.false
 
-slice-aggregate-start-scored : tie.Need-slice_bounds-start_scored-end
-slice-aggregate-start-scored c =
+slice_bounds-start_scored-end : tie.Need-slice_bounds-start_scored-end
+slice_bounds-start_scored-end c =
     let call = c.before.before.before in
     sym (length-take-le (m call) (written call) (inside call c.if-struck-ne0.false))
 
-start-scored-requires : tie.Need-start_scored-requires
-start-scored-requires c κs = search rules
+start_scored-requires : tie.Need-start_scored-requires
+start_scored-requires c κs = search rules
 
-of-start-requires : tie.Need-of_start-started-requires
-of-start-requires c κs = search rules
+of_start-started-requires : tie.Need-of_start-started-requires
+of_start-started-requires c κs = search rules
 
-same_length : tie.Need-shape_of-work-then-started-ne0
-same_length c = search rules
+shape_of-work-then-started-ne0 : tie.Need-shape_of-work-then-started-ne0
+shape_of-work-then-started-ne0 c = search rules
 
-returns-2 : tie.Need-returns-then-started-ne0
-returns-2 c = (start-ends c.before.before).0 c.if-started-ne0.true
+returns-then-started-ne0 : tie.Need-returns-then-started-ne0
+returns-then-started-ne0 c = (start_ends c.before.before).0 c.if-started-ne0.true
 
-same-length-2 : tie.Need-shape_of-work
-same-length-2 c = search rules
+shape_of-work : tie.Need-shape_of-work
+shape_of-work c = search rules
 
-returns-3 : tie.Need-returns
-returns-3 c = (start-ends c.before.before).1 c.if-started-ne0.false
+returns : tie.Need-returns
+returns c = (start_ends c.before.before).1 c.if-started-ne0.false
 
 pub open_pattern_spec : {M : Type 1} → statement M
 open_pattern_spec =
     tie.close
-    (tie.spec line-zeros-requires line-zeros-requires-2 slice-aggregate-strike-read slice-aggregate-strike-read-2 strike-read-requires of-strike-requires returns array-share-prefix-pattern slice-aggregate-start-scored start-scored-requires of-start-requires same_length returns-2 same-length-2 returns-3)
+    (tie.spec
+    line_zeros-pattern-requires
+    line_zeros-unused-requires
+    slice_bounds-strike_read-end
+    slice_bounds-strike_read-end-2
+    strike_read-requires
+    of_strike-struck-requires
+    returns-then-struck-ne0
+    slice_bounds-pattern-end
+    slice_bounds-start_scored-end
+    start_scored-requires
+    of_start-started-requires
+    shape_of-work-then-started-ne0
+    returns-then-started-ne0
+    shape_of-work
+    returns)

@@ -53,48 +53,48 @@ module _ (c : tie.After-of_strike-struck) where
 abbrev struck : tie.After-open_pattern → tie.Else-struck-ne0
 struck c = c.before.before.before
 
-line-zeros-requires : tie.Need-line_zeros-text-requires
-line-zeros-requires c κs = search rules
+line_zeros-text-requires : tie.Need-line_zeros-text-requires
+line_zeros-text-requires c κs = search rules
 
-slice-aggregate-strike : tie.Need-slice_bounds-strike-end
-slice-aggregate-strike c = search rules
+slice_bounds-strike-end : tie.Need-slice_bounds-strike-end
+slice_bounds-strike-end c = search rules
 
 strike-requires : tie.Need-strike-requires
 strike-requires c κs = search rules
 
-of-strike-requires : tie.Need-of_strike-struck-requires
-of-strike-requires c κs = search rules
+of_strike-struck-requires : tie.Need-of_strike-struck-requires
+of_strike-struck-requires c κs = search rules
 
-same_length : tie.Need-shape_of-positions-then-struck-ne0
-same_length c = search rules
+shape_of-positions-then-struck-ne0 : tie.Need-shape_of-positions-then-struck-ne0
+shape_of-positions-then-struck-ne0 c = search rules
 
-returns : tie.Need-returns-then-struck-ne0
-returns c =
+returns-then-struck-ne0 : tie.Need-returns-then-struck-ne0
+returns-then-struck-ne0 c =
     let call = c.before.before in
     let args = call.args in
     text_struck_refused args.codes.now args.places.now args.read_codes.now args.read_places.now args.settings args.positions.now
     args.work.now (places' call) (positions_left _ _ _ _ _ _ _ _ _ _ _ (made call) (long call)) (n call)
     (strike_number _ _ _ _ _ _ _ _ _ _ _ (made call) (long call)) c.if-struck-ne0.true
 
-array-share-prefix-text : tie.Need-slice_bounds-text-end
-array-share-prefix-text c = inside c.before.before c.if-struck-ne0.false
+slice_bounds-text-end : tie.Need-slice_bounds-text-end
+slice_bounds-text-end c = inside c.before.before c.if-struck-ne0.false
 
-slice-aggregate-open-pattern : tie.Need-slice_bounds-open_pattern-end
-slice-aggregate-open-pattern c =
+slice_bounds-open_pattern-end : tie.Need-slice_bounds-open_pattern-end
+slice_bounds-open_pattern-end c =
     let call = c.before.before.before in
     sym (length-take-le (m call) (written call) (inside call c.if-struck-ne0.false))
 
-open-pattern-requires : tie.Need-open_pattern-requires
-open-pattern-requires c κs = search rules
+open_pattern-requires : tie.Need-open_pattern-requires
+open_pattern-requires c κs = search rules
 
-same-length-2 : tie.Need-shape_of-positions
-same-length-2 c = search rules
+shape_of-positions : tie.Need-shape_of-positions
+shape_of-positions c = search rules
 
-same-length-3 : tie.Need-shape_of-work
-same-length-3 c = search rules
+shape_of-work : tie.Need-shape_of-work
+shape_of-work c = search rules
 
-returns-2 : tie.Need-returns
-returns-2 c =
+returns : tie.Need-returns
+returns c =
     let opened = c.before.before in
     let call = (struck opened).before.before in
     let args = call.args in
@@ -108,4 +108,16 @@ returns-2 c =
 pub open_sketches_spec : {M : Type 1} → statement M
 open_sketches_spec =
     tie.close
-    (tie.spec line-zeros-requires slice-aggregate-strike strike-requires of-strike-requires same_length returns array-share-prefix-text slice-aggregate-open-pattern open-pattern-requires same-length-2 same-length-3 returns-2)
+    (tie.spec
+    line_zeros-text-requires
+    slice_bounds-strike-end
+    strike-requires
+    of_strike-struck-requires
+    shape_of-positions-then-struck-ne0
+    returns-then-struck-ne0
+    slice_bounds-text-end
+    slice_bounds-open_pattern-end
+    open_pattern-requires
+    shape_of-positions
+    shape_of-work
+    returns)

@@ -5,17 +5,17 @@ use borrow.Author.Rules.{rules}
 use Rattle.list_output.proofs.filling.beside.Statement.{statement}
 use Rattle.list_output.proofs.filling.beside.Tie as tie
 
-returns : tie.Need-returns-then-part-eq0
-returns c = let args = c.args in (refl, refl, c.if-part-eq0.true ∙ sym (with_none args.part.left args.other c.if-part-eq0.true))
+returns-then-part-eq0 : tie.Need-returns-then-part-eq0
+returns-then-part-eq0 c = let args = c.args in (refl, refl, c.if-part-eq0.true ∙ sym (with_none args.part.left args.other c.if-part-eq0.true))
 
-add-t4 : tie.Need-overflow_add-result
-add-t4 c = search rules
+overflow_add-result : tie.Need-overflow_add-result
+overflow_add-result c = search rules
 
-returns-2 : tie.Need-returns
-returns-2 c =
+returns : tie.Need-returns
+returns c =
     let test = c in
     let args = test.args in
     (refl, refl, sym (with_other args.part.left args.other test.if-part-eq0.false))
 
 pub beside_spec : {M : Type 1} → statement M
-beside_spec = tie.close (tie.spec returns add-t4 returns-2)
+beside_spec = tie.close (tie.spec returns-then-part-eq0 overflow_add-result returns)

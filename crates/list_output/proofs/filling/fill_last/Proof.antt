@@ -6,14 +6,14 @@ use borrow.Author.Rules.{rules}
 use Rattle.list_output.proofs.filling.fill_last.Statement.{statement}
 use Rattle.list_output.proofs.filling.fill_last.Tie as tie
 
-put-last-requires : tie.Need-put_last-written-requires
-put-last-requires c κs = search rules
+put_last-written-requires : tie.Need-put_last-written-requires
+put_last-written-requires c κs = search rules
 
-same_length : tie.Need-shape_of-out-then-written-eq0
-same_length c = search rules
+shape_of-out-then-written-eq0 : tie.Need-shape_of-out-then-written-eq0
+shape_of-out-then-written-eq0 c = search rules
 
-returns : tie.Need-returns-then-written-eq0
-returns c =
+returns-then-written-eq0 : tie.Need-returns-then-written-eq0
+returns-then-written-eq0 c =
     let wrote = c in
     record {
       line = wrote.put_last-written.ensures;
@@ -21,11 +21,11 @@ returns c =
       left_is = sym (ap (λ (b : Bool). cond b 2 0) (eq-eqb wrote.put_last-written.result 0 c.if-written-eq0.true));
     }
 
-same-length-2 : tie.Need-shape_of-out-else-written-eq0
-same-length-2 c = search rules
+shape_of-out-else-written-eq0 : tie.Need-shape_of-out-else-written-eq0
+shape_of-out-else-written-eq0 c = search rules
 
-returns-2 : tie.Need-returns-else-written-eq0
-returns-2 c =
+returns-else-written-eq0 : tie.Need-returns-else-written-eq0
+returns-else-written-eq0 c =
     let wrote = c in
     record {
       line = wrote.put_last-written.ensures;
@@ -34,4 +34,9 @@ returns-2 c =
     }
 
 pub fill_last_spec : {M : Type 1} → statement M
-fill_last_spec = tie.close (tie.spec put-last-requires same_length returns same-length-2 returns-2)
+fill_last_spec = tie.close (tie.spec
+    put_last-written-requires
+    shape_of-out-then-written-eq0
+    returns-then-written-eq0
+    shape_of-out-else-written-eq0
+    returns-else-written-eq0)

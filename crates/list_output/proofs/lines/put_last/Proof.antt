@@ -16,11 +16,11 @@ use Rattle.list_output.proofs.lines.put_last.Statement.{statement}
 use Rattle.list_output.proofs.lines.put_last.Tie as tie
 
 -- the places that the proofs below speak of, each from a later one
-abbrev at-put-decimal : tie.After-put_bytes-n-2 → tie.After-put_decimal-n
-at-put-decimal c = c.before.before.before.before.before
+abbrev at_put_decimal : tie.After-put_bytes-n-2 → tie.After-put_decimal-n
+at_put_decimal c = c.before.before.before.before.before
 
-abbrev at-put-byte : tie.After-slice_known-2-1 → tie.After-put_byte-n
-at-put-byte c = c.before.before.before.before.before.before
+abbrev at_put_byte : tie.After-slice_known-2-1 → tie.After-put_byte-n
+at_put_byte c = c.before.before.before.before.before.before
 
 module _ (found cells : ℕ) {t0 t1 t2 t3 t4 t5 : List ℕ} {n1 n2 n3 n4 n5 : ℕ} (room : length t0 ≡ 64) where
   pieces : Written (102 ∷ 111 ∷ 117 ∷ 110 ∷ 100 ∷ 32 ∷ []) 0 t0 t1 n1 → Written (decimal found) n1 t1 t2 n2
@@ -51,7 +51,7 @@ module _ (c : tie.After-put_byte-n) where
   c3 = c4.before.before.before
 
   abbrev c2 : tie.After-put_decimal-n
-  c2 = at-put-decimal c3
+  c2 = at_put_decimal c3
 
   abbrev c1 : tie.After-put_bytes-n
   c1 = c2.before.before.before
@@ -60,8 +60,8 @@ module _ (c : tie.After-put_byte-n) where
   printed = let args = c1.args in last_line args.found args.cells
 
   -- the line in the local bytes
-  text-is : Written printed 0 (replicate 64 0) c.put_byte-n.new.out c.put_byte-n.result
-  text-is =
+  text_is : Written printed 0 (replicate 64 0) c.put_byte-n.new.out c.put_byte-n.result
+  text_is =
       let args = c1.args in
       pieces args.found args.cells refl c.put_bytes-n.ensures c.put_decimal-n.ensures c.put_bytes-n-2.ensures c.put_decimal-n-2.ensures
       c.put_byte-n.ensures
@@ -71,60 +71,75 @@ module _ (c : tie.After-put_byte-n) where
 
   inside : c.put_byte-n.result ≤ length c.put_byte-n.new.out
   inside =
-      let e : c.put_byte-n.result ≡ length printed = start_index text-is short in
-      let l : length c.put_byte-n.new.out ≡ 64 = start_length text-is short in
+      let e : c.put_byte-n.result ≡ length printed = start_index text_is short in
+      let l : length c.put_byte-n.new.out ≡ 64 = start_length text_is short in
       let h : length printed ≤ 64 = short in
       omega arith
 
-slice-aggregate-put-bytes : tie.Need-slice_bounds-put_bytes-end
-slice-aggregate-put-bytes c = search rules
+slice_bounds-put_bytes-end : tie.Need-slice_bounds-put_bytes-end
+slice_bounds-put_bytes-end c = search rules
 
-put-bytes-requires : tie.Need-put_bytes-n-requires
-put-bytes-requires c κs = search rules
+put_bytes-n-requires : tie.Need-put_bytes-n-requires
+put_bytes-n-requires c κs = search rules
 
-slice-aggregate-put-decimal : tie.Need-slice_bounds-put_decimal-end
-slice-aggregate-put-decimal c = search rules
+slice_bounds-put_decimal-end : tie.Need-slice_bounds-put_decimal-end
+slice_bounds-put_decimal-end c = search rules
 
-put-decimal-requires : tie.Need-put_decimal-n-requires
-put-decimal-requires c κs = search rules
+put_decimal-n-requires : tie.Need-put_decimal-n-requires
+put_decimal-n-requires c κs = search rules
 
-slice-aggregate-put-bytes-2 : tie.Need-slice_bounds-put_bytes-end-3
-slice-aggregate-put-bytes-2 c = search rules
+slice_bounds-put_bytes-end-3 : tie.Need-slice_bounds-put_bytes-end-3
+slice_bounds-put_bytes-end-3 c = search rules
 
-put-bytes-requires-2 : tie.Need-put_bytes-n-requires-2
-put-bytes-requires-2 c κs = search rules
+put_bytes-n-requires-2 : tie.Need-put_bytes-n-requires-2
+put_bytes-n-requires-2 c κs = search rules
 
-slice-aggregate-put-decimal-2 : tie.Need-slice_bounds-put_decimal-end-2
-slice-aggregate-put-decimal-2 c = search rules
+slice_bounds-put_decimal-end-2 : tie.Need-slice_bounds-put_decimal-end-2
+slice_bounds-put_decimal-end-2 c = search rules
 
-put-decimal-requires-2 : tie.Need-put_decimal-n-requires-2
-put-decimal-requires-2 c κs = search rules
+put_decimal-n-requires-2 : tie.Need-put_decimal-n-requires-2
+put_decimal-n-requires-2 c κs = search rules
 
-slice-aggregate-put-byte : tie.Need-slice_bounds-put_byte-end
-slice-aggregate-put-byte c = search rules
+slice_bounds-put_byte-end : tie.Need-slice_bounds-put_byte-end
+slice_bounds-put_byte-end c = search rules
 
-put-byte-requires : tie.Need-put_byte-n-requires
-put-byte-requires c κs = search rules
+put_byte-n-requires : tie.Need-put_byte-n-requires
+put_byte-n-requires c κs = search rules
 
-array-share-prefix-text : tie.Need-slice_bounds-text-end
-array-share-prefix-text c = inside c.before.before
+slice_bounds-text-end : tie.Need-slice_bounds-text-end
+slice_bounds-text-end c = inside c.before.before
 
-slice-aggregate-put-bytes-3 : tie.Need-slice_bounds-put_bytes-end-5
-slice-aggregate-put-bytes-3 c =
-    let at-line = c.before.before.before in sym (length-take-le at-line.put_byte-n.result at-line.put_byte-n.new.out (inside at-line))
+slice_bounds-put_bytes-end-5 : tie.Need-slice_bounds-put_bytes-end-5
+slice_bounds-put_bytes-end-5 c =
+    let at_line = c.before.before.before in sym (length-take-le at_line.put_byte-n.result at_line.put_byte-n.new.out (inside at_line))
 
-put-bytes-requires-3 : tie.Need-put_bytes-requires
-put-bytes-requires-3 c κs = search rules
+put_bytes-requires : tie.Need-put_bytes-requires
+put_bytes-requires c κs = search rules
 
-same_length : tie.Need-shape_of-out
-same_length c = search rules
+shape_of-out : tie.Need-shape_of-out
+shape_of-out c = search rules
 
 returns : tie.Need-returns
 returns c =
-    let at-line = at-put-byte c in same_bytes (start_part (text-is at-line) (short at-line))
+    let at_line = at_put_byte c in same_bytes (start_part (text_is at_line) (short at_line))
     c.put_bytes.ensures
 
 pub put_last_spec : {M : Type 1} → statement M
 put_last_spec =
     tie.close
-    (tie.spec slice-aggregate-put-bytes put-bytes-requires slice-aggregate-put-decimal put-decimal-requires slice-aggregate-put-bytes-2 put-bytes-requires-2 slice-aggregate-put-decimal-2 put-decimal-requires-2 slice-aggregate-put-byte put-byte-requires array-share-prefix-text slice-aggregate-put-bytes-3 put-bytes-requires-3 same_length returns)
+    (tie.spec
+    slice_bounds-put_bytes-end
+    put_bytes-n-requires
+    slice_bounds-put_decimal-end
+    put_decimal-n-requires
+    slice_bounds-put_bytes-end-3
+    put_bytes-n-requires-2
+    slice_bounds-put_decimal-end-2
+    put_decimal-n-requires-2
+    slice_bounds-put_byte-end
+    put_byte-n-requires
+    slice_bounds-text-end
+    slice_bounds-put_bytes-end-5
+    put_bytes-requires
+    shape_of-out
+    returns)

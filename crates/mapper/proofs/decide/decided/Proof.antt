@@ -14,12 +14,12 @@ use Rattle.mapper.proofs.Deciding.{decided_spent}
 use Rattle.mapper.proofs.decide.decided.Statement.{statement}
 use Rattle.mapper.proofs.decide.decided.Tie as tie
 
-is-scorable-requires : tie.Need-is_scorable-requires
-is-scorable-requires c κs = search rules
+is_scorable-requires : tie.Need-is_scorable-requires
+is_scorable-requires c κs = search rules
 
-returns : tie.Need-returns-then-not-is_scorable
+returns-then-not-is_scorable : tie.Need-returns-then-not-is_scorable
 unfolding decides
-returns c =
+returns-then-not-is_scorable c =
     let args = c.args in
     let no : is_scorable args.terms args.a args.b args.m ≡ false =
     sym c.is_scorable.ensures ∙ not-true c.is_scorable.result c.if-not-is_scorable.true-raw in
@@ -31,9 +31,9 @@ module _ (scorable : tie.Else-not-is_scorable) where
   yes = sym scorable.is_scorable.ensures ∙ not-false scorable.is_scorable.result scorable.if-not-is_scorable.false-raw
 
   -- the same of the scoring as the match has it
-  of-scoring : (scoring : Scoring) → scorable.args.terms.scoring ≡ scoring
+  of_scoring : (scoring : Scoring) → scorable.args.terms.scoring ≡ scoring
       → is_scorable (record { scoring = scoring; size = scorable.args.terms.size }) scorable.args.a scorable.args.b scorable.args.m ≡ true
-  of-scoring scoring e =
+  of_scoring scoring e =
       let args = scorable.args in
       ap (λ (s : Scoring). is_scorable (record { scoring = s; size = args.terms.size }) args.a args.b args.m) (sym e) ∙ yes
 
@@ -44,8 +44,8 @@ module _ (scorable : tie.Else-not-is_scorable) where
       let args = scorable.args in
       ap (λ (s : Scoring). decided (record { scoring = s; size = args.terms.size }) args.a args.b args.m args.cells) (sym e)
 
-enum-known-scoring : tie.Need-enum_known-scoring
-enum-known-scoring c = search rules
+enum_known-scoring : tie.Need-enum_known-scoring
+enum_known-scoring c = search rules
 
 -- where the scoring is known to be linear, and its threshold to be a signed number
 module _ (told : tie.In-Linear) where
@@ -55,8 +55,8 @@ module _ (told : tie.In-Linear) where
   abbrev threshold : ℤ
   threshold = told.in-Linear.threshold
 
-  threshold-read : to_z w32 (of_z w32 threshold) ≡ threshold
-  threshold-read = to_z-of_z {w = w32} (sfits_of told.in-Linear.known_told-1-own.given.1.1.0.1)
+  threshold_read : to_z w32 (of_z w32 threshold) ≡ threshold
+  threshold_read = to_z-of_z {w = w32} (sfits_of told.in-Linear.known_told-1-own.given.1.1.0.1)
 
   abbrev scorable : tie.Else-not-is_scorable
   scorable = linear.before
@@ -64,25 +64,33 @@ module _ (told : tie.In-Linear) where
   -- the scoring as the call has it
   known : told.args.terms.scoring
       ≡ Linear told.in-Linear.u told.in-Linear.v (to_z w32 (of_z w32 threshold))
-  known = told.in-Linear.is ∙ ap (Linear told.in-Linear.u told.in-Linear.v) (sym threshold-read)
+  known = told.in-Linear.is ∙ ap (Linear told.in-Linear.u told.in-Linear.v) (sym threshold_read)
 
-decided-linear-requires : tie.Need-decided_linear-requires
-decided-linear-requires c κs = of-scoring (scorable c) _ (known c)
+decided_linear-requires : tie.Need-decided_linear-requires
+decided_linear-requires c κs = of_scoring (scorable c) _ (known c)
 
-enum-known-scoring-2 : tie.Need-enum_known-scoring-in-Jaccard-1
-enum-known-scoring-2 c = search rules
+enum_known-scoring-in-Jaccard-1 : tie.Need-enum_known-scoring-in-Jaccard-1
+enum_known-scoring-in-Jaccard-1 c = search rules
 
-decided-jaccard-requires : tie.Need-decided_jaccard-requires
-decided-jaccard-requires c κs = of-scoring c.before _ c.in-Jaccard.is
+decided_jaccard-requires : tie.Need-decided_jaccard-requires
+decided_jaccard-requires c κs = of_scoring c.before _ c.in-Jaccard.is
 
-returns-2 : tie.Need-returns-in-Linear
-returns-2 c = c.decided_linear.ensures ∙ same_answer (scorable c.before) _ (known c.before)
+returns-in-Linear : tie.Need-returns-in-Linear
+returns-in-Linear c = c.decided_linear.ensures ∙ same_answer (scorable c.before) _ (known c.before)
 
-returns-3 : tie.Need-returns-in-Jaccard
-returns-3 c =
+returns-in-Jaccard : tie.Need-returns-in-Jaccard
+returns-in-Jaccard c =
     c.decided_jaccard.ensures ∙ same_answer c.before.before _ c.in-Jaccard.is
 
 pub decided_spec : {M : Type 1} → statement M
 decided_spec =
     tie.close
-    (tie.spec is-scorable-requires returns enum-known-scoring decided-linear-requires enum-known-scoring-2 decided-jaccard-requires returns-2 returns-3)
+    (tie.spec
+    is_scorable-requires
+    returns-then-not-is_scorable
+    enum_known-scoring
+    decided_linear-requires
+    enum_known-scoring-in-Jaccard-1
+    decided_jaccard-requires
+    returns-in-Linear
+    returns-in-Jaccard)

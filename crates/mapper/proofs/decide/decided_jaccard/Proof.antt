@@ -47,37 +47,37 @@ module _ (entry : tie.Start) where
   unfolding decides candidate_score
   last = rw (entry.requires, divisor_is)
 
-sub-divisor : tie.Need-overflow_sub-divisor
-sub-divisor c = (counts c).ordered
+overflow_sub-divisor : tie.Need-overflow_sub-divisor
+overflow_sub-divisor c = (counts c).ordered
 
-add-divisor : tie.Need-overflow_add-divisor
-add-divisor c = omega (arith, (counts c).short)
+overflow_add-divisor : tie.Need-overflow_add-divisor
+overflow_add-divisor c = omega (arith, (counts c).short)
 
-add-divisor-2 : tie.Need-overflow_add-divisor-2
-add-divisor-2 c = omega (arith, (counts c).short, (counts c).short_pattern)
+overflow_add-divisor-2 : tie.Need-overflow_add-divisor-2
+overflow_add-divisor-2 c = omega (arith, (counts c).short, (counts c).short_pattern)
 
-sub-divisor-2 : tie.Need-overflow_sub-divisor-2
-sub-divisor-2 c = omega (arith, (counts c).at_most_size)
+overflow_sub-divisor-2 : tie.Need-overflow_sub-divisor-2
+overflow_sub-divisor-2 c = omega (arith, (counts c).at_most_size)
 
-mul-if1 : tie.Need-overflow_mul-f
-mul-if1 c = product _ _ (omega (arith, (small c).0, (small c).1)) (omega (arith, (counts c).short, (counts c).short_pattern))
+overflow_mul-f : tie.Need-overflow_mul-f
+overflow_mul-f c = product _ _ (omega (arith, (small c).0, (small c).1)) (omega (arith, (counts c).short, (counts c).short_pattern))
 
-mul-if1-2 : tie.Need-overflow_mul-m
-mul-if1-2 c =
+overflow_mul-m : tie.Need-overflow_mul-m
+overflow_mul-m c =
     rw (mul_comm _ _) (product _ _ (omega (arith, (small c).0, (small c).1)) (omega (arith, (counts c).at_most_size, (counts c).short_pattern)))
 
 -- below the threshold
-returns-2 : tie.Need-returns
-returns-2 c =
+returns : tie.Need-returns
+returns c =
     let entry = c.before in
     let args = entry.args in
     let low : args.m * args.g < args.f * computed entry = omega (arith, c.if-f-divisor.false) in
     sym (decided_spent (terms entry) _ _ _ _ (last entry ∙ lt-leb (args.f * computed entry) (args.m * args.g) low))
 
 -- not below it
-returns : tie.Need-returns-then-f-divisor
+returns-then-f-divisor : tie.Need-returns-then-f-divisor
 unfolding candidate_score
-returns c =
+returns-then-f-divisor c =
     let entry = c.before in
     let args = entry.args in
     ap (λ (d : ℕ). Found args.a args.b (Fraction args.m d) args.m args.cells) (divisor_is entry)
@@ -86,4 +86,12 @@ returns c =
 pub decided_jaccard_spec : {M : Type 1} → statement M
 decided_jaccard_spec =
     tie.close
-    (tie.spec sub-divisor add-divisor add-divisor-2 sub-divisor-2 mul-if1 mul-if1-2 returns returns-2)
+    (tie.spec
+    overflow_sub-divisor
+    overflow_add-divisor
+    overflow_add-divisor-2
+    overflow_sub-divisor-2
+    overflow_mul-f
+    overflow_mul-m
+    returns-then-f-divisor
+    returns)

@@ -35,46 +35,46 @@ module _ (entry : tie.Start) where
   unfolding decides candidate_score
   last = rw entry.requires
 
-sub-score : tie.Need-overflow_sub-b
-sub-score c = (counts c).ordered
+overflow_sub-b : tie.Need-overflow_sub-b
+overflow_sub-b c = (counts c).ordered
 
-add-score : tie.Need-overflow_add-b
-add-score c = omega (arith, (counts c).short)
+overflow_add-b : tie.Need-overflow_add-b
+overflow_add-b c = omega (arith, (counts c).short)
 
-score-requires : tie.Need-score-score-requires
+score-score-requires : tie.Need-score-score-requires
 unfolding length_of
-score-requires c κs =
+score-score-requires c κs =
     let s = counts c in
     let weights = both_say c.args.u c.args.v weight_limit s.small in
     (weights.0, weights.1, s.short_pattern, omega (arith, s.short), s.at_most_size, omega (arith, s.at_most_len, s.ordered))
 
 -- the score as a signed number
-score-read : (c : tie.After-score-score) → to_z w32 (of_z w32 c.score-score.result) ≡ score c.before
+score_read : (c : tie.After-score-score) → to_z w32 (of_z w32 c.score-score.result) ≡ score c.before
 unfolding length_of
-score-read c =
+score_read c =
     let args = c.args in
     let len : args.b - args.a + 1 ≡ length_of args.a args.b = omega (arith, (counts c.before).ordered) in
     to_z-of_z {w = w32} (sfits_of c.score-score.type_inv) ∙ c.score-score.ensures ∙ ap (linear args.u args.v args.size args.m) len
 
-threshold-read : (entry : tie.Start) → to_z w32 (of_z w32 entry.args.threshold) ≡ entry.args.threshold
-threshold-read entry = to_z-of_z {w = w32} entry.ranges.threshold
+threshold_read : (entry : tie.Start) → to_z w32 (of_z w32 entry.args.threshold) ≡ entry.args.threshold
+threshold_read entry = to_z-of_z {w = w32} entry.ranges.threshold
 
 -- below the threshold
-returns-2 : tie.Need-returns
-returns-2 c =
+returns : tie.Need-returns
+returns c =
     let entry = c.before.before in
-    let low : le_z entry.args.threshold (score entry) ≡ false = rw (threshold-read entry, score-read c.before) at c.if-threshold-score.false in
+    let low : le_z entry.args.threshold (score entry) ≡ false = rw (threshold_read entry, score_read c.before) at c.if-threshold-score.false in
     sym (decided_spent (terms entry) _ _ _ _ (last entry ∙ low))
 
 -- not below it
-returns : tie.Need-returns-then-threshold-score
+returns-then-threshold-score : tie.Need-returns-then-threshold-score
 unfolding candidate_score
-returns c =
+returns-then-threshold-score c =
     let entry = c.before.before in
     let args = entry.args in
-    let enough : le_z args.threshold (score entry) ≡ true = rw (threshold-read entry, score-read c.before) at c.if-threshold-score.true in
-    ap (λ (z : ℤ). Found args.a args.b (Number z) args.m args.cells) (score-read c.before)
+    let enough : le_z args.threshold (score entry) ≡ true = rw (threshold_read entry, score_read c.before) at c.if-threshold-score.true in
+    ap (λ (z : ℤ). Found args.a args.b (Number z) args.m args.cells) (score_read c.before)
     ∙ sym (decided_found (terms entry) _ _ _ _ (last entry ∙ enough))
 
 pub decided_linear_spec : {M : Type 1} → statement M
-decided_linear_spec = tie.close (tie.spec sub-score add-score score-requires returns returns-2)
+decided_linear_spec = tie.close (tie.spec overflow_sub-b overflow_add-b score-score-requires returns-then-threshold-score returns)

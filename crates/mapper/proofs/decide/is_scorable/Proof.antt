@@ -22,32 +22,32 @@ first c = c.before.before
 abbrev second : tie.Else-b-a-2 → tie.Else-terms
 second c = c.before.before
 
-is-small-requires : tie.Need-is_small-requires
-is-small-requires c κs = search rules
+is_small-requires : tie.Need-is_small-requires
+is_small-requires c κs = search rules
 
-returns : tie.Need-returns-then-not-is_small
+returns-then-not-is_small : tie.Need-returns-then-not-is_small
 unfolding is_scorable
-returns c = simp (sym c.is_small.ensures ∙ not-true c.is_small.result c.if-not-is_small.true-raw)
+returns-then-not-is_small c = simp (sym c.is_small.ensures ∙ not-true c.is_small.result c.if-not-is_small.true-raw)
 
-returns-2 : tie.Need-returns-then-terms
+returns-then-terms : tie.Need-returns-then-terms
 unfolding is_scorable
-returns-2 c = simp (small c.before.before, lt-leb _ _ c.if-terms.true)
+returns-then-terms c = simp (small c.before.before, lt-leb _ _ c.if-terms.true)
 
-returns-3 : tie.Need-returns-then-b-a
+returns-then-b-a : tie.Need-returns-then-b-a
 unfolding is_scorable
-returns-3 c =
+returns-then-b-a c =
     let d = c.before in
     simp (small (first d), le-leb _ _ d.if-terms.false, lt-leb _ _ c.if-b-a.true)
 
-returns-4 : tie.Need-returns-then-b-a-2
+returns-then-b-a-2 : tie.Need-returns-then-b-a-2
 unfolding is_scorable
-returns-4 c =
+returns-then-b-a-2 c =
     let d = c.before.before in
     simp (small (first d), le-leb _ _ d.if-terms.false, le-leb _ _ c.if-b-a.false, le-ltb _ _ c.if-b-a-2.true)
 
-returns-5 : tie.Need-returns-then-terms-m
+returns-then-terms-m : tie.Need-returns-then-terms-m
 unfolding is_scorable
-returns-5 c =
+returns-then-terms-m c =
     let e = c.before.before in
     let d = second e in
     simp (
@@ -58,12 +58,12 @@ returns-5 c =
       lt-leb _ _ c.if-terms-m.true,
     )
 
-add-result : tie.Need-overflow_add-result
-add-result c = search rules
+overflow_add-result : tie.Need-overflow_add-result
+overflow_add-result c = search rules
 
-returns-6 : tie.Need-returns
+returns : tie.Need-returns
 unfolding length_of
-returns-6 c =
+returns c =
     let e = c.before.before in
     let d = second e in
     let args = d.args in
@@ -75,13 +75,13 @@ pub is_scorable_spec : {M : Type 1} → statement M
 is_scorable_spec =
     tie.close
     (tie.spec
-    is-small-requires
-    returns
+    is_small-requires
+    returns-then-not-is_small
     (search rules)
-    returns-2
-    returns-3
+    returns-then-terms
+    returns-then-b-a
     (search rules)
-    returns-4
-    returns-5
-    add-result
-    returns-6)
+    returns-then-b-a-2
+    returns-then-terms-m
+    overflow_add-result
+    returns)

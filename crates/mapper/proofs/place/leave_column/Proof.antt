@@ -8,38 +8,38 @@ use Rattle.mapper.specs.Walking.{middle, with_middle, starts_length, left_words}
 use Rattle.mapper.proofs.place.leave_column.Statement.{statement}
 use Rattle.mapper.proofs.place.leave_column.Tie as tie
 
-add_wide : tie.Need-overflow_add-columns
-add_wide c = search rules
+overflow_add-columns : tie.Need-overflow_add-columns
+overflow_add-columns c = search rules
 
-sub_wide : tie.Need-overflow_sub-columns
-sub_wide c = search rules
+overflow_sub-columns : tie.Need-overflow_sub-columns
+overflow_sub-columns c = search rules
 
-mul_wide : tie.Need-offset_bounds-work-columns
-mul_wide c = search rules
+offset_bounds-work-columns : tie.Need-offset_bounds-work-columns
+offset_bounds-work-columns c = search rules
 
-slice-read-wide : tie.Need-bounds-work-columns
-slice-read-wide c = search rules
+bounds-work-columns : tie.Need-bounds-work-columns
+bounds-work-columns c = search rules
 
-wide-requires : tie.Need-wide-back-requires
-wide-requires c κs = search rules
+wide-back-requires : tie.Need-wide-back-requires
+wide-back-requires c κs = search rules
 
-sub-leave : tie.Need-slice_bounds-leave-count
-sub-leave c = search rules
+slice_bounds-leave-count : tie.Need-slice_bounds-leave-count
+slice_bounds-leave-count c = search rules
 
-part-leave-start : tie.Need-slice_bounds-leave-start
-part-leave-start c = search rules
+slice_bounds-leave-start : tie.Need-slice_bounds-leave-start
+slice_bounds-leave-start c = search rules
 
-part-leave-end : tie.Need-slice_bounds-leave-end
-part-leave-end c = search rules
+slice_bounds-leave-end : tie.Need-slice_bounds-leave-end
+slice_bounds-leave-end c = search rules
 
-sub-leave-2 : tie.Need-overflow_sub-columns-2
-sub-leave-2 c = search rules
+overflow_sub-columns-2 : tie.Need-overflow_sub-columns-2
+overflow_sub-columns-2 c = search rules
 
 leave-requires : tie.Need-leave-requires
 leave-requires c κs = search rules
 
-same_length : tie.Need-shape_of-work
-same_length c = search rules
+shape_of-work : tie.Need-shape_of-work
+shape_of-work c = search rules
 
 returns : tie.Need-returns
 unfolding left_words with_middle middle
@@ -53,4 +53,16 @@ returns c =
 pub leave_column_spec : {M : Type 1} → statement M
 leave_column_spec =
     tie.close
-    (tie.spec add_wide sub_wide mul_wide slice-read-wide wide-requires sub-leave part-leave-start part-leave-end sub-leave-2 leave-requires same_length returns)
+    (tie.spec
+    overflow_add-columns
+    overflow_sub-columns
+    offset_bounds-work-columns
+    bounds-work-columns
+    wide-back-requires
+    slice_bounds-leave-count
+    slice_bounds-leave-start
+    slice_bounds-leave-end
+    overflow_sub-columns-2
+    leave-requires
+    shape_of-work
+    returns)

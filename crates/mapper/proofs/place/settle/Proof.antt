@@ -11,33 +11,33 @@ use Rattle.mapper.proofs.Walking.{settled_in, words_in, settled_next, words_next
 use Rattle.mapper.proofs.place.settle.Statement.{statement}
 use Rattle.mapper.proofs.place.settle.Tie as tie
 
-returns : tie.Need-returns-then-p-columns
-returns c =
+returns-then-p-columns : tie.Need-returns-then-p-columns
+returns-then-p-columns c =
     let args = c.args in
     let t = c.if-p-columns.true in
     (sym (settled_in args.work.now args.columns args.p t), sym (words_in args.work.now args.columns args.p t))
 
-leave-column-requires : tie.Need-leave_column-requires
-leave-column-requires c κs = search rules
+leave_column-requires : tie.Need-leave_column-requires
+leave_column-requires c κs = search rules
 
-sub-t8 : tie.Need-overflow_sub-result
-sub-t8 c = search rules
+overflow_sub-result : tie.Need-overflow_sub-result
+overflow_sub-result c = search rules
 
-slice-read-t10 : tie.Need-bounds-work-10272
-slice-read-t10 c = search rules
+bounds-work-10272 : tie.Need-bounds-work-10272
+bounds-work-10272 c = search rules
 
-slice-read-t12 : tie.Need-bounds-work-6
-slice-read-t12 c = search rules
+bounds-work-6 : tie.Need-bounds-work-6
+bounds-work-6 c = search rules
 
-same_length : tie.Need-shape_of-work
-same_length c = search rules
+shape_of-work : tie.Need-shape_of-work
+shape_of-work c = search rules
 
 -- the place at the top of the next column, by the words once the column is left
 abbrev top : ℕ → List ℕ → Place
 top columns words = place_of (columns - 1) 0 (get_or words starts_from 0) (get_or words threshold_at 0)
 
-returns-2 : tie.Need-returns
-returns-2 c =
+returns : tie.Need-returns
+returns c =
     let read = c.before.before in
     let left = read in
     let args = left.args in
@@ -50,4 +50,11 @@ returns-2 c =
 pub settle_spec : {M : Type 1} → statement M
 settle_spec =
     tie.close
-    (tie.spec returns leave-column-requires sub-t8 slice-read-t10 slice-read-t12 same_length returns-2)
+    (tie.spec
+    returns-then-p-columns
+    leave_column-requires
+    overflow_sub-result
+    bounds-work-10272
+    bounds-work-6
+    shape_of-work
+    returns)

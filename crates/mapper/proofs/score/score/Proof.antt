@@ -16,29 +16,29 @@ gained c = mul-le-mul {m₂ = pattern_limit} c.requires.0 (omega (arith, c.requi
 lost : (c : tie.Start) → c.args.v * (c.args.len + c.args.size - 2 * c.args.m) ≤ weight_limit * (text_limit + pattern_limit)
 lost c = mul-le-mul {m₂ = text_limit + pattern_limit} c.requires.1 (omega (arith, c.requires))
 
-add-d : tie.Need-overflow_add-d
-add-d c = search rules
+overflow_add-d : tie.Need-overflow_add-d
+overflow_add-d c = search rules
 
-mul-d : tie.Need-overflow_mul-d
-mul-d c = search rules
+overflow_mul-d : tie.Need-overflow_mul-d
+overflow_mul-d c = search rules
 
-sub-d : tie.Need-overflow_sub-d
-sub-d c = search rules
+overflow_sub-d : tie.Need-overflow_sub-d
+overflow_sub-d c = search rules
 
-mul-result : tie.Need-overflow_mul-result
-mul-result c = omega (arith, gained c)
+overflow_mul-result : tie.Need-overflow_mul-result
+overflow_mul-result c = omega (arith, gained c)
 
-cast-result : tie.Need-overflow_cast-result
-cast-result c = omega (arith, gained c)
+overflow_cast-result : tie.Need-overflow_cast-result
+overflow_cast-result c = omega (arith, gained c)
 
-mul-result-2 : tie.Need-overflow_mul-result-2
-mul-result-2 c = omega (arith, lost c)
+overflow_mul-result-2 : tie.Need-overflow_mul-result-2
+overflow_mul-result-2 c = omega (arith, lost c)
 
-cast-result-2 : tie.Need-overflow_cast-result-2
-cast-result-2 c = omega (arith, lost c)
+overflow_cast-result-2 : tie.Need-overflow_cast-result-2
+overflow_cast-result-2 c = omega (arith, lost c)
 
-sub-result : tie.Need-overflow_sub-result
-sub-result c =
+overflow_sub-result : tie.Need-overflow_sub-result
+overflow_sub-result c =
     let a = c.args in
     difference_fits (a.u * a.m) (a.v * (a.len + a.size - 2 * a.m)) (omega (arith, gained c)) (omega (arith, lost c))
 
@@ -51,4 +51,13 @@ returns c =
 pub score_spec : {M : Type 1} → statement M
 score_spec =
     tie.close
-    (tie.spec add-d mul-d sub-d mul-result cast-result mul-result-2 cast-result-2 sub-result returns)
+    (tie.spec
+    overflow_add-d
+    overflow_mul-d
+    overflow_sub-d
+    overflow_mul-result
+    overflow_cast-result
+    overflow_mul-result-2
+    overflow_cast-result-2
+    overflow_sub-result
+    returns)

@@ -8,16 +8,16 @@ use Rattle.mapper.proofs.session.bad_weights.Tie as tie
 outside-requires : tie.Need-outside-requires
 outside-requires c κs = search rules
 
-outside-requires-2 : tie.Need-outside-requires-else-outside
-outside-requires-2 c κs = search rules
+outside-requires-else-outside : tie.Need-outside-requires-else-outside
+outside-requires-else-outside c κs = search rules
 
-returns : tie.Need-returns-then-outside
+returns-then-outside : tie.Need-returns-then-outside
 unfolding bad_weights
-returns c = simp (c.if-outside.true, sym c.outside.ensures ∙ c.if-outside.true)
+returns-then-outside c = simp (c.if-outside.true, sym c.outside.ensures ∙ c.if-outside.true)
 
-returns-2 : tie.Need-returns-else-outside
+returns-else-outside : tie.Need-returns-else-outside
 unfolding bad_weights
-returns-2 c = simp (c.outside-else-outside.ensures, sym c.outside.ensures ∙ c.if-outside.false)
+returns-else-outside c = simp (c.outside-else-outside.ensures, sym c.outside.ensures ∙ c.if-outside.false)
 
 pub bad_weights_spec : {M : Type 1} → statement M
-bad_weights_spec = tie.close (tie.spec outside-requires outside-requires-2 returns returns-2)
+bad_weights_spec = tie.close (tie.spec outside-requires outside-requires-else-outside returns-then-outside returns-else-outside)

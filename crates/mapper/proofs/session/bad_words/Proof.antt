@@ -19,51 +19,51 @@ module _ (c : tie.After-wide-h) where
 abbrev few : tie.After-bad_scoring → tie.Else-h-gt-HIT_LIMIT
 few c = c.before.before.before.before
 
-shared-slice-read-wide : tie.Need-bounds-work-0
-shared-slice-read-wide c = search rules
+bounds-work-0 : tie.Need-bounds-work-0
+bounds-work-0 c = search rules
 
-wide-requires : tie.Need-wide-h-requires
-wide-requires c κs = search rules
+wide-h-requires : tie.Need-wide-h-requires
+wide-h-requires c κs = search rules
 
-returns : tie.Need-returns-then-h-gt-HIT_LIMIT
-returns c = let r = c.before in many_hits (work r) (h r) r.wide-h.ensures.0 c.if-h-gt-HIT_LIMIT.true
+returns-then-h-gt-HIT_LIMIT : tie.Need-returns-then-h-gt-HIT_LIMIT
+returns-then-h-gt-HIT_LIMIT c = let r = c.before in many_hits (work r) (h r) r.wide-h.ensures.0 c.if-h-gt-HIT_LIMIT.true
 
-shared-slice-read-bad-scoring : tie.Need-bounds-work-4
-shared-slice-read-bad-scoring c = search rules
+bounds-work-4 : tie.Need-bounds-work-4
+bounds-work-4 c = search rules
 
-shared-slice-read-bad-scoring-2 : tie.Need-bounds-work-1
-shared-slice-read-bad-scoring-2 c = search rules
+bounds-work-1 : tie.Need-bounds-work-1
+bounds-work-1 c = search rules
 
-shared-slice-read-bad-scoring-3 : tie.Need-bounds-work-2
-shared-slice-read-bad-scoring-3 c = search rules
+bounds-work-2 : tie.Need-bounds-work-2
+bounds-work-2 c = search rules
 
-bad-scoring-requires : tie.Need-bad_scoring-requires
-bad-scoring-requires c κs = search rules
+bad_scoring-requires : tie.Need-bad_scoring-requires
+bad_scoring-requires c κs = search rules
 
-returns-2 : tie.Need-returns-then-bad_scoring
-returns-2 c =
+returns-then-bad_scoring : tie.Need-returns-then-bad_scoring
+returns-then-bad_scoring c =
     let b = c.before in
     let e = few b in
     let r = e.before in
     bad_numbers (work r) (h r) r.wide-h.ensures.0 e.if-h-gt-HIT_LIMIT.false (sym b.bad_scoring.ensures ∙ c.if-bad_scoring.true)
 
-add-cells : tie.Need-overflow_add-cells
-add-cells c = search rules
+overflow_add-cells : tie.Need-overflow_add-cells
+overflow_add-cells c = search rules
 
-mul-cells : tie.Need-overflow_mul-cells
-mul-cells c =
+overflow_mul-cells : tie.Need-overflow_mul-cells
+overflow_mul-cells c =
     let e = few c.before in
     let r = e.before in
     omega (arith, cells_fit (work r) (h r) r.wide-h.ensures.0 e.if-h-gt-HIT_LIMIT.false)
 
-shared-slice-read-wide-2 : tie.Need-bounds-work-3
-shared-slice-read-wide-2 c = search rules
+bounds-work-3 : tie.Need-bounds-work-3
+bounds-work-3 c = search rules
 
-wide-requires-2 : tie.Need-wide-passed-requires
-wide-requires-2 c κs = search rules
+wide-passed-requires : tie.Need-wide-passed-requires
+wide-passed-requires c κs = search rules
 
-returns-3 : tie.Need-returns
-returns-3 c =
+returns : tie.Need-returns
+returns c =
     let good = c.before.before in
     let e = few good.before in
     let r = e.before in
@@ -73,4 +73,17 @@ returns-3 c =
 pub bad_words_spec : {M : Type 1} → statement M
 bad_words_spec =
     tie.close
-    (tie.spec shared-slice-read-wide wide-requires returns shared-slice-read-bad-scoring shared-slice-read-bad-scoring-2 shared-slice-read-bad-scoring-3 bad-scoring-requires returns-2 add-cells mul-cells shared-slice-read-wide-2 wide-requires-2 returns-3)
+    (tie.spec
+    bounds-work-0
+    wide-h-requires
+    returns-then-h-gt-HIT_LIMIT
+    bounds-work-4
+    bounds-work-1
+    bounds-work-2
+    bad_scoring-requires
+    returns-then-bad_scoring
+    overflow_add-cells
+    overflow_mul-cells
+    bounds-work-3
+    wide-passed-requires
+    returns)

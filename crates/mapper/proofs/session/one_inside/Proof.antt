@@ -4,14 +4,14 @@ use borrow.Author.Rules.{rules}
 use Rattle.mapper.proofs.session.one_inside.Statement.{statement}
 use Rattle.mapper.proofs.session.one_inside.Tie as tie
 
-add-if1 : tie.Need-overflow_add-row
-add-if1 c = search rules
+overflow_add-row : tie.Need-overflow_add-row
+overflow_add-row c = search rules
 
-returns : tie.Need-returns-then-columns-row
-returns c = simp (le-ltb _ _ c.if-columns-row.true)
+returns-then-columns-row : tie.Need-returns-then-columns-row
+returns-then-columns-row c = simp (le-ltb _ _ c.if-columns-row.true)
 
-returns-2 : tie.Need-returns
-returns-2 c = simp (lt-ltb _ _ c.if-columns-row.false)
+returns : tie.Need-returns
+returns c = simp (lt-ltb _ _ c.if-columns-row.false)
 
 pub one_inside_spec : {M : Type 1} → statement M
-one_inside_spec = tie.close (tie.spec add-if1 returns returns-2)
+one_inside_spec = tie.close (tie.spec overflow_add-row returns-then-columns-row returns)

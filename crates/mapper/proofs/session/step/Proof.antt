@@ -29,61 +29,61 @@ good c = c.before.before.before.before
 abbrev place : tie.After-one_inside → tie.Else-wide-columns
 place c = c.before.before.before.before.before
 
-returns : tie.Need-returns-then-work-lt-WORK_WORDS
-returns c = few_promise c.args.work.now c.args.budget c.if-work-lt-WORK_WORDS.true
+returns-then-work-lt-WORK_WORDS : tie.Need-returns-then-work-lt-WORK_WORDS
+returns-then-work-lt-WORK_WORDS c = few_promise c.args.work.now c.args.budget c.if-work-lt-WORK_WORDS.true
 
-bad-words-requires : tie.Need-bad_words-requires
-bad-words-requires c κs = search rules
+bad_words-requires : tie.Need-bad_words-requires
+bad_words-requires c κs = search rules
 
-same_length : tie.Need-shape_of-work-then-bad_words
-same_length c = search rules
+shape_of-work-then-bad_words : tie.Need-shape_of-work-then-bad_words
+shape_of-work-then-bad_words c = search rules
 
-returns-2 : tie.Need-returns-then-bad_words
-returns-2 c =
+returns-then-bad_words : tie.Need-returns-then-bad_words
+returns-then-bad_words c =
     let d = c in
     bad_promise d.args.work.now d.args.budget d.if-work-lt-WORK_WORDS.false (sym d.bad_words.ensures ∙ c.if-bad_words.true)
 
-slice-read-wide : tie.Need-bounds-work-7
-slice-read-wide c = search rules
+bounds-work-7 : tie.Need-bounds-work-7
+bounds-work-7 c = search rules
 
-wide-requires : tie.Need-wide-columns-requires
+wide-columns-requires : tie.Need-wide-columns-requires
+wide-columns-requires c κs = search rules
+
+bounds-work-0 : tie.Need-bounds-work-0
+bounds-work-0 c = search rules
+
+wide-requires : tie.Need-wide-requires
 wide-requires c κs = search rules
 
-slice-read-wide-2 : tie.Need-bounds-work-0
-slice-read-wide-2 c = search rules
-
-wide-requires-2 : tie.Need-wide-requires
-wide-requires-2 c κs = search rules
-
-same-length-2 : tie.Need-shape_of-work-then-wide-columns
-same-length-2 c = search rules
+shape_of-work-then-wide-columns : tie.Need-shape_of-work-then-wide-columns
+shape_of-work-then-wide-columns c = search rules
 
 -- words 0 to 4 are a session's
 not_bad : (e : tie.Else-bad_words) → bad_words e.args.work.now ≡ false
 not_bad e = sym e.bad_words.ensures ∙ e.if-bad_words.false
 
-returns-3 : tie.Need-returns-then-wide-columns
-returns-3 c =
+returns-then-wide-columns : tie.Need-returns-then-wide-columns
+returns-then-wide-columns c =
     let d = c.before in
     let e = good d in
     let past : d.wide.result < d.wide-columns.result = c.if-wide-columns.true in
     lost_promise e.args.work.now e.args.budget e.if-work-lt-WORK_WORDS.false (not_bad e)
     (inl (omega (arith, d.wide.ensures.0, d.wide-columns.ensures.0)))
 
-slice-read-wide-3 : tie.Need-bounds-work-8
-slice-read-wide-3 c = search rules
+bounds-work-8 : tie.Need-bounds-work-8
+bounds-work-8 c = search rules
 
-wide-requires-3 : tie.Need-wide-row-requires
-wide-requires-3 c κs = search rules
+wide-row-requires : tie.Need-wide-row-requires
+wide-row-requires c κs = search rules
 
-slice-read-t12 : tie.Need-bounds-work-9
-slice-read-t12 c = search rules
+bounds-work-9 : tie.Need-bounds-work-9
+bounds-work-9 c = search rules
 
-slice-read-t17 : tie.Need-bounds-work-10
-slice-read-t17 c = search rules
+bounds-work-10 : tie.Need-bounds-work-10
+bounds-work-10 c = search rules
 
-one-inside-requires : tie.Need-one_inside-requires
-one-inside-requires c κs = search rules
+one_inside-requires : tie.Need-one_inside-requires
+one_inside-requires c κs = search rules
 
 -- ---- what both walks ask and give
 
@@ -119,16 +119,16 @@ inside e =
     let d = e.before in
     one_inside d.args.budget d.wide-row.result (hits d).wide-columns.result (sym d.one_inside.ensures ∙ e.if-one_inside.true)
 
-walk-one-requires : tie.Need-walk_one-requires
-walk-one-requires c κs =
+walk_one-requires : tie.Need-walk_one-requires
+walk_one-requires c κs =
     let d = c.before.before in
     (((enough (good (hits d)).before).if-work-lt-WORK_WORDS.false, columns_within d, (inside c.before).1), (within d).small)
 
-same-length-3 : tie.Need-shape_of-work-then-one_inside
-same-length-3 c = search rules
+shape_of-work-then-one_inside : tie.Need-shape_of-work-then-one_inside
+shape_of-work-then-one_inside c = search rules
 
-returns-4 : tie.Need-returns-then-one_inside
-returns-4 c =
+returns-then-one_inside : tie.Need-returns-then-one_inside
+returns-then-one_inside c =
     let w = c.before.before in
     let e = w.before.before in
     let d = e.before in
@@ -138,18 +138,18 @@ returns-4 c =
     w.walk_one.ensures.1
     (one_promise (work d) d.args.budget (enough (good (hits d)).before).if-work-lt-WORK_WORDS.false (not_bad (good (hits d))) (inside e).0 further)
 
-same-length-4 : tie.Need-shape_of-work-then-columns-row
-same-length-4 c = search rules
+shape_of-work-then-columns-row : tie.Need-shape_of-work-then-columns-row
+shape_of-work-then-columns-row c = search rules
 
-returns-5 : tie.Need-returns-then-columns-row
-returns-5 c =
+returns-then-columns-row : tie.Need-returns-then-columns-row
+returns-then-columns-row c =
     let d = c.before.before in
     let past : (hits d).wide-columns.result < d.wide-row.result = c.if-columns-row.true in
     lost_promise (work d) d.args.budget (enough (good (hits d)).before).if-work-lt-WORK_WORDS.false (not_bad (good (hits d)))
     (inr (omega (arith, (hits d).wide-columns.ensures.0, d.wide-row.ensures.0)))
 
-wide-requires-4 : tie.Need-wide-requires-2
-wide-requires-4 c κs = search rules
+wide-requires-2 : tie.Need-wide-requires-2
+wide-requires-2 c κs = search rules
 
 walk-requires : tie.Need-walk-requires
 walk-requires c κs =
@@ -157,11 +157,11 @@ walk-requires c κs =
     let d = e.before.before in
     (((enough (good (hits d)).before).if-work-lt-WORK_WORDS.false, c.wide-2.ensures.1, columns_within d, e.if-columns-row.false), (within d).small)
 
-same-length-5 : tie.Need-shape_of-work
-same-length-5 c = search rules
+shape_of-work : tie.Need-shape_of-work
+shape_of-work c = search rules
 
-returns-6 : tie.Need-returns
-returns-6 c =
+returns : tie.Need-returns
+returns c =
     let w = c.before.before in
     let cells = w.before in
     let e = cells.before.before in
@@ -175,4 +175,28 @@ returns-6 c =
 pub step_spec : {M : Type 1} → statement M
 step_spec =
     tie.close
-    (tie.spec returns bad-words-requires same_length returns-2 slice-read-wide wide-requires slice-read-wide-2 wide-requires-2 same-length-2 returns-3 slice-read-wide-3 wide-requires-3 slice-read-t12 slice-read-t17 one-inside-requires walk-one-requires same-length-3 returns-4 same-length-4 returns-5 wide-requires-4 walk-requires same-length-5 returns-6)
+    (tie.spec
+    returns-then-work-lt-WORK_WORDS
+    bad_words-requires
+    shape_of-work-then-bad_words
+    returns-then-bad_words
+    bounds-work-7
+    wide-columns-requires
+    bounds-work-0
+    wide-requires
+    shape_of-work-then-wide-columns
+    returns-then-wide-columns
+    bounds-work-8
+    wide-row-requires
+    bounds-work-9
+    bounds-work-10
+    one_inside-requires
+    walk_one-requires
+    shape_of-work-then-one_inside
+    returns-then-one_inside
+    shape_of-work-then-columns-row
+    returns-then-columns-row
+    wide-requires-2
+    walk-requires
+    shape_of-work
+    returns)

@@ -28,55 +28,55 @@ weighed c =
     in
     omega (arith, most)
 
-rates-of-requires : tie.Need-rates_of-rates-requires
-rates-of-requires c κs = search rules
+rates_of-rates-requires : tie.Need-rates_of-rates-requires
+rates_of-rates-requires c κs = search rules
 
 wider-requires : tie.Need-wider-requires
 wider-requires c κs = search rules
 
-add-wider : tie.Need-overflow_add-j
-add-wider c = search rules
+overflow_add-j : tie.Need-overflow_add-j
+overflow_add-j c = search rules
 
-mul-wider : tie.Need-offset_bounds-work-j
-mul-wider c = search rules
+offset_bounds-work-j : tie.Need-offset_bounds-work-j
+offset_bounds-work-j c = search rules
 
-shared-slice-read-wider : tie.Need-bounds-work-j
-shared-slice-read-wider c = search rules
+bounds-work-j : tie.Need-bounds-work-j
+bounds-work-j c = search rules
 
 wider-requires-2 : tie.Need-wider-requires-2
 wider-requires-2 c κs = search rules
 
-add-lost : tie.Need-overflow_add-lost
-add-lost c = search rules
+overflow_add-lost : tie.Need-overflow_add-lost
+overflow_add-lost c = search rules
 
 wider-requires-3 : tie.Need-wider-requires-3
 wider-requires-3 c κs = search rules
 
-add-lost-2 : tie.Need-overflow_add-lost-2
-add-lost-2 c = search rules
+overflow_add-lost-2 : tie.Need-overflow_add-lost-2
+overflow_add-lost-2 c = search rules
 
-mul-lost : tie.Need-overflow_mul-lost
-mul-lost c = omega (arith, weighed c)
+overflow_mul-lost : tie.Need-overflow_mul-lost
+overflow_mul-lost c = omega (arith, weighed c)
 
-cast-t12 : tie.Need-overflow_cast-result
-cast-t12 c = search rules
+overflow_cast-result : tie.Need-overflow_cast-result
+overflow_cast-result c = search rules
 
-sub-t7 : tie.Need-overflow_sub-result
-sub-t7 c =
+overflow_sub-result : tie.Need-overflow_sub-result
+overflow_sub-result c =
     let w = c.before in
     omega (arith, weighed w, lifted w.args.terms.scoring, w.rates_of-rates.ensures.2)
 
-cast-t16 : tie.Need-overflow_cast-result-2
-cast-t16 c = search rules
+overflow_cast-result-2 : tie.Need-overflow_cast-result-2
+overflow_cast-result-2 c = search rules
 
-add_wide : tie.Need-overflow_add-j-2
-add_wide c = search rules
+overflow_add-j-2 : tie.Need-overflow_add-j-2
+overflow_add-j-2 c = search rules
 
-mul_wide : tie.Need-offset_bounds-work-j-2
-mul_wide c = search rules
+offset_bounds-work-j-2 : tie.Need-offset_bounds-work-j-2
+offset_bounds-work-j-2 c = search rules
 
-shared-slice-read-wide : tie.Need-bounds-work-j-2
-shared-slice-read-wide c = search rules
+bounds-work-j-2 : tie.Need-bounds-work-j-2
+bounds-work-j-2 c = search rules
 
 wide-requires : tie.Need-wide-requires
 wide-requires c κs = search rules
@@ -103,4 +103,22 @@ returns c =
 pub line_of_spec : {M : Type 1} → statement M
 line_of_spec =
     tie.close
-    (tie.spec rates-of-requires wider-requires add-wider mul-wider shared-slice-read-wider wider-requires-2 add-lost wider-requires-3 add-lost-2 mul-lost cast-t12 sub-t7 cast-t16 add_wide mul_wide shared-slice-read-wide wide-requires returns)
+    (tie.spec
+    rates_of-rates-requires
+    wider-requires
+    overflow_add-j
+    offset_bounds-work-j
+    bounds-work-j
+    wider-requires-2
+    overflow_add-lost
+    wider-requires-3
+    overflow_add-lost-2
+    overflow_mul-lost
+    overflow_cast-result
+    overflow_sub-result
+    overflow_cast-result-2
+    overflow_add-j-2
+    offset_bounds-work-j-2
+    bounds-work-j-2
+    wide-requires
+    returns)

@@ -21,39 +21,49 @@ module _ (linear : tie.In-Linear) where
   small : (v ≤ weight_limit) × (u + 2 * v < word_limit)
   small = subst SmallRates linear.in-Linear.is linear.requires
 
-enum-known-scoring : tie.Need-enum_known-scoring
-enum-known-scoring c = search rules
+enum_known-scoring : tie.Need-enum_known-scoring
+enum_known-scoring c = search rules
 
-mul-t5 : tie.Need-overflow_mul-result
-mul-t5 c = omega (arith, (small c).0)
+overflow_mul-result : tie.Need-overflow_mul-result
+overflow_mul-result c = omega (arith, (small c).0)
 
-add-t6 : tie.Need-overflow_add-result
-add-t6 c = omega (arith, (small c).1)
+overflow_add-result : tie.Need-overflow_add-result
+overflow_add-result c = omega (arith, (small c).1)
 
-cast-t7 : tie.Need-overflow_cast-result
-cast-t7 c = search rules
+overflow_cast-result : tie.Need-overflow_cast-result
+overflow_cast-result c = search rules
 
-add-t8 : tie.Need-overflow_add-result-in-Linear
-add-t8 c = search rules
+overflow_add-result-in-Linear : tie.Need-overflow_add-result-in-Linear
+overflow_add-result-in-Linear c = search rules
 
-enum_told : tie.Need-enum_told-1
-enum_told c = search rules
+enum_told-1 : tie.Need-enum_told-1
+enum_told-1 c = search rules
 
-add-t9 : tie.Need-overflow_add-result-in-Jaccard
-add-t9 c = search rules
+overflow_add-result-in-Jaccard : tie.Need-overflow_add-result-in-Jaccard
+overflow_add-result-in-Jaccard c = search rules
 
-sub-t10 : tie.Need-overflow_sub-result
-sub-t10 c = search rules
+overflow_sub-result : tie.Need-overflow_sub-result
+overflow_sub-result c = search rules
 
-returns : tie.Need-returns-in-Linear
-returns c =
+returns-in-Linear : tie.Need-returns-in-Linear
+returns-in-Linear c =
     let e = c.in-Linear.is in
     (sym (ap gain_of e), sym (ap loss_of e), sym (ap lift_of e), sym (ap by_fractions e))
 
-returns-2 : tie.Need-returns-in-Jaccard
-returns-2 c = search rules
+returns-in-Jaccard : tie.Need-returns-in-Jaccard
+returns-in-Jaccard c = search rules
 
 pub rates_of_spec : {M : Type 1} → statement M
 rates_of_spec =
     tie.close
-    (tie.spec enum-known-scoring mul-t5 add-t6 cast-t7 add-t8 enum_told add-t9 sub-t10 returns returns-2)
+    (tie.spec
+    enum_known-scoring
+    overflow_mul-result
+    overflow_add-result
+    overflow_cast-result
+    overflow_add-result-in-Linear
+    enum_told-1
+    overflow_add-result-in-Jaccard
+    overflow_sub-result
+    returns-in-Linear
+    returns-in-Jaccard)

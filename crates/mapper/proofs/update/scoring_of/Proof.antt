@@ -8,17 +8,17 @@ use Rattle.mappings.specs.declared.Scoring.TheVariants.{Linear}
 use Rattle.mapper.proofs.update.scoring_of.Statement.{statement}
 use Rattle.mapper.proofs.update.scoring_of.Tie as tie
 
-returns : tie.Need-returns-then-kind-eq1
-returns c = simp c.if-kind-eq1.true
+returns-then-kind-eq1 : tie.Need-returns-then-kind-eq1
+returns-then-kind-eq1 c = simp c.if-kind-eq1.true
 
 unbiased-requires : tie.Need-unbiased-requires
 unbiased-requires c κs = search rules
 
-returns-2 : tie.Need-returns
-returns-2 c =
+returns : tie.Need-returns
+returns c =
     let args = c.args in
     rw (ne_eqb args.kind 1 c.if-kind-eq1.false)
     (ap (Linear args.first args.second) (to_z-of_z {w = w32} (sfits_of c.unbiased.type_inv) ∙ c.unbiased.ensures))
 
 pub scoring_of_spec : {M : Type 1} → statement M
-scoring_of_spec = tie.close (tie.spec returns unbiased-requires returns-2)
+scoring_of_spec = tie.close (tie.spec returns-then-kind-eq1 unbiased-requires returns)

@@ -8,23 +8,23 @@ use Rattle.mapper.specs.Walking.{terms_in}
 use Rattle.mapper.proofs.update.terms_of.Statement.{statement}
 use Rattle.mapper.proofs.update.terms_of.Tie as tie
 
-shared-slice-read-scoring-of : tie.Need-bounds-work-4
-shared-slice-read-scoring-of c = search rules
+bounds-work-4 : tie.Need-bounds-work-4
+bounds-work-4 c = search rules
 
-shared-slice-read-scoring-of-2 : tie.Need-bounds-work-1
-shared-slice-read-scoring-of-2 c = search rules
+bounds-work-1 : tie.Need-bounds-work-1
+bounds-work-1 c = search rules
 
-shared-slice-read-scoring-of-3 : tie.Need-bounds-work-2
-shared-slice-read-scoring-of-3 c = search rules
+bounds-work-2 : tie.Need-bounds-work-2
+bounds-work-2 c = search rules
 
-shared-slice-read-scoring-of-4 : tie.Need-bounds-work-6
-shared-slice-read-scoring-of-4 c = search rules
+bounds-work-6 : tie.Need-bounds-work-6
+bounds-work-6 c = search rules
 
-scoring-of-requires : tie.Need-scoring_of-scoring-requires
-scoring-of-requires c κs = search rules
+scoring_of-scoring-requires : tie.Need-scoring_of-scoring-requires
+scoring_of-scoring-requires c κs = search rules
 
-shared-slice-read-t4 : tie.Need-bounds-work-5
-shared-slice-read-t4 c = search rules
+bounds-work-5 : tie.Need-bounds-work-5
+bounds-work-5 c = search rules
 
 returns : tie.Need-returns
 unfolding terms_in
@@ -35,4 +35,4 @@ returns c =
 pub terms_of_spec : {M : Type 1} → statement M
 terms_of_spec =
     tie.close
-    (tie.spec shared-slice-read-scoring-of shared-slice-read-scoring-of-2 shared-slice-read-scoring-of-3 shared-slice-read-scoring-of-4 scoring-of-requires shared-slice-read-t4 returns)
+    (tie.spec bounds-work-4 bounds-work-1 bounds-work-2 bounds-work-6 scoring_of-scoring-requires bounds-work-5 returns)

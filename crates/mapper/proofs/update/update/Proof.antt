@@ -7,35 +7,35 @@ use Rattle.mapper.proofs.Walking.{update_is}
 use Rattle.mapper.proofs.update.update.Statement.{statement}
 use Rattle.mapper.proofs.update.update.Tie as tie
 
-sub-line-of : tie.Need-overflow_sub-place
-sub-line-of c = search rules
+overflow_sub-place : tie.Need-overflow_sub-place
+overflow_sub-place c = search rules
 
-line-of-requires : tie.Need-line_of-line-requires
-line-of-requires c κs = search rules
+line_of-line-requires : tie.Need-line_of-line-requires
+line_of-line-requires c κs = search rules
 
-sub-smaller : tie.Need-overflow_sub-place-2
-sub-smaller c = search rules
+overflow_sub-place-2 : tie.Need-overflow_sub-place-2
+overflow_sub-place-2 c = search rules
 
 smaller-requires : tie.Need-smaller-requires
 smaller-requires c κs = search rules
 
-add-to : tie.Need-overflow_add-to
-add-to c = search rules
+overflow_add-to : tie.Need-overflow_add-to
+overflow_add-to c = search rules
 
-sub-pass : tie.Need-slice_bounds-pass-count
-sub-pass c = search rules
+slice_bounds-pass-count : tie.Need-slice_bounds-pass-count
+slice_bounds-pass-count c = search rules
 
-part-pass-start : tie.Need-slice_bounds-pass-start
-part-pass-start c = search rules
+slice_bounds-pass-start : tie.Need-slice_bounds-pass-start
+slice_bounds-pass-start c = search rules
 
-part-pass-end : tie.Need-slice_bounds-pass-end
-part-pass-end c = search rules
+slice_bounds-pass-end : tie.Need-slice_bounds-pass-end
+slice_bounds-pass-end c = search rules
 
 pass-requires : tie.Need-pass-requires
 pass-requires c κs = search rules
 
-same_length : tie.Need-shape_of-work
-same_length c = search rules
+shape_of-work : tie.Need-shape_of-work
+shape_of-work c = search rules
 
 returns : tie.Need-returns
 unfolding with_middle middle
@@ -54,4 +54,15 @@ returns c =
 pub update_spec : {M : Type 1} → statement M
 update_spec =
     tie.close
-    (tie.spec sub-line-of line-of-requires sub-smaller smaller-requires add-to sub-pass part-pass-start part-pass-end pass-requires same_length returns)
+    (tie.spec
+    overflow_sub-place
+    line_of-line-requires
+    overflow_sub-place-2
+    smaller-requires
+    overflow_add-to
+    slice_bounds-pass-count
+    slice_bounds-pass-start
+    slice_bounds-pass-end
+    pass-requires
+    shape_of-work
+    returns)

@@ -7,26 +7,26 @@ use Rattle.mapper.proofs.Walking.{cell_is}
 use Rattle.mapper.proofs.update.update_one.Statement.{statement}
 use Rattle.mapper.proofs.update.update_one.Tie as tie
 
-sub-line-of : tie.Need-overflow_sub-place
-sub-line-of c = search rules
+overflow_sub-place : tie.Need-overflow_sub-place
+overflow_sub-place c = search rules
 
-line-of-requires : tie.Need-line_of-line-requires
-line-of-requires c κs = search rules
+line_of-line-requires : tie.Need-line_of-line-requires
+line_of-line-requires c κs = search rules
 
-sub-pass-one : tie.Need-slice_bounds-pass_one-count
-sub-pass-one c = search rules
+slice_bounds-pass_one-count : tie.Need-slice_bounds-pass_one-count
+slice_bounds-pass_one-count c = search rules
 
-part-pass-one-start : tie.Need-slice_bounds-pass_one-start
-part-pass-one-start c = search rules
+slice_bounds-pass_one-start : tie.Need-slice_bounds-pass_one-start
+slice_bounds-pass_one-start c = search rules
 
-part-pass-one-end : tie.Need-slice_bounds-pass_one-end
-part-pass-one-end c = search rules
+slice_bounds-pass_one-end : tie.Need-slice_bounds-pass_one-end
+slice_bounds-pass_one-end c = search rules
 
-pass-one-requires : tie.Need-pass_one-requires
-pass-one-requires c κs = search rules
+pass_one-requires : tie.Need-pass_one-requires
+pass_one-requires c κs = search rules
 
-same_length : tie.Need-shape_of-work
-same_length c = search rules
+shape_of-work : tie.Need-shape_of-work
+shape_of-work c = search rules
 
 returns : tie.Need-returns
 unfolding with_middle middle
@@ -44,4 +44,12 @@ returns c =
 pub update_one_spec : {M : Type 1} → statement M
 update_one_spec =
     tie.close
-    (tie.spec sub-line-of line-of-requires sub-pass-one part-pass-one-start part-pass-one-end pass-one-requires same_length returns)
+    (tie.spec
+    overflow_sub-place
+    line_of-line-requires
+    slice_bounds-pass_one-count
+    slice_bounds-pass_one-start
+    slice_bounds-pass_one-end
+    pass_one-requires
+    shape_of-work
+    returns)

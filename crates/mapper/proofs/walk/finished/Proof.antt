@@ -8,15 +8,15 @@ use Rattle.mapper.proofs.walk.finished.Tie as tie
 save-requires : tie.Need-save-requires
 save-requires c κs = search rules
 
-cast-t7 : tie.Need-overflow_cast-result
-cast-t7 c = search rules
+overflow_cast-result : tie.Need-overflow_cast-result
+overflow_cast-result c = search rules
 
-same_length : tie.Need-shape_of-work
-same_length c = search rules
+shape_of-work : tie.Need-shape_of-work
+shape_of-work c = search rules
 
 returns : tie.Need-returns
 unfolding finished_walk
 returns c = (refl, c.save.ensures)
 
 pub finished_spec : {M : Type 1} → statement M
-finished_spec = tie.close (tie.spec save-requires cast-t7 same_length returns)
+finished_spec = tie.close (tie.spec save-requires overflow_cast-result shape_of-work returns)

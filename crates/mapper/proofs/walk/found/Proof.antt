@@ -9,29 +9,29 @@ use Rattle.mapper.specs.Deciding.{decided}
 use Rattle.mapper.proofs.walk.found.Statement.{statement}
 use Rattle.mapper.proofs.walk.found.Tie as tie
 
-add_a : tie.Need-overflow_add-a
-add_a c = search rules
+overflow_add-a : tie.Need-overflow_add-a
+overflow_add-a c = search rules
 
-sub-a : tie.Need-overflow_sub-a
-sub-a c = search rules
+overflow_sub-a : tie.Need-overflow_sub-a
+overflow_sub-a c = search rules
 
-mul-a : tie.Need-offset_bounds-work-p
-mul-a c = search rules
+offset_bounds-work-p : tie.Need-offset_bounds-work-p
+offset_bounds-work-p c = search rules
 
-slice-read-a : tie.Need-bounds-work-p
-slice-read-a c = search rules
+bounds-work-p : tie.Need-bounds-work-p
+bounds-work-p c = search rules
 
-add-b : tie.Need-overflow_add-b
-add-b c = search rules
+overflow_add-b : tie.Need-overflow_add-b
+overflow_add-b c = search rules
 
-sub-b : tie.Need-overflow_sub-b
-sub-b c = search rules
+overflow_sub-b : tie.Need-overflow_sub-b
+overflow_sub-b c = search rules
 
-mul-b : tie.Need-offset_bounds-work-columns
-mul-b c = search rules
+offset_bounds-work-columns : tie.Need-offset_bounds-work-columns
+offset_bounds-work-columns c = search rules
 
-slice-read-b : tie.Need-bounds-work-columns
-slice-read-b c = search rules
+bounds-work-columns : tie.Need-bounds-work-columns
+bounds-work-columns c = search rules
 
 save-requires : tie.Need-save-requires
 save-requires c κs = search rules
@@ -39,14 +39,14 @@ save-requires c κs = search rules
 raised-requires : tie.Need-raised-requires
 raised-requires c κs = search rules
 
-cast-decided : tie.Need-overflow_cast-cells
-cast-decided c = search rules
+overflow_cast-cells : tie.Need-overflow_cast-cells
+overflow_cast-cells c = search rules
 
 decided-requires : tie.Need-decided-requires
 decided-requires c κs = search rules
 
-same_length : tie.Need-shape_of-work
-same_length c = search rules
+shape_of-work : tie.Need-shape_of-work
+shape_of-work c = search rules
 
 returns : tie.Need-returns
 unfolding found_walk
@@ -64,4 +64,18 @@ returns c =
 pub found_spec : {M : Type 1} → statement M
 found_spec =
     tie.close
-    (tie.spec add_a sub-a mul-a slice-read-a add-b sub-b mul-b slice-read-b save-requires raised-requires cast-decided decided-requires same_length returns)
+    (tie.spec
+    overflow_add-a
+    overflow_sub-a
+    offset_bounds-work-p
+    bounds-work-p
+    overflow_add-b
+    overflow_sub-b
+    offset_bounds-work-columns
+    bounds-work-columns
+    save-requires
+    raised-requires
+    overflow_cast-cells
+    decided-requires
+    shape_of-work
+    returns)

@@ -69,8 +69,8 @@ module _ (updated : tie.After-update-p invariant-loop decreases-loop) where
   long : work_words ≤ length updated.update-p.new.work
   long = let n = updated.update-p.auto.work in omega (arith, updated.loop-place.invariant.0)
 
-abbrev update-of : tie.After-slice_known-in-loop-place-1 invariant-loop decreases-loop → tie.After-update-p invariant-loop decreases-loop
-update-of c = c.before.before
+abbrev update_of : tie.After-slice_known-in-loop-place-1 invariant-loop decreases-loop → tie.After-update-p invariant-loop decreases-loop
+update_of c = c.before.before
 
 -- ---- behind the place's settling
 
@@ -79,7 +79,7 @@ module _ (c : tie.After-settle-place invariant-loop decreases-loop) where
   known = c.before.before.before
 
   abbrev updated : tie.After-update-p invariant-loop decreases-loop
-  updated = update-of known.before
+  updated = update_of known.before
 
   -- where it has settled
   within : (c.settle-place.result.columns ≤ c.loop-place.place.columns) × (c.settle-place.result.row ≤ c.update-p.result.row)
@@ -100,48 +100,48 @@ module _ (c : tie.After-settle-place invariant-loop decreases-loop) where
   at_place terms cells =
       λ i. found_walk terms (c.settle-place.ensures.1 i) c.loop-place.place.columns c.update-p.result (c.settle-place.ensures.0 i) cells
 
-  settled-long : length c.settle-place.new.work ≡ length c.loop-place.work
-  settled-long = c.settle-place.auto.work ∙ c.update-p.auto.work
+  settled_long : length c.settle-place.new.work ≡ length c.loop-place.work
+  settled_long = c.settle-place.auto.work ∙ c.update-p.auto.work
 
-terms-of-requires : tie.Need-terms_of-terms-requires invariant-loop decreases-loop
-terms-of-requires c κs = search rules
+terms_of-terms-requires : tie.Need-terms_of-terms-requires invariant-loop decreases-loop
+terms_of-terms-requires c κs = search rules
 
-loop-holds : tie.Need-loop-place-init invariant-loop decreases-loop
-loop-holds c = search rules
+loop-place-init : tie.Need-loop-place-init invariant-loop decreases-loop
+loop-place-init c = search rules
 
 spent-requires : tie.Need-spent-requires invariant-loop decreases-loop
 spent-requires c κs = search rules
 
-same_length : tie.Need-shape_of-work-then-left-eq0 invariant-loop decreases-loop
-same_length c = search rules
+shape_of-work-then-left-eq0 : tie.Need-shape_of-work-then-left-eq0 invariant-loop decreases-loop
+shape_of-work-then-left-eq0 c = search rules
 
-returns : tie.Need-returns-then-left-eq0 invariant-loop decreases-loop
-returns c =
+returns-then-left-eq0 : tie.Need-returns-then-left-eq0 invariant-loop decreases-loop
+returns-then-left-eq0 c =
     let s = c.before.before in
     let none = s.before.before in
     let t = none.before.before.before in
     let e = whole t (walk_spent _ _ _ _ _ _ _ _ none.loop-place-test.true none.if-left-eq0.true) in
     (s.spent.ensures.0 ∙ ap (λ (w : Walk). w.answer) e, s.spent.ensures.1 ∙ ap (λ (w : Walk). w.words) e)
 
-update-requires : tie.Need-update-p-requires invariant-loop decreases-loop
-update-requires c κs =
+update-p-requires : tie.Need-update-p-requires invariant-loop decreases-loop
+update-p-requires c κs =
     let some = c.before in
     let turn = some.before.before.before in
     ((search rules, search rules, search rules, search rules), small turn)
 
-sub-left : tie.Need-overflow_sub-left invariant-loop decreases-loop
-sub-left c = (stops (update-of c.before.before)).from
+overflow_sub-left : tie.Need-overflow_sub-left invariant-loop decreases-loop
+overflow_sub-left c = (stops (update_of c.before.before)).from
 
-sub-left-2 : tie.Need-overflow_sub-left-in-loop-place invariant-loop decreases-loop
-sub-left-2 c = (stops (update-of c.before.before)).spends
+overflow_sub-left-in-loop-place : tie.Need-overflow_sub-left-in-loop-place invariant-loop decreases-loop
+overflow_sub-left-in-loop-place c = (stops (update_of c.before.before)).spends
 
-settle-requires : tie.Need-settle-place-requires invariant-loop decreases-loop
-settle-requires c κs =
-    let d = update-of c.before.before.before in
+settle-place-requires : tie.Need-settle-place-requires invariant-loop decreases-loop
+settle-place-requires c κs =
+    let d = update_of c.before.before.before in
     (long d, d.loop-place.invariant.2, inside d)
 
-sub-found : tie.Need-overflow_sub-budget invariant-loop decreases-loop
-sub-found c = search rules
+overflow_sub-budget : tie.Need-overflow_sub-budget invariant-loop decreases-loop
+overflow_sub-budget c = search rules
 
 found-requires : tie.Need-found-requires invariant-loop decreases-loop
 found-requires c κs =
@@ -151,21 +151,21 @@ found-requires c κs =
     let stopped = stops d in
     let moved = stopped.moved candidate.if-p.true in
     let inv = d.loop-place.invariant in
-    let n = settled-long s in
+    let n = settled_long s in
     let w = within s in (
       (omega arith, inside d, inv.2, omega arith, omega (arith, stopped.within), omega (arith, d.requires.0.1)),
       (omega arith, omega (arith, stopped.within)),
     )
 
-same-length-2 : tie.Need-shape_of-work-then-p invariant-loop decreases-loop
-same-length-2 c =
+shape_of-work-then-p : tie.Need-shape_of-work-then-p invariant-loop decreases-loop
+shape_of-work-then-p c =
     let f = c.before.before in
     let candidate = f.before.before in
     let s = candidate.before.before.before in
-    f.found.auto.work ∙ settled-long s ∙ s.loop-place.invariant.1
+    f.found.auto.work ∙ settled_long s ∙ s.loop-place.invariant.1
 
-returns-2 : tie.Need-returns-then-p invariant-loop decreases-loop
-returns-2 c =
+returns-then-p : tie.Need-returns-then-p invariant-loop decreases-loop
+returns-then-p c =
     let f = c.before.before in
     let candidate = f.before.before in
     let s = candidate.before.before.before in
@@ -176,8 +176,8 @@ returns-2 c =
     ∙ sym (at_place s _ _)) in
     (f.found.ensures.0 ∙ ap (λ (w : Walk). w.answer) e, f.found.ensures.1 ∙ ap (λ (w : Walk). w.words) e)
 
-loop-less : tie.Need-loop-place-smaller invariant-loop decreases-loop
-loop-less c =
+loop-place-smaller : tie.Need-loop-place-smaller invariant-loop decreases-loop
+loop-place-smaller c =
     let s = c.before.before.before in
     let d = updated s in
     let u = d.update-p in
@@ -187,13 +187,13 @@ loop-less c =
     subst (λ (q : Place). q.columns + (d.loop-place.left - (u.result.row - place.row)) < place.columns + d.loop-place.left)
     (sym s.settle-place.ensures.0) less
 
-loop-again : tie.Need-loop-place-preserved invariant-loop decreases-loop
-loop-again c =
+loop-place-preserved : tie.Need-loop-place-preserved invariant-loop decreases-loop
+loop-place-preserved c =
     let s = c.before.before.before in
     let d = updated s in
     let u = d.update-p in
     let inv = d.loop-place.invariant in
-    let n = settled-long s in
+    let n = settled_long s in
     let w = within s in
     let stopped = stops d in
     let place = d.loop-place.place in
@@ -212,17 +212,17 @@ loop-again c =
       walked ∙ inv.5,
     )
 
-sub-finished : tie.Need-overflow_sub-budget-2 invariant-loop decreases-loop
-sub-finished c = search rules
+overflow_sub-budget-2 : tie.Need-overflow_sub-budget-2 invariant-loop decreases-loop
+overflow_sub-budget-2 c = search rules
 
 finished-requires : tie.Need-finished-requires invariant-loop decreases-loop
 finished-requires c κs = search rules
 
-same-length-3 : tie.Need-shape_of-work invariant-loop decreases-loop
-same-length-3 c = search rules
+shape_of-work : tie.Need-shape_of-work invariant-loop decreases-loop
+shape_of-work c = search rules
 
-returns-3 : tie.Need-returns invariant-loop decreases-loop
-returns-3 c =
+returns : tie.Need-returns invariant-loop decreases-loop
+returns c =
     let f = c.before.before in
     let tested = f.before.before in
     let t = tested.before.before in
@@ -233,4 +233,25 @@ returns-3 c =
 pub walk_spec : {M : Type 1} → statement M
 walk_spec =
     tie.close
-    (tie.spec invariant-loop decreases-loop terms-of-requires loop-holds spent-requires same_length returns update-requires sub-left sub-left-2 settle-requires sub-found found-requires same-length-2 returns-2 loop-less loop-again sub-finished finished-requires same-length-3 returns-3)
+    (tie.spec
+    invariant-loop
+    decreases-loop
+    terms_of-terms-requires
+    loop-place-init
+    spent-requires
+    shape_of-work-then-left-eq0
+    returns-then-left-eq0
+    update-p-requires
+    overflow_sub-left
+    overflow_sub-left-in-loop-place
+    settle-place-requires
+    overflow_sub-budget
+    found-requires
+    shape_of-work-then-p
+    returns-then-p
+    loop-place-smaller
+    loop-place-preserved
+    overflow_sub-budget-2
+    finished-requires
+    shape_of-work
+    returns)

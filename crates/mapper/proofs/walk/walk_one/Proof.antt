@@ -11,11 +11,11 @@ use Rattle.mapper.proofs.Walking.{small_terms, one_row, one_found, one_spent}
 use Rattle.mapper.proofs.walk.walk_one.Statement.{statement}
 use Rattle.mapper.proofs.walk.walk_one.Tie as tie
 
-terms-of-requires : tie.Need-terms_of-terms-requires
-terms-of-requires c κs = search rules
+terms_of-terms-requires : tie.Need-terms_of-terms-requires
+terms_of-terms-requires c κs = search rules
 
-update-one-requires : tie.Need-update_one-p-requires
-update-one-requires c κs =
+update_one-p-requires : tie.Need-update_one-p-requires
+update_one-p-requires c κs =
     let t = c.before in
     let start = t in
     ((search rules, search rules, search rules), small_terms start.args.work.now t.terms_of-terms.result t.terms_of-terms.ensures start.requires.1)
@@ -37,51 +37,59 @@ module _ (updated : tie.After-update_one-p) where
       let args = updated.args in
       one_walk terms args.start.columns args.start.row args.start.m args.start.highest args.work.now
 
-  by-words : {walk : Walk} → walk_with updated.terms_of-terms.result ≡ walk → walk ≡ walk_with (terms_in updated.args.work.now)
-  by-words e = sym e ∙ ap walk_with updated.terms_of-terms.ensures
+  by_words : {walk : Walk} → walk_with updated.terms_of-terms.result ≡ walk → walk ≡ walk_with (terms_in updated.args.work.now)
+  by_words e = sym e ∙ ap walk_with updated.terms_of-terms.ensures
 
-abbrev update-of : tie.After-slice_known-2-1 → tie.After-update_one-p
-update-of c = c.before.before
+abbrev update_of : tie.After-slice_known-2-1 → tie.After-update_one-p
+update_of c = c.before.before
 
 found-requires : tie.Need-found-requires
 found-requires c κs =
-    let d = update-of c.before.before in
+    let d = update_of c.before.before in
     let r = row_is d in (
       (long d, omega (arith, d.requires.0.2), search rules, omega arith, omega (arith, d.requires.0.1, d.requires.0.2), search rules),
       (search rules, omega (arith, d.requires.0.1, d.requires.0.2)),
     )
 
-same_length : tie.Need-shape_of-work-then-p
-same_length c = search rules
+shape_of-work-then-p : tie.Need-shape_of-work-then-p
+shape_of-work-then-p c = search rules
 
-returns : tie.Need-returns-then-p
-returns c =
+returns-then-p : tie.Need-returns-then-p
+returns-then-p c =
     let f = c.before.before in
     let candidate = f.before.before in
-    let d = update-of candidate.before in
+    let d = update_of candidate.before in
     let u = d.update_one-p in
-    let e = by-words d (one_found _ _ _ _ _ _ u.result u.new.work d.requires.0.2 u.ensures.0 u.ensures.1 candidate.if-p.true) in
+    let e = by_words d (one_found _ _ _ _ _ _ u.result u.new.work d.requires.0.2 u.ensures.0 u.ensures.1 candidate.if-p.true) in
     (f.found.ensures.0 ∙ ap (λ (w : Walk). w.answer) e, f.found.ensures.1 ∙ ap (λ (w : Walk). w.words) e)
 
 spent-requires : tie.Need-spent-requires
 spent-requires c κs =
-    let d = update-of c.before.before in
+    let d = update_of c.before.before in
     let r = row_is d in
     (long d, search rules, omega (arith, d.requires.0.1, d.requires.0.2), search rules)
 
-same-length-2 : tie.Need-shape_of-work
-same-length-2 c = search rules
+shape_of-work : tie.Need-shape_of-work
+shape_of-work c = search rules
 
-returns-2 : tie.Need-returns
-returns-2 c =
+returns : tie.Need-returns
+returns c =
     let s = c.before.before in
     let other = s.before.before in
-    let d = update-of other.before in
+    let d = update_of other.before in
     let u = d.update_one-p in
-    let e = by-words d (one_spent _ _ _ _ _ _ u.result u.new.work d.requires.0.2 u.ensures.0 u.ensures.1 other.if-p.false) in
+    let e = by_words d (one_spent _ _ _ _ _ _ u.result u.new.work d.requires.0.2 u.ensures.0 u.ensures.1 other.if-p.false) in
     (s.spent.ensures.0 ∙ ap (λ (w : Walk). w.answer) e, s.spent.ensures.1 ∙ ap (λ (w : Walk). w.words) e)
 
 pub walk_one_spec : {M : Type 1} → statement M
 walk_one_spec =
     tie.close
-    (tie.spec terms-of-requires update-one-requires found-requires same_length returns spent-requires same-length-2 returns-2)
+    (tie.spec
+    terms_of-terms-requires
+    update_one-p-requires
+    found-requires
+    shape_of-work-then-p
+    returns-then-p
+    spent-requires
+    shape_of-work
+    returns)

@@ -25,23 +25,23 @@ in_order c =
     let start = c in
     c.sort_through.ensures.1.1 ∙ through_exact (words c) _ (start.requires.0 ∙ sym (length-take-le _ _ start.requires.1))
 
-slice-relend-prefix-sort-through : tie.Need-slice_bounds-sort_through-end
-slice-relend-prefix-sort-through c = search rules
+slice_bounds-sort_through-end : tie.Need-slice_bounds-sort_through-end
+slice_bounds-sort_through-end c = search rules
 
-slice-aggregate-sort-through : tie.Need-slice_bounds-sort_through-end-2
-slice-aggregate-sort-through c = sym (length-take-le _ _ (omega arith))
+slice_bounds-sort_through-end-2 : tie.Need-slice_bounds-sort_through-end-2
+slice_bounds-sort_through-end-2 c = sym (length-take-le _ _ (omega arith))
 
-sort-through-requires : tie.Need-sort_through-requires
-sort-through-requires c κs = search rules
+sort_through-requires : tie.Need-sort_through-requires
+sort_through-requires c κs = search rules
 
-list-runs-requires : tie.Need-list_runs-requires
-list-runs-requires c κs = (copy_sorted (words (sorted c)) _ (in_order (sorted c)), search rules)
+list_runs-requires : tie.Need-list_runs-requires
+list_runs-requires c κs = (copy_sorted (words (sorted c)) _ (in_order (sorted c)), search rules)
 
-same_length : tie.Need-shape_of-sorted
-same_length c = search rules
+shape_of-sorted : tie.Need-shape_of-sorted
+shape_of-sorted c = search rules
 
-same-length-2 : tie.Need-shape_of-list
-same-length-2 c = search rules
+shape_of-list : tie.Need-shape_of-list
+shape_of-list c = search rules
 
 returns : tie.Need-returns
 returns c =
@@ -52,4 +52,11 @@ returns c =
 pub list_by_sorting_spec : {M : Type 1} → statement M
 list_by_sorting_spec =
     tie.close
-    (tie.spec slice-relend-prefix-sort-through slice-aggregate-sort-through sort-through-requires list-runs-requires same_length same-length-2 returns)
+    (tie.spec
+    slice_bounds-sort_through-end
+    slice_bounds-sort_through-end-2
+    sort_through-requires
+    list_runs-requires
+    shape_of-sorted
+    shape_of-list
+    returns)

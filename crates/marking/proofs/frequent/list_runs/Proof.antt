@@ -15,42 +15,41 @@ invariant-loop sorted limit list₀ back n₀ i₀ list n i = (length list ≡ l
 abbrev decreases-loop : tie.decreases-loop-i
 decreases-loop sorted limit list₀ back n₀ i₀ list n i = length sorted - i
 
--- the places of a turn, and the entry of the function
-loop-holds : tie.Need-loop-i-init invariant-loop decreases-loop
-loop-holds c = (refl, listed_none _ _ _)
+loop-i-init : tie.Need-loop-i-init invariant-loop decreases-loop
+loop-i-init c = (refl, listed_none _ _ _)
 
-sub-if1 : tie.Need-overflow_sub-i invariant-loop decreases-loop
-sub-if1 c = search rules
+overflow_sub-i : tie.Need-overflow_sub-i invariant-loop decreases-loop
+overflow_sub-i c = search rules
 
-mul-if1 : tie.Need-offset_bounds-sorted-i invariant-loop decreases-loop
-mul-if1 c = search rules
+offset_bounds-sorted-i : tie.Need-offset_bounds-sorted-i invariant-loop decreases-loop
+offset_bounds-sorted-i c = search rules
 
-shared-slice-read-if1 : tie.Need-bounds-sorted-i invariant-loop decreases-loop
-shared-slice-read-if1 c = search rules
+bounds-sorted-i : tie.Need-bounds-sorted-i invariant-loop decreases-loop
+bounds-sorted-i c = search rules
 
-mul-if1-2 : tie.Need-offset_bounds-sorted-i-in-loop-i invariant-loop decreases-loop
-mul-if1-2 c = search rules
+offset_bounds-sorted-i-in-loop-i : tie.Need-offset_bounds-sorted-i-in-loop-i invariant-loop decreases-loop
+offset_bounds-sorted-i-in-loop-i c = search rules
 
-shared-slice-read-if1-2 : tie.Need-bounds-sorted-i-in-loop-i invariant-loop decreases-loop
-shared-slice-read-if1-2 c = search rules
+bounds-sorted-i-in-loop-i : tie.Need-bounds-sorted-i-in-loop-i invariant-loop decreases-loop
+bounds-sorted-i-in-loop-i c = search rules
 
-mul-put-new : tie.Need-offset_bounds-sorted-i-then-sorted-i invariant-loop decreases-loop
-mul-put-new c = search rules
+offset_bounds-sorted-i-then-sorted-i : tie.Need-offset_bounds-sorted-i-then-sorted-i invariant-loop decreases-loop
+offset_bounds-sorted-i-then-sorted-i c = search rules
 
-shared-slice-read-put-new : tie.Need-bounds-sorted-i-then-sorted-i invariant-loop decreases-loop
-shared-slice-read-put-new c = search rules
+bounds-sorted-i-then-sorted-i : tie.Need-bounds-sorted-i-then-sorted-i invariant-loop decreases-loop
+bounds-sorted-i-then-sorted-i c = search rules
 
-put-new-requires : tie.Need-put_new-n-requires invariant-loop decreases-loop
-put-new-requires c κs = omega arith
+put_new-n-requires : tie.Need-put_new-n-requires invariant-loop decreases-loop
+put_new-n-requires c κs = omega arith
 
-add-i : tie.Need-overflow_add-i invariant-loop decreases-loop
-add-i c = search rules
+overflow_add-i : tie.Need-overflow_add-i invariant-loop decreases-loop
+overflow_add-i c = search rules
 
-loop-less : tie.Need-loop-i-smaller invariant-loop decreases-loop
-loop-less c = search rules
+loop-i-smaller : tie.Need-loop-i-smaller invariant-loop decreases-loop
+loop-i-smaller c = search rules
 
-loop-again : tie.Need-loop-i-preserved invariant-loop decreases-loop
-loop-again c =
+loop-i-preserved : tie.Need-loop-i-preserved invariant-loop decreases-loop
+loop-i-preserved c =
     let at = c.loop-i in
     let start = c in
     let inside = c.loop-i-test.true in
@@ -62,8 +61,8 @@ loop-again c =
       | else-sorted-i w ↦ rw (w.list-is, w.n-is) (at.invariant.0, pass w.if-sorted-i.false)
     ]
 
-same_length : tie.Need-shape_of-list invariant-loop decreases-loop
-same_length c = c.loop-i.invariant.0
+shape_of-list : tie.Need-shape_of-list invariant-loop decreases-loop
+shape_of-list c = c.loop-i.invariant.0
 
 returns : tie.Need-returns invariant-loop decreases-loop
 returns c = listed_all _ _ _ _ _ c.loop-i.invariant.1 c.loop-i-test.false
@@ -71,4 +70,20 @@ returns c = listed_all _ _ _ _ _ c.loop-i.invariant.1 c.loop-i-test.false
 pub list_runs_spec : {M : Type 1} → statement M
 list_runs_spec =
     tie.close
-    (tie.spec invariant-loop decreases-loop loop-holds sub-if1 mul-if1 shared-slice-read-if1 mul-if1-2 shared-slice-read-if1-2 mul-put-new shared-slice-read-put-new put-new-requires add-i loop-less loop-again same_length returns)
+    (tie.spec
+    invariant-loop
+    decreases-loop
+    loop-i-init
+    overflow_sub-i
+    offset_bounds-sorted-i
+    bounds-sorted-i
+    offset_bounds-sorted-i-in-loop-i
+    bounds-sorted-i-in-loop-i
+    offset_bounds-sorted-i-then-sorted-i
+    bounds-sorted-i-then-sorted-i
+    put_new-n-requires
+    overflow_add-i
+    loop-i-smaller
+    loop-i-preserved
+    shape_of-list
+    returns)

@@ -14,42 +14,42 @@ invariant-loop list heads₀ i₀ heads i = Noting list i heads
 abbrev decreases-loop : tie.decreases-loop-i
 decreases-loop list heads₀ i₀ heads i = length list - i
 
-loop-holds : tie.Need-loop-i-init invariant-loop decreases-loop
-loop-holds c = noting_none _ _ c.requires.0
+loop-i-init : tie.Need-loop-i-init invariant-loop decreases-loop
+loop-i-init c = noting_none _ _ c.requires.0
 
-mul-slot : tie.Need-offset_bounds-list-i invariant-loop decreases-loop
-mul-slot c = search rules
+offset_bounds-list-i : tie.Need-offset_bounds-list-i invariant-loop decreases-loop
+offset_bounds-list-i c = search rules
 
-shared-slice-read-slot : tie.Need-bounds-list-i invariant-loop decreases-loop
-shared-slice-read-slot c = search rules
+bounds-list-i : tie.Need-bounds-list-i invariant-loop decreases-loop
+bounds-list-i c = search rules
 
-slot-requires : tie.Need-slot-s-requires invariant-loop decreases-loop
-slot-requires c κs = search rules
+slot-s-requires : tie.Need-slot-s-requires invariant-loop decreases-loop
+slot-s-requires c κs = search rules
 
-add-heads : tie.Need-overflow_add-heads invariant-loop decreases-loop
-add-heads c = search rules
+overflow_add-heads : tie.Need-overflow_add-heads invariant-loop decreases-loop
+overflow_add-heads c = search rules
 
-cast-heads : tie.Need-overflow_cast-heads invariant-loop decreases-loop
-cast-heads c = omega (arith, c.requires.1)
+overflow_cast-heads : tie.Need-overflow_cast-heads invariant-loop decreases-loop
+overflow_cast-heads c = omega (arith, c.requires.1)
 
-mul-heads : tie.Need-offset_bounds-heads-s invariant-loop decreases-loop
-mul-heads c = search rules
+offset_bounds-heads-s : tie.Need-offset_bounds-heads-s invariant-loop decreases-loop
+offset_bounds-heads-s c = search rules
 
-slice-write-heads : tie.Need-bounds-heads-s invariant-loop decreases-loop
-slice-write-heads c = omega (arith, c.loop-i.invariant.long)
+bounds-heads-s : tie.Need-bounds-heads-s invariant-loop decreases-loop
+bounds-heads-s c = omega (arith, c.loop-i.invariant.long)
 
-add-i : tie.Need-overflow_add-i invariant-loop decreases-loop
-add-i c = search rules
+overflow_add-i : tie.Need-overflow_add-i invariant-loop decreases-loop
+overflow_add-i c = search rules
 
-loop-less : tie.Need-loop-i-smaller invariant-loop decreases-loop
-loop-less c = search rules
+loop-i-smaller : tie.Need-loop-i-smaller invariant-loop decreases-loop
+loop-i-smaller c = search rules
 
-loop-again : tie.Need-loop-i-preserved invariant-loop decreases-loop
-loop-again c =
+loop-i-preserved : tie.Need-loop-i-preserved invariant-loop decreases-loop
+loop-i-preserved c =
     noting_more _ _ _ _ c.loop-i.invariant c.loop-i-test.true c.slot-s.ensures.0 c.slot-s.ensures.1
 
-same_length : tie.Need-shape_of-heads invariant-loop decreases-loop
-same_length c =
+shape_of-heads : tie.Need-shape_of-heads invariant-loop decreases-loop
+shape_of-heads c =
     let start = c in
     c.loop-i.invariant.long ∙ sym (noting_none start.args.list.now _ start.requires.0).long
 
@@ -59,4 +59,19 @@ returns c = noting_all _ _ _ c.loop-i.invariant c.loop-i-test.false
 pub fill_heads_spec : {M : Type 1} → statement M
 fill_heads_spec =
     tie.close
-    (tie.spec invariant-loop decreases-loop loop-holds mul-slot shared-slice-read-slot slot-requires add-heads cast-heads mul-heads slice-write-heads add-i loop-less loop-again same_length returns)
+    (tie.spec
+    invariant-loop
+    decreases-loop
+    loop-i-init
+    offset_bounds-list-i
+    bounds-list-i
+    slot-s-requires
+    overflow_add-heads
+    overflow_cast-heads
+    offset_bounds-heads-s
+    bounds-heads-s
+    overflow_add-i
+    loop-i-smaller
+    loop-i-preserved
+    shape_of-heads
+    returns)

@@ -8,52 +8,61 @@ use borrow.Author.Rules.{rules}
 use Rattle.marking.proofs.lookup.mark.Statement.{statement}
 use Rattle.marking.proofs.lookup.mark.Tie as tie
 
--- the places before the head is known, and the entry of the function
--- the head is at most the number of words
-head-within : (c : tie.After-wide-head) → c.wide-head.result ≤ length c.args.list.now
-head-within c = omega (arith, c.wide-head.ensures, c.requires.1.within _ c.slot-s.ensures.1)
+head_within : (c : tie.After-wide-head) → c.wide-head.result ≤ length c.args.list.now
+head_within c = omega (arith, c.wide-head.ensures, c.requires.1.within _ c.slot-s.ensures.1)
 
-slot-requires : tie.Need-slot-s-requires
-slot-requires c κs = search rules
+slot-s-requires : tie.Need-slot-s-requires
+slot-s-requires c κs = search rules
 
-mul_wide : tie.Need-offset_bounds-heads-s
-mul_wide c = search rules
+offset_bounds-heads-s : tie.Need-offset_bounds-heads-s
+offset_bounds-heads-s c = search rules
 
-shared-slice-read-wide : tie.Need-bounds-heads-s
-shared-slice-read-wide c = search rules
+bounds-heads-s : tie.Need-bounds-heads-s
+bounds-heads-s c = search rules
 
-wide-requires : tie.Need-wide-head-requires
-wide-requires c κs = search rules
+wide-head-requires : tie.Need-wide-head-requires
+wide-head-requires c κs = search rules
 
-returns : tie.Need-returns-then-head-eq0
-returns c =
+returns-then-head-eq0 : tie.Need-returns-then-head-eq0
+returns-then-head-eq0 c =
     let known = c.before in
     let start = known in
     mark_no_head _ start.requires.0 _ _ _ start.requires.1 known.slot-s.ensures.0 (sym known.wide-head.ensures ∙ c.if-head-eq0.true)
 
-sub-if2 : tie.Need-overflow_sub-head
-sub-if2 c = search rules
+overflow_sub-head : tie.Need-overflow_sub-head
+overflow_sub-head c = search rules
 
-mul-if2 : tie.Need-offset_bounds-list-head
-mul-if2 c = omega (arith, head-within c.before)
+offset_bounds-list-head : tie.Need-offset_bounds-list-head
+offset_bounds-list-head c = omega (arith, head_within c.before)
 
-shared-slice-read-if2 : tie.Need-bounds-list-head
-shared-slice-read-if2 c = omega (arith, head-within c.before.before)
+bounds-list-head : tie.Need-bounds-list-head
+bounds-list-head c = omega (arith, head_within c.before.before)
 
-returns-2 : tie.Need-returns-then-list-head
-returns-2 c =
+returns-then-list-head : tie.Need-returns-then-list-head
+returns-then-list-head c =
     let known = c.before.before.before in
     let list = known.args.list.now in
-    let inside : known.wide-head.result - 1 < length list = omega (arith, head-within known, c.if-head-eq0.false) in
+    let inside : known.wide-head.result - 1 < length list = omega (arith, head_within known, c.if-head-eq0.false) in
     mark_at list _ _ inside c.if-list-head.true
 
-mark-by-search-requires : tie.Need-mark_by_search-requires
-mark-by-search-requires c κs = search rules
+mark_by_search-requires : tie.Need-mark_by_search-requires
+mark_by_search-requires c κs = search rules
 
-returns-3 : tie.Need-returns
-returns-3 c = search rules
+returns : tie.Need-returns
+returns c = search rules
 
 pub mark_spec : {M : Type 1} → statement M
 mark_spec =
     tie.close
-    (tie.spec slot-requires mul_wide shared-slice-read-wide wide-requires returns sub-if2 mul-if2 shared-slice-read-if2 returns-2 mark-by-search-requires returns-3)
+    (tie.spec
+    slot-s-requires
+    offset_bounds-heads-s
+    bounds-heads-s
+    wide-head-requires
+    returns-then-head-eq0
+    overflow_sub-head
+    offset_bounds-list-head
+    bounds-list-head
+    returns-then-list-head
+    mark_by_search-requires
+    returns)

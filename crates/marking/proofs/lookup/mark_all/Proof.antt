@@ -16,26 +16,26 @@ invariant-loop marks₀ i₀ marks i = (i ≤ length marks₀) × (length marks 
 abbrev decreases-loop : tie.decreases-loop-i
 decreases-loop marks₀ i₀ marks i = length marks₀ - i
 
-loop-holds : tie.Need-loop-i-init invariant-loop decreases-loop
-loop-holds c = (omega arith, refl, fill_none _ 1)
+loop-i-init : tie.Need-loop-i-init invariant-loop decreases-loop
+loop-i-init c = (omega arith, refl, fill_none _ 1)
 
-slice-write-marks : tie.Need-bounds-marks-i invariant-loop decreases-loop
-slice-write-marks c = search rules
+bounds-marks-i : tie.Need-bounds-marks-i invariant-loop decreases-loop
+bounds-marks-i c = search rules
 
-add-i : tie.Need-overflow_add-i invariant-loop decreases-loop
-add-i c = search rules
+overflow_add-i : tie.Need-overflow_add-i invariant-loop decreases-loop
+overflow_add-i c = search rules
 
-loop-less : tie.Need-loop-i-smaller invariant-loop decreases-loop
-loop-less c = search rules
+loop-i-smaller : tie.Need-loop-i-smaller invariant-loop decreases-loop
+loop-i-smaller c = search rules
 
-loop-again : tie.Need-loop-i-preserved invariant-loop decreases-loop
-loop-again c =
+loop-i-preserved : tie.Need-loop-i-preserved invariant-loop decreases-loop
+loop-i-preserved c =
     let at = c.loop-i in
     let old = c.args.marks.now in
     (omega arith, simp length-set at.invariant.1, rw at.invariant.2 (fill_more at.i 1 old (omega arith)))
 
-same_length : tie.Need-shape_of-marks invariant-loop decreases-loop
-same_length c = search rules
+shape_of-marks : tie.Need-shape_of-marks invariant-loop decreases-loop
+shape_of-marks c = search rules
 
 returns : tie.Need-returns invariant-loop decreases-loop
 returns c =
@@ -46,4 +46,13 @@ returns c =
 pub mark_all_spec : {M : Type 1} → statement M
 mark_all_spec =
     tie.close
-    (tie.spec invariant-loop decreases-loop loop-holds slice-write-marks add-i loop-less loop-again same_length returns)
+    (tie.spec
+    invariant-loop
+    decreases-loop
+    loop-i-init
+    bounds-marks-i
+    overflow_add-i
+    loop-i-smaller
+    loop-i-preserved
+    shape_of-marks
+    returns)

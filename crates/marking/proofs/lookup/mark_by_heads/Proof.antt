@@ -16,33 +16,33 @@ invariant-loop list heads words marks₀ i₀ marks i = (i ≤ length words) × 
 abbrev decreases-loop : tie.decreases-loop-i
 decreases-loop list heads words marks₀ i₀ marks i = length words - i
 
-loop-holds : tie.Need-loop-i-init invariant-loop decreases-loop
-loop-holds c = (omega arith, refl, refl)
+loop-i-init : tie.Need-loop-i-init invariant-loop decreases-loop
+loop-i-init c = (omega arith, refl, refl)
 
-mul-mark : tie.Need-offset_bounds-words-i invariant-loop decreases-loop
-mul-mark c = search rules
+offset_bounds-words-i : tie.Need-offset_bounds-words-i invariant-loop decreases-loop
+offset_bounds-words-i c = search rules
 
-shared-slice-read-mark : tie.Need-bounds-words-i invariant-loop decreases-loop
-shared-slice-read-mark c = search rules
+bounds-words-i : tie.Need-bounds-words-i invariant-loop decreases-loop
+bounds-words-i c = search rules
 
 mark-requires : tie.Need-mark-requires invariant-loop decreases-loop
 mark-requires c κs =
     let start = c in
     (start.requires.0, start.requires.1)
 
-slice-write-marks : tie.Need-bounds-marks-i invariant-loop decreases-loop
-slice-write-marks c =
+bounds-marks-i : tie.Need-bounds-marks-i invariant-loop decreases-loop
+bounds-marks-i c =
     let at = c in
     omega (arith, at.loop-i.invariant.1, at.requires.2, c.loop-i-test.true)
 
-add-i : tie.Need-overflow_add-i invariant-loop decreases-loop
-add-i c = search rules
+overflow_add-i : tie.Need-overflow_add-i invariant-loop decreases-loop
+overflow_add-i c = search rules
 
-loop-less : tie.Need-loop-i-smaller invariant-loop decreases-loop
-loop-less c = search rules
+loop-i-smaller : tie.Need-loop-i-smaller invariant-loop decreases-loop
+loop-i-smaller c = search rules
 
-loop-again : tie.Need-loop-i-preserved invariant-loop decreases-loop
-loop-again c =
+loop-i-preserved : tie.Need-loop-i-preserved invariant-loop decreases-loop
+loop-i-preserved c =
     let at = c in
     let args = at.args in (
       omega arith,
@@ -51,8 +51,8 @@ loop-again c =
           c.loop-i-test.true c.mark.ensures at.loop-i.invariant.2,
     )
 
-same_length : tie.Need-shape_of-marks invariant-loop decreases-loop
-same_length c = c.loop-i.invariant.1
+shape_of-marks : tie.Need-shape_of-marks invariant-loop decreases-loop
+shape_of-marks c = c.loop-i.invariant.1
 
 returns : tie.Need-returns invariant-loop decreases-loop
 returns c =
@@ -62,4 +62,16 @@ returns c =
 pub mark_by_heads_spec : {M : Type 1} → statement M
 mark_by_heads_spec =
     tie.close
-    (tie.spec invariant-loop decreases-loop loop-holds mul-mark shared-slice-read-mark mark-requires slice-write-marks add-i loop-less loop-again same_length returns)
+    (tie.spec
+    invariant-loop
+    decreases-loop
+    loop-i-init
+    offset_bounds-words-i
+    bounds-words-i
+    mark-requires
+    bounds-marks-i
+    overflow_add-i
+    loop-i-smaller
+    loop-i-preserved
+    shape_of-marks
+    returns)

@@ -4,31 +4,37 @@ use borrow.Author.Rules.{rules}
 use Rattle.marking.proofs.lookup.mark_by_search.Statement.{statement}
 use Rattle.marking.proofs.lookup.mark_by_search.Tie as tie
 
-lower-bound-requires : tie.Need-lower_bound-at-requires
-lower-bound-requires c κs = search rules
+lower_bound-at-requires : tie.Need-lower_bound-at-requires
+lower_bound-at-requires c κs = search rules
 
-returns : tie.Need-returns-then-list-at
-returns c =
+returns-then-list-at : tie.Need-returns-then-list-at
+returns-then-list-at c =
     let end = c in
     mark_beyond _ end.requires _ _ end.lower_bound-at.ensures c.if-list-at.true
 
-mul-if2 : tie.Need-offset_bounds-list-at
-mul-if2 c = search rules
+offset_bounds-list-at : tie.Need-offset_bounds-list-at
+offset_bounds-list-at c = search rules
 
-shared-slice-read-if2 : tie.Need-bounds-list-at
-shared-slice-read-if2 c = search rules
+bounds-list-at : tie.Need-bounds-list-at
+bounds-list-at c = search rules
 
-returns-2 : tie.Need-returns-then-list-at-2
-returns-2 c =
+returns-then-list-at-2 : tie.Need-returns-then-list-at-2
+returns-then-list-at-2 c =
     let end = c in
     mark_at end.args.list.now _ _ c.if-list-at.false c.if-list-at-2.true
 
-returns-3 : tie.Need-returns-else-list-at-2
-returns-3 c =
+returns-else-list-at-2 : tie.Need-returns-else-list-at-2
+returns-else-list-at-2 c =
     let end = c in
     mark_other _ end.requires _ _ end.lower_bound-at.ensures c.if-list-at-2.false
 
 pub mark_by_search_spec : {M : Type 1} → statement M
 mark_by_search_spec =
     tie.close
-    (tie.spec lower-bound-requires returns mul-if2 shared-slice-read-if2 returns-2 returns-3)
+    (tie.spec
+    lower_bound-at-requires
+    returns-then-list-at
+    offset_bounds-list-at
+    bounds-list-at
+    returns-then-list-at-2
+    returns-else-list-at-2)

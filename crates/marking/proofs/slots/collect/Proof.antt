@@ -36,56 +36,56 @@ step c =
 room : (c : tie.After-slot-s invariant-loop decreases-loop) → c.loop-i.at < length c.loop-i.out
 room c = omega (arith, c.loop-i.invariant.0, c.loop-i.invariant.1.few, c.loop-i-test.true, c.requires.0.1)
 
-loop-holds : tie.Need-loop-i-init invariant-loop decreases-loop
-loop-holds c = (refl, collected_none _ _ _)
+loop-i-init : tie.Need-loop-i-init invariant-loop decreases-loop
+loop-i-init c = (refl, collected_none _ _ _)
 
-mul-slot : tie.Need-offset_bounds-words-i invariant-loop decreases-loop
-mul-slot c = search rules
+offset_bounds-words-i : tie.Need-offset_bounds-words-i invariant-loop decreases-loop
+offset_bounds-words-i c = search rules
 
-shared-slice-read-slot : tie.Need-bounds-words-i invariant-loop decreases-loop
-shared-slice-read-slot c = search rules
+bounds-words-i : tie.Need-bounds-words-i invariant-loop decreases-loop
+bounds-words-i c = search rules
 
-slot-requires : tie.Need-slot-s-requires invariant-loop decreases-loop
-slot-requires c κs = search rules
+slot-s-requires : tie.Need-slot-s-requires invariant-loop decreases-loop
+slot-s-requires c κs = search rules
 
-mul-out : tie.Need-offset_bounds-words-i-in-loop-i invariant-loop decreases-loop
-mul-out c = search rules
+offset_bounds-words-i-in-loop-i : tie.Need-offset_bounds-words-i-in-loop-i invariant-loop decreases-loop
+offset_bounds-words-i-in-loop-i c = search rules
 
-shared-slice-read-out : tie.Need-bounds-words-i-in-loop-i invariant-loop decreases-loop
-shared-slice-read-out c = search rules
+bounds-words-i-in-loop-i : tie.Need-bounds-words-i-in-loop-i invariant-loop decreases-loop
+bounds-words-i-in-loop-i c = search rules
 
-mul-out-2 : tie.Need-offset_bounds-out-at invariant-loop decreases-loop
-mul-out-2 c = omega (arith, room c.before)
+offset_bounds-out-at : tie.Need-offset_bounds-out-at invariant-loop decreases-loop
+offset_bounds-out-at c = omega (arith, room c.before)
 
-slice-write-out : tie.Need-bounds-out-at invariant-loop decreases-loop
-slice-write-out c = room c.before
+bounds-out-at : tie.Need-bounds-out-at invariant-loop decreases-loop
+bounds-out-at c = room c.before
 
-mul-crowded : tie.Need-offset_bounds-slots-s invariant-loop decreases-loop
-mul-crowded c = search rules
+offset_bounds-slots-s : tie.Need-offset_bounds-slots-s invariant-loop decreases-loop
+offset_bounds-slots-s c = search rules
 
-shared-slice-read-crowded : tie.Need-bounds-slots-s invariant-loop decreases-loop
-shared-slice-read-crowded c = search rules
+bounds-slots-s : tie.Need-bounds-slots-s invariant-loop decreases-loop
+bounds-slots-s c = search rules
 
-crowded-requires : tie.Need-crowded-at-requires invariant-loop decreases-loop
-crowded-requires c κs = search rules
+crowded-at-requires : tie.Need-crowded-at-requires invariant-loop decreases-loop
+crowded-at-requires c κs = search rules
 
-add_at : tie.Need-overflow_add-at invariant-loop decreases-loop
-add_at c = search rules
+overflow_add-at : tie.Need-overflow_add-at invariant-loop decreases-loop
+overflow_add-at c = search rules
 
-add-i : tie.Need-overflow_add-i invariant-loop decreases-loop
-add-i c = search rules
+overflow_add-i : tie.Need-overflow_add-i invariant-loop decreases-loop
+overflow_add-i c = search rules
 
-loop-less : tie.Need-loop-i-smaller invariant-loop decreases-loop
-loop-less c = search rules
+loop-i-smaller : tie.Need-loop-i-smaller invariant-loop decreases-loop
+loop-i-smaller c = search rules
 
-loop-again : tie.Need-loop-i-preserved invariant-loop decreases-loop
-loop-again c =
+loop-i-preserved : tie.Need-loop-i-preserved invariant-loop decreases-loop
+loop-i-preserved c =
     let found = c in
     let at = found.loop-i in
     (simp length-set at.invariant.0, collected_more _ _ _ _ _ _ at.invariant.1 found.loop-i-test.true (omega arith) (step c) c.crowded-at.ensures.1)
 
-same_length : tie.Need-shape_of-out invariant-loop decreases-loop
-same_length c = c.loop-i.invariant.0
+shape_of-out : tie.Need-shape_of-out invariant-loop decreases-loop
+shape_of-out c = c.loop-i.invariant.0
 
 returns : tie.Need-returns invariant-loop decreases-loop
 unfolding suspects_of
@@ -94,4 +94,23 @@ returns c = collected_all _ _ _ _ _ c.loop-i.invariant.1 c.loop-i-test.false
 pub collect_spec : {M : Type 1} → statement M
 collect_spec =
     tie.close
-    (tie.spec invariant-loop decreases-loop loop-holds mul-slot shared-slice-read-slot slot-requires mul-out shared-slice-read-out mul-out-2 slice-write-out mul-crowded shared-slice-read-crowded crowded-requires add_at add-i loop-less loop-again same_length returns)
+    (tie.spec
+    invariant-loop
+    decreases-loop
+    loop-i-init
+    offset_bounds-words-i
+    bounds-words-i
+    slot-s-requires
+    offset_bounds-words-i-in-loop-i
+    bounds-words-i-in-loop-i
+    offset_bounds-out-at
+    bounds-out-at
+    offset_bounds-slots-s
+    bounds-slots-s
+    crowded-at-requires
+    overflow_add-at
+    overflow_add-i
+    loop-i-smaller
+    loop-i-preserved
+    shape_of-out
+    returns)

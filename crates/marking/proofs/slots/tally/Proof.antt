@@ -15,46 +15,45 @@ invariant-loop words slots₀ i₀ slots i = Tallied slot_of slot_count words i 
 abbrev decreases-loop : tie.decreases-loop-i
 decreases-loop words slots₀ i₀ slots i = length words - i
 
--- the places of a turn, from its end back to its test, and the entry of the function
-loop-holds : tie.Need-loop-i-init invariant-loop decreases-loop
-loop-holds c = tallied_none _ _ _ _ c.requires.0
+loop-i-init : tie.Need-loop-i-init invariant-loop decreases-loop
+loop-i-init c = tallied_none _ _ _ _ c.requires.0
 
-mul-slot : tie.Need-offset_bounds-words-i invariant-loop decreases-loop
-mul-slot c = search rules
+offset_bounds-words-i : tie.Need-offset_bounds-words-i invariant-loop decreases-loop
+offset_bounds-words-i c = search rules
 
-shared-slice-read-slot : tie.Need-bounds-words-i invariant-loop decreases-loop
-shared-slice-read-slot c = search rules
+bounds-words-i : tie.Need-bounds-words-i invariant-loop decreases-loop
+bounds-words-i c = search rules
 
-slot-requires : tie.Need-slot-s-requires invariant-loop decreases-loop
-slot-requires c κs = search rules
+slot-s-requires : tie.Need-slot-s-requires invariant-loop decreases-loop
+slot-s-requires c κs = search rules
 
-mul-slots : tie.Need-offset_bounds-slots-s invariant-loop decreases-loop
-mul-slots c = search rules
+offset_bounds-slots-s : tie.Need-offset_bounds-slots-s invariant-loop decreases-loop
+offset_bounds-slots-s c = search rules
 
-slice-read-slots : tie.Need-bounds-slots-s invariant-loop decreases-loop
-slice-read-slots c = search rules
+bounds-slots-s : tie.Need-bounds-slots-s invariant-loop decreases-loop
+bounds-slots-s c = search rules
 
-add-slots : tie.Need-overflow_add-slots invariant-loop decreases-loop
-add-slots c = omega (arith, tallied_le _ _ _ _ _ _ c.loop-i.invariant c.slot-s.ensures.1, c.requires.1)
+overflow_add-slots : tie.Need-overflow_add-slots invariant-loop decreases-loop
+overflow_add-slots c = omega (arith, tallied_le _ _ _ _ _ _ c.loop-i.invariant c.slot-s.ensures.1, c.requires.1)
 
-mul-slots-2 : tie.Need-offset_bounds-slots-s-in-loop-i invariant-loop decreases-loop
-mul-slots-2 c = search rules
+offset_bounds-slots-s-in-loop-i : tie.Need-offset_bounds-slots-s-in-loop-i invariant-loop decreases-loop
+offset_bounds-slots-s-in-loop-i c = search rules
 
-slice-write-slots : tie.Need-bounds-slots-s-in-loop-i invariant-loop decreases-loop
-slice-write-slots c = search rules
+bounds-slots-s-in-loop-i : tie.Need-bounds-slots-s-in-loop-i invariant-loop decreases-loop
+bounds-slots-s-in-loop-i c = search rules
 
-add-i : tie.Need-overflow_add-i invariant-loop decreases-loop
-add-i c = search rules
+overflow_add-i : tie.Need-overflow_add-i invariant-loop decreases-loop
+overflow_add-i c = search rules
 
-loop-less : tie.Need-loop-i-smaller invariant-loop decreases-loop
-loop-less c = search rules
+loop-i-smaller : tie.Need-loop-i-smaller invariant-loop decreases-loop
+loop-i-smaller c = search rules
 
-loop-again : tie.Need-loop-i-preserved invariant-loop decreases-loop
-loop-again c =
+loop-i-preserved : tie.Need-loop-i-preserved invariant-loop decreases-loop
+loop-i-preserved c =
     tallied_more _ _ _ _ _ _ c.loop-i.invariant c.loop-i-test.true c.slot-s.ensures.0 c.slot-s.ensures.1
 
-same_length : tie.Need-shape_of-slots invariant-loop decreases-loop
-same_length c =
+shape_of-slots : tie.Need-shape_of-slots invariant-loop decreases-loop
+shape_of-slots c =
     let start = c in
     c.loop-i.invariant.long ∙ sym (tallied_none slot_of slot_count start.args.words.now _ start.requires.0).long
 
@@ -64,4 +63,20 @@ returns c = tallied_all _ _ _ _ _ c.loop-i.invariant c.loop-i-test.false
 pub tally_spec : {M : Type 1} → statement M
 tally_spec =
     tie.close
-    (tie.spec invariant-loop decreases-loop loop-holds mul-slot shared-slice-read-slot slot-requires mul-slots slice-read-slots add-slots mul-slots-2 slice-write-slots add-i loop-less loop-again same_length returns)
+    (tie.spec
+    invariant-loop
+    decreases-loop
+    loop-i-init
+    offset_bounds-words-i
+    bounds-words-i
+    slot-s-requires
+    offset_bounds-slots-s
+    bounds-slots-s
+    overflow_add-slots
+    offset_bounds-slots-s-in-loop-i
+    bounds-slots-s-in-loop-i
+    overflow_add-i
+    loop-i-smaller
+    loop-i-preserved
+    shape_of-slots
+    returns)

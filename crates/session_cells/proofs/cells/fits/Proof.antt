@@ -7,33 +7,39 @@ use Rattle.session_cells.specs.Passing.{fits}
 use Rattle.session_cells.proofs.cells.fits.Statement.{statement}
 use Rattle.session_cells.proofs.cells.fits.Tie as tie
 
-returns : tie.Need-returns-then-part-ne-PART_LENGTH
+returns-then-part-ne-PART_LENGTH : tie.Need-returns-then-part-ne-PART_LENGTH
 unfolding fits
-returns c = simp (ne_eqb _ _ c.if-part-ne-PART_LENGTH.true)
+returns-then-part-ne-PART_LENGTH c = simp (ne_eqb _ _ c.if-part-ne-PART_LENGTH.true)
 
-returns-2 : tie.Need-returns-then-to-gt-HIT_LIMIT
+returns-then-to-gt-HIT_LIMIT : tie.Need-returns-then-to-gt-HIT_LIMIT
 unfolding fits
-returns-2 c = simp (eq-eqb _ _ c.if-part-ne-PART_LENGTH.false, lt-leb _ _ c.if-to-gt-HIT_LIMIT.true)
+returns-then-to-gt-HIT_LIMIT c = simp (eq-eqb _ _ c.if-part-ne-PART_LENGTH.false, lt-leb _ _ c.if-to-gt-HIT_LIMIT.true)
 
 wide-requires : tie.Need-wide-requires
 wide-requires c κs = search rules
 
-add-if3 : tie.Need-overflow_add-wide
-add-if3 c = search rules
+overflow_add-wide : tie.Need-overflow_add-wide
+overflow_add-wide c = search rules
 
-returns-3 : tie.Need-returns-then-wide-to
+returns-then-wide-to : tie.Need-returns-then-wide-to
 unfolding fits
-returns-3 c =
+returns-then-wide-to c =
     let d = c in
     let past : d.args.line.column + 1 < d.args.to = omega arith in
     simp (eq-eqb _ _ d.if-part-ne-PART_LENGTH.false, le-leb _ _ d.if-to-gt-HIT_LIMIT.false, lt-leb _ _ past)
 
-returns-4 : tie.Need-returns
+returns : tie.Need-returns
 unfolding fits
-returns-4 c =
+returns c =
     let d = c in
     let within : d.args.to ≤ d.args.line.column + 1 = omega arith in
     simp (eq-eqb _ _ d.if-part-ne-PART_LENGTH.false, le-leb _ _ d.if-to-gt-HIT_LIMIT.false, le-leb _ _ within)
 
 pub fits_spec : {M : Type 1} → statement M
-fits_spec = tie.close (tie.spec returns returns-2 wide-requires add-if3 returns-3 returns-4)
+fits_spec = tie.close (tie.spec
+    returns-then-part-ne-PART_LENGTH
+    returns-then-to-gt-HIT_LIMIT
+    wide-requires
+    overflow_add-wide
+    returns-then-wide-to
+    returns)

@@ -14,28 +14,28 @@ fits-requires c κs = search rules
 fitting : (d : tie.Then-fits) → (let args = d.args in fits args.line args.part.now args.from args.to ≡ true)
 fitting d = sym d.fits.ensures ∙ d.if-fits.true
 
-pass-blocks-requires : tie.Need-pass_blocks-requires
-pass-blocks-requires c κs = fits_says _ _ _ _ (fitting c.before)
+pass_blocks-requires : tie.Need-pass_blocks-requires
+pass_blocks-requires c κs = fits_says _ _ _ _ (fitting c.before)
 
-same_length : tie.Need-shape_of-part-then-fits
-same_length c = search rules
+shape_of-part-then-fits : tie.Need-shape_of-part-then-fits
+shape_of-part-then-fits c = search rules
 
-returns : tie.Need-returns-then-fits
-returns c =
+returns-then-fits : tie.Need-returns-then-fits
+returns-then-fits c =
     let passed = c.before.before in
     let d = passed.before.before in
     let args = d.args in
     let e = sym (pass_fits args.line args.from args.to args.m args.highest args.part.now (fitting d)) in
     (passed.pass_blocks.ensures.0 ∙ ap (λ (u : Update). u.answer) e, passed.pass_blocks.ensures.1 ∙ ap (λ (u : Update). u.part) e)
 
-none-passed-requires : tie.Need-none_passed-requires
-none-passed-requires c κs = search rules
+none_passed-requires : tie.Need-none_passed-requires
+none_passed-requires c κs = search rules
 
-same-length-2 : tie.Need-shape_of-part
-same-length-2 c = search rules
+shape_of-part : tie.Need-shape_of-part
+shape_of-part c = search rules
 
-returns-2 : tie.Need-returns
-returns-2 c =
+returns : tie.Need-returns
+returns c =
     let d = c in
     let args = d.args in
     let e = sym (pass_none args.line args.from args.to args.m args.highest args.part.now
@@ -45,4 +45,11 @@ returns-2 c =
 pub pass_spec : {M : Type 1} → statement M
 pass_spec =
     tie.close
-    (tie.spec fits-requires pass-blocks-requires same_length returns none-passed-requires same-length-2 returns-2)
+    (tie.spec
+    fits-requires
+    pass_blocks-requires
+    shape_of-part-then-fits
+    returns-then-fits
+    none_passed-requires
+    shape_of-part
+    returns)

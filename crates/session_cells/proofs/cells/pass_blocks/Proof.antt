@@ -37,61 +37,61 @@ module _ (d : tie.After-pass_rest-p invariant-loop decreases-loop) where
   abbrev update : Update
   update = record { answer = d.pass_rest-p.result; part = d.pass_rest-p.new.part }
 
-  is-rest : update ≡ rest
-  is-rest = λ j. record { answer = d.pass_rest-p.ensures.0 j; part = d.pass_rest-p.ensures.1 j }
+  is_rest : update ≡ rest
+  is_rest = λ j. record { answer = d.pass_rest-p.ensures.0 j; part = d.pass_rest-p.ensures.1 j }
 
   finds : {t : Bool} → d.pass_rest-p.result.found ≡ t → rest.answer.found ≡ t
-  finds e = sym (ap (λ (u : Update). u.answer.found) is-rest) ∙ e
+  finds e = sym (ap (λ (u : Update). u.answer.found) is_rest) ∙ e
 
   bounds : (suc turn.loop-i.i ≤ d.pass_rest-p.result.row) × (d.pass_rest-p.result.row ≤ entry.args.to)
   bounds =
       let h = tested.loop-i-test.true in
       let b = entry.requires.3 in
-      subst (λ (u : Update). (suc turn.loop-i.i ≤ u.answer.row) × (u.answer.row ≤ entry.args.to)) (sym is-rest)
+      subst (λ (u : Update). (suc turn.loop-i.i ≤ u.answer.row) × (u.answer.row ≤ entry.args.to)) (sym is_rest)
       (rest_moved _ _ _ _ _ _ h b, rest_within _ _ _ _ _ _ h b)
 
 -- the call, once what it left is known
 abbrev passed : tie.After-slice_known-in-loop-i-1 invariant-loop decreases-loop → tie.After-pass_rest-p invariant-loop decreases-loop
 passed c = c.before.before
 
-loop-holds : tie.Need-loop-i-init invariant-loop decreases-loop
-loop-holds c = (search rules, search rules, refl)
+loop-i-init : tie.Need-loop-i-init invariant-loop decreases-loop
+loop-i-init c = (search rules, search rules, refl)
 
-pass-rest-requires : tie.Need-pass_rest-p-requires invariant-loop decreases-loop
-pass-rest-requires c κs = search rules
+pass_rest-p-requires : tie.Need-pass_rest-p-requires invariant-loop decreases-loop
+pass_rest-p-requires c κs = search rules
 
-same_length : tie.Need-shape_of-part-then-p invariant-loop decreases-loop
-same_length c = search rules
+shape_of-part-then-p : tie.Need-shape_of-part-then-p invariant-loop decreases-loop
+shape_of-part-then-p c = search rules
 
-returns : tie.Need-returns-then-p invariant-loop decreases-loop
-returns c =
+returns-then-p : tie.Need-returns-then-p invariant-loop decreases-loop
+returns-then-p c =
     let d = passed c.before in
-    let e = is-rest d ∙ sym (blocks_stop _ _ _ _ _ _ (tested d).loop-i-test.true (entry d).requires.3 (finds d c.if-p.true)) ∙ (turn d).loop-i.invariant.2 in
+    let e = is_rest d ∙ sym (blocks_stop _ _ _ _ _ _ (tested d).loop-i-test.true (entry d).requires.3 (finds d c.if-p.true)) ∙ (turn d).loop-i.invariant.2 in
     (ap (λ (u : Update). u.answer) e, ap (λ (u : Update). u.part) e)
 
-loop-less : tie.Need-loop-i-smaller invariant-loop decreases-loop
-loop-less c =
+loop-i-smaller : tie.Need-loop-i-smaller invariant-loop decreases-loop
+loop-i-smaller c =
     let b = bounds (passed c.before) in
     omega arith
 
-loop-again : tie.Need-loop-i-preserved invariant-loop decreases-loop
-loop-again c =
+loop-i-preserved : tie.Need-loop-i-preserved invariant-loop decreases-loop
+loop-i-preserved c =
     let d = passed c.before in
     let args = (entry d).args in
     let e = ap (λ (u : Update). pass_blocks args.line (args.to - u.answer.row) args.to u.answer.row u.answer.m u.answer.highest u.part)
-    (is-rest d)
+    (is_rest d)
     ∙ sym (blocks_on _ _ _ _ _ _ (tested d).loop-i-test.true (entry d).requires.3 (finds d c.if-p.false))
     ∙ (turn d).loop-i.invariant.2 in
     ((bounds d).1, d.pass_rest-p.auto.part ∙ (turn d).loop-i.invariant.1, e)
 
-none-passed-requires : tie.Need-none_passed-requires invariant-loop decreases-loop
-none-passed-requires c κs = search rules
+none_passed-requires : tie.Need-none_passed-requires invariant-loop decreases-loop
+none_passed-requires c κs = search rules
 
-same-length-2 : tie.Need-shape_of-part invariant-loop decreases-loop
-same-length-2 c = search rules
+shape_of-part : tie.Need-shape_of-part invariant-loop decreases-loop
+shape_of-part c = search rules
 
-returns-2 : tie.Need-returns invariant-loop decreases-loop
-returns-2 c =
+returns : tie.Need-returns invariant-loop decreases-loop
+returns c =
     let t = c in
     let n : t.args.to - t.loop-i.i ≡ 0 = omega arith in
     let e = rw n at t.loop-i.invariant.2 in
@@ -100,4 +100,15 @@ returns-2 c =
 pub pass_blocks_spec : {M : Type 1} → statement M
 pass_blocks_spec =
     tie.close
-    (tie.spec invariant-loop decreases-loop loop-holds pass-rest-requires same_length returns loop-less loop-again none-passed-requires same-length-2 returns-2)
+    (tie.spec
+    invariant-loop
+    decreases-loop
+    loop-i-init
+    pass_rest-p-requires
+    shape_of-part-then-p
+    returns-then-p
+    loop-i-smaller
+    loop-i-preserved
+    none_passed-requires
+    shape_of-part
+    returns)

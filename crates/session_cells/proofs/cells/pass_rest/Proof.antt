@@ -28,65 +28,77 @@ module _ (c : tie.After-smaller-end) where
       let moves = rest_moves began.args.line began.args.row (omega (arith, began.requires)) in
       (omega (arith, ends, began.requires), omega (arith, ends, began.requires))
 
-  is-rest : (let a = began.args in pass_rows a.line (c.smaller-end.result - a.row) a.row a.m a.highest a.part.now
+  is_rest : (let a = began.args in pass_rows a.line (c.smaller-end.result - a.row) a.row a.m a.highest a.part.now
       ≡ pass_rest a.line a.to a.row a.m a.highest a.part.now)
-  is-rest =
+  is_rest =
       let a = began.args in
       ap (λ (n : ℕ). pass_rows a.line (n - a.row) a.row a.m a.highest a.part.now) ends
       ∙ sym (rest_rows a.line a.to a.row a.m a.highest a.part.now (sym c.is_skipped.ensures ∙ c.if-is_skipped.false))
 
-is-skipped-requires : tie.Need-is_skipped-requires
-is-skipped-requires c κs = search rules
+is_skipped-requires : tie.Need-is_skipped-requires
+is_skipped-requires c κs = search rules
 
 skip-requires : tie.Need-skip-requires
 skip-requires c κs = search rules
 
-same_length : tie.Need-shape_of-part-then-is_skipped
-same_length c = search rules
+shape_of-part-then-is_skipped : tie.Need-shape_of-part-then-is_skipped
+shape_of-part-then-is_skipped c = search rules
 
-returns : tie.Need-returns-then-is_skipped
-returns c =
+returns-then-is_skipped : tie.Need-returns-then-is_skipped
+returns-then-is_skipped c =
     let d = c in
     let args = d.args in
     let e = sym (rest_skip args.line args.to args.row args.m args.highest args.part.now
     (sym d.is_skipped.ensures ∙ d.if-is_skipped.true)) in
     (c.skip.ensures ∙ ap (λ (u : Update). u.answer) e, ap (λ (u : Update). u.part) e)
 
-rest-end-requires : tie.Need-rest_end-requires
-rest-end-requires c κs = search rules
+rest_end-requires : tie.Need-rest_end-requires
+rest_end-requires c κs = search rules
 
-smaller-requires : tie.Need-smaller-end-requires
-smaller-requires c κs = search rules
+smaller-end-requires : tie.Need-smaller-end-requires
+smaller-end-requires c κs = search rules
 
-pass-rows-fractions-requires : tie.Need-pass_rows_fractions-requires
-pass-rows-fractions-requires c κs =
+pass_rows_fractions-requires : tie.Need-pass_rows_fractions-requires
+pass_rows_fractions-requires c κs =
     let d = c.before.before in
     ((began d).requires.0, (rows_fit d).0, (rows_fit d).1, c.if-line.true)
 
-same-length-2 : tie.Need-shape_of-part-then-line
-same-length-2 c = search rules
+shape_of-part-then-line : tie.Need-shape_of-part-then-line
+shape_of-part-then-line c = search rules
 
-returns-2 : tie.Need-returns-then-line
-returns-2 c =
+returns-then-line : tie.Need-returns-then-line
+returns-then-line c =
     let passed = c.before.before in
-    let e = is-rest passed.before.before.before in
+    let e = is_rest passed.before.before.before in
     (passed.pass_rows_fractions.ensures.0 ∙ ap (λ (u : Update). u.answer) e, passed.pass_rows_fractions.ensures.1 ∙ ap (λ (u : Update). u.part) e)
 
-pass-rows-requires : tie.Need-pass_rows-requires
-pass-rows-requires c κs =
+pass_rows-requires : tie.Need-pass_rows-requires
+pass_rows-requires c κs =
     let d = c.before.before in
     ((began d).requires.0, (rows_fit d).0, (rows_fit d).1, c.if-line.false)
 
-same-length-3 : tie.Need-shape_of-part
-same-length-3 c = search rules
+shape_of-part : tie.Need-shape_of-part
+shape_of-part c = search rules
 
-returns-3 : tie.Need-returns
-returns-3 c =
+returns : tie.Need-returns
+returns c =
     let passed = c.before.before in
-    let e = is-rest passed.before.before.before in
+    let e = is_rest passed.before.before.before in
     (passed.pass_rows.ensures.0 ∙ ap (λ (u : Update). u.answer) e, passed.pass_rows.ensures.1 ∙ ap (λ (u : Update). u.part) e)
 
 pub pass_rest_spec : {M : Type 1} → statement M
 pass_rest_spec =
     tie.close
-    (tie.spec is-skipped-requires skip-requires same_length returns rest-end-requires smaller-requires pass-rows-fractions-requires same-length-2 returns-2 pass-rows-requires same-length-3 returns-3)
+    (tie.spec
+    is_skipped-requires
+    skip-requires
+    shape_of-part-then-is_skipped
+    returns-then-is_skipped
+    rest_end-requires
+    smaller-end-requires
+    pass_rows_fractions-requires
+    shape_of-part-then-line
+    returns-then-line
+    pass_rows-requires
+    shape_of-part
+    returns)

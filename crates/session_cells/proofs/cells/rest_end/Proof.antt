@@ -5,17 +5,17 @@ use Rattle.session_cells.specs.Passing.{rest_end}
 use Rattle.session_cells.proofs.cells.rest_end.Statement.{statement}
 use Rattle.session_cells.proofs.cells.rest_end.Tie as tie
 
-add-smaller : tie.Need-overflow_add-row
-add-smaller c = search rules
+overflow_add-row : tie.Need-overflow_add-row
+overflow_add-row c = search rules
 
-mul-smaller : tie.Need-overflow_mul-row
-mul-smaller c = search rules
+overflow_mul-row : tie.Need-overflow_mul-row
+overflow_mul-row c = search rules
 
 wide-requires : tie.Need-wide-requires
 wide-requires c κs = search rules
 
-add-smaller-2 : tie.Need-overflow_add-wide
-add-smaller-2 c = search rules
+overflow_add-wide : tie.Need-overflow_add-wide
+overflow_add-wide c = search rules
 
 smaller-requires : tie.Need-smaller-requires
 smaller-requires c κs = search rules
@@ -27,4 +27,4 @@ returns c = c.smaller.ensures ∙ rw c.wide.ensures.0
 pub rest_end_spec : {M : Type 1} → statement M
 rest_end_spec =
     tie.close
-    (tie.spec add-smaller mul-smaller wide-requires add-smaller-2 smaller-requires returns)
+    (tie.spec overflow_add-row overflow_mul-row wide-requires overflow_add-wide smaller-requires returns)

@@ -10,35 +10,35 @@ use Rattle.session_cells.proofs.cells.skip.Tie as tie
 next_start : (block : ℕ) → start_at block + 1 ≡ start_at (block + 1)
 next_start block = omega arith
 
-rest-end-requires : tie.Need-rest_end-requires
-rest-end-requires c κs = search rules
+rest_end-requires : tie.Need-rest_end-requires
+rest_end-requires c κs = search rules
 
-add-none-passed : tie.Need-overflow_add-block
-add-none-passed c = search rules
+overflow_add-block : tie.Need-overflow_add-block
+overflow_add-block c = search rules
 
-add-none-passed-2 : tie.Need-overflow_add-block-2
-add-none-passed-2 c = search rules
+overflow_add-block-2 : tie.Need-overflow_add-block-2
+overflow_add-block-2 c = search rules
 
-mul-none-passed : tie.Need-offset_bounds-part-block
-mul-none-passed c = search rules
+offset_bounds-part-block : tie.Need-offset_bounds-part-block
+offset_bounds-part-block c = search rules
 
-shared-slice-read-none-passed : tie.Need-bounds-part-block
-shared-slice-read-none-passed c = search rules
+bounds-part-block : tie.Need-bounds-part-block
+bounds-part-block c = search rules
 
-add-greater : tie.Need-overflow_add-block-3
-add-greater c = search rules
+overflow_add-block-3 : tie.Need-overflow_add-block-3
+overflow_add-block-3 c = search rules
 
-mul-greater : tie.Need-offset_bounds-part-block-2
-mul-greater c = search rules
+offset_bounds-part-block-2 : tie.Need-offset_bounds-part-block-2
+offset_bounds-part-block-2 c = search rules
 
-shared-slice-read-greater : tie.Need-bounds-part-block-2
-shared-slice-read-greater c = search rules
+bounds-part-block-2 : tie.Need-bounds-part-block-2
+bounds-part-block-2 c = search rules
 
 greater-requires : tie.Need-greater-requires
 greater-requires c κs = search rules
 
-none-passed-requires : tie.Need-none_passed-requires
-none-passed-requires c κs = search rules
+none_passed-requires : tie.Need-none_passed-requires
+none_passed-requires c κs = search rules
 
 returns : tie.Need-returns
 unfolding skipped
@@ -49,4 +49,15 @@ returns c =
 pub skip_spec : {M : Type 1} → statement M
 skip_spec =
     tie.close
-    (tie.spec rest-end-requires add-none-passed add-none-passed-2 mul-none-passed shared-slice-read-none-passed add-greater mul-greater shared-slice-read-greater greater-requires none-passed-requires returns)
+    (tie.spec
+    rest_end-requires
+    overflow_add-block
+    overflow_add-block-2
+    offset_bounds-part-block
+    bounds-part-block
+    overflow_add-block-3
+    offset_bounds-part-block-2
+    bounds-part-block-2
+    greater-requires
+    none_passed-requires
+    returns)

@@ -7,53 +7,67 @@ use Rattle.session_cells.specs.Passing.{entered}
 use Rattle.session_cells.proofs.fractions.enter_fraction.Statement.{statement}
 use Rattle.session_cells.proofs.fractions.enter_fraction.Tie as tie
 
-at-most-fraction-requires : tie.Need-at_most_fraction-requires
-at-most-fraction-requires c κs = search rules
+at_most_fraction-requires : tie.Need-at_most_fraction-requires
+at_most_fraction-requires c κs = search rules
 
-returns : tie.Need-returns-then-at_most_fraction
+returns-then-at_most_fraction : tie.Need-returns-then-at_most_fraction
 unfolding entered
-returns c = rw (sym c.at_most_fraction.ensures ∙ c.if-at_most_fraction.true)
+returns-then-at_most_fraction c = rw (sym c.at_most_fraction.ensures ∙ c.if-at_most_fraction.true)
 
-add-greater-fraction : tie.Need-overflow_add-block
-add-greater-fraction c = search rules
+overflow_add-block : tie.Need-overflow_add-block
+overflow_add-block c = search rules
 
-mul-greater-fraction : tie.Need-offset_bounds-part-block
-mul-greater-fraction c = search rules
+offset_bounds-part-block : tie.Need-offset_bounds-part-block
+offset_bounds-part-block c = search rules
 
-slice-read-greater-fraction : tie.Need-bounds-part-block
-slice-read-greater-fraction c = search rules
+bounds-part-block : tie.Need-bounds-part-block
+bounds-part-block c = search rules
 
-greater-fraction-requires : tie.Need-greater_fraction-top-requires
-greater-fraction-requires c κs = search rules
+greater_fraction-top-requires : tie.Need-greater_fraction-top-requires
+greater_fraction-top-requires c κs = search rules
 
-add-part : tie.Need-overflow_add-part
-add-part c = search rules
+overflow_add-part : tie.Need-overflow_add-part
+overflow_add-part c = search rules
 
-mul-part : tie.Need-offset_bounds-part-row
-mul-part c = search rules
+offset_bounds-part-row : tie.Need-offset_bounds-part-row
+offset_bounds-part-row c = search rules
 
-slice-write-part : tie.Need-bounds-part-row
-slice-write-part c = search rules
+bounds-part-row : tie.Need-bounds-part-row
+bounds-part-row c = search rules
 
-add-part-2 : tie.Need-overflow_add-part-2
-add-part-2 c = search rules
+overflow_add-part-2 : tie.Need-overflow_add-part-2
+overflow_add-part-2 c = search rules
 
-mul-part-2 : tie.Need-offset_bounds-part-block-2
-mul-part-2 c = search rules
+offset_bounds-part-block-2 : tie.Need-offset_bounds-part-block-2
+offset_bounds-part-block-2 c = search rules
 
-slice-write-part-2 : tie.Need-bounds-part-block-2
-slice-write-part-2 c = simp length-set (omega arith)
+bounds-part-block-2 : tie.Need-bounds-part-block-2
+bounds-part-block-2 c = simp length-set (omega arith)
 
-same_length : tie.Need-shape_of-part
-same_length c = search rules
+shape_of-part : tie.Need-shape_of-part
+shape_of-part c = search rules
 
-returns-2 : tie.Need-returns
+returns : tie.Need-returns
 unfolding entered
-returns-2 c =
+returns c =
     let d = c in
     simp (sym d.at_most_fraction.ensures ∙ d.if-at_most_fraction.false, c.greater_fraction-top.ensures)
 
 pub enter_fraction_spec : {M : Type 1} → statement M
 enter_fraction_spec =
     tie.close
-    (tie.spec at-most-fraction-requires returns add-greater-fraction mul-greater-fraction slice-read-greater-fraction greater-fraction-requires add-part mul-part slice-write-part add-part-2 mul-part-2 slice-write-part-2 same_length returns-2)
+    (tie.spec
+    at_most_fraction-requires
+    returns-then-at_most_fraction
+    overflow_add-block
+    offset_bounds-part-block
+    bounds-part-block
+    greater_fraction-top-requires
+    overflow_add-part
+    offset_bounds-part-row
+    bounds-part-row
+    overflow_add-part-2
+    offset_bounds-part-block-2
+    bounds-part-block-2
+    shape_of-part
+    returns)

@@ -7,26 +7,26 @@ use Rattle.session_records.specs.Words.{divisor_span}
 use Rattle.session_cells.proofs.fractions.is_at_most.Statement.{statement}
 use Rattle.session_cells.proofs.fractions.is_at_most.Tie as tie
 
-in-64-bits : (a b : ℕ) → a < word_limit → b ≤ divisor_span → (a * b < word_limit * word_limit) × (b * a < word_limit * word_limit)
-in-64-bits a b k l =
+in_64_bits : (a b : ℕ) → a < word_limit → b ≤ divisor_span → (a * b < word_limit * word_limit) × (b * a < word_limit * word_limit)
+in_64_bits a b k l =
     let k' : a ≤ word_limit - 1 = omega arith in
     let h : a * b ≤ (word_limit - 1) * divisor_span = mul-le-mul k' l in
     (omega arith, omega arith)
 
-mul-result : tie.Need-overflow_mul-result
-mul-result c =
+overflow_mul-result : tie.Need-overflow_mul-result
+overflow_mul-result c =
     let began = c in
     let l : began.args.top.m ≤ divisor_span = omega (arith, began.requires.2) in
-    record { fits = (in-64-bits _ _ began.ranges.d.fits l).1 }
+    record { fits = (in_64_bits _ _ began.ranges.d.fits l).1 }
 
-mul-result-2 : tie.Need-overflow_mul-result-2
-mul-result-2 c =
+overflow_mul-result-2 : tie.Need-overflow_mul-result-2
+overflow_mul-result-2 c =
     let began = c in
     let l : began.args.top.divisor ≤ divisor_span = omega (arith, began.requires.3) in
-    record { fits = (in-64-bits _ _ began.ranges.m.fits l).0 }
+    record { fits = (in_64_bits _ _ began.ranges.m.fits l).0 }
 
 returns : tie.Need-returns
 returns c = let apart = c.requires in rw (apart.0, apart.1)
 
 pub is_at_most_spec : {M : Type 1} → statement M
-is_at_most_spec = tie.close (tie.spec mul-result mul-result-2 returns)
+is_at_most_spec = tie.close (tie.spec overflow_mul-result overflow_mul-result-2 returns)

@@ -15,8 +15,8 @@ apart-requires c κs = search rules
 divisor-requires : tie.Need-divisor-requires
 divisor-requires c κs = search rules
 
-is-at-most-requires : tie.Need-is_at_most-requires
-is-at-most-requires c κs = search rules
+is_at_most-requires : tie.Need-is_at_most-requires
+is_at_most-requires c κs = search rules
 
 returns : tie.Need-returns
 unfolding line_divisor
@@ -29,4 +29,4 @@ returns c =
     sym (fraction_matters began.args.line _ _ _ began.requires n d.divisor.ensures (sym e))
 
 pub matters_fraction_spec : {M : Type 1} → statement M
-matters_fraction_spec = tie.close (tie.spec apart-requires divisor-requires is-at-most-requires returns)
+matters_fraction_spec = tie.close (tie.spec apart-requires divisor-requires is_at_most-requires returns)

@@ -22,69 +22,69 @@ at_cell d s e = record {
   lower = d.lowered-rest.ensures;
 }
 
-mul-x : tie.Need-offset_bounds-part-row
-mul-x c = search rules
+offset_bounds-part-row : tie.Need-offset_bounds-part-row
+offset_bounds-part-row c = search rules
 
-slice-read-x : tie.Need-bounds-part-row
-slice-read-x c = search rules
+bounds-part-row : tie.Need-bounds-part-row
+bounds-part-row c = search rules
 
-add-below : tie.Need-overflow_add-row
-add-below c = search rules
+overflow_add-row : tie.Need-overflow_add-row
+overflow_add-row c = search rules
 
-mul-below : tie.Need-offset_bounds-part-row-2
-mul-below c = search rules
+offset_bounds-part-row-2 : tie.Need-offset_bounds-part-row-2
+offset_bounds-part-row-2 c = search rules
 
-slice-read-below : tie.Need-bounds-part-row-2
-slice-read-below c = search rules
+bounds-part-row-2 : tie.Need-bounds-part-row-2
+bounds-part-row-2 c = search rules
 
-below-requires : tie.Need-below-one-requires
-below-requires c κs = search rules
+below-one-requires : tie.Need-below-one-requires
+below-one-requires c κs = search rules
 
-add-greater-fraction : tie.Need-overflow_add-row-2
-add-greater-fraction c = search rules
+overflow_add-row-2 : tie.Need-overflow_add-row-2
+overflow_add-row-2 c = search rules
 
-mul-greater-fraction : tie.Need-offset_bounds-part-row-3
-mul-greater-fraction c = search rules
+offset_bounds-part-row-3 : tie.Need-offset_bounds-part-row-3
+offset_bounds-part-row-3 c = search rules
 
-slice-read-greater-fraction : tie.Need-bounds-part-row-3
-slice-read-greater-fraction c = search rules
+bounds-part-row-3 : tie.Need-bounds-part-row-3
+bounds-part-row-3 c = search rules
 
-greater-fraction-requires : tie.Need-greater_fraction-seen-requires
-greater-fraction-requires c κs = search rules
+greater_fraction-seen-requires : tie.Need-greater_fraction-seen-requires
+greater_fraction-seen-requires c κs = search rules
 
-lowered-requires : tie.Need-lowered-rest-requires
-lowered-requires c κs = search rules
+lowered-rest-requires : tie.Need-lowered-rest-requires
+lowered-rest-requires c κs = search rules
 
-add-next : tie.Need-overflow_add-next
-add-next c = search rules
+overflow_add-next : tie.Need-overflow_add-next
+overflow_add-next c = search rules
 
-matters-fraction-requires : tie.Need-matters_fraction-requires
-matters-fraction-requires c κs = search rules
+matters_fraction-requires : tie.Need-matters_fraction-requires
+matters_fraction-requires c κs = search rules
 
-returns : tie.Need-returns-then-not-matters_fraction
-returns c =
+returns-then-not-matters_fraction : tie.Need-returns-then-not-matters_fraction
+returns-then-not-matters_fraction c =
     let t = c.before in
     let e = sym (pass_low _ _ _ _ _ _ _ _ _ (at_cell t.before _ refl) 0 (sym t.matters_fraction.ensures ∙ not-true _ c.if-not-matters_fraction.true-raw)) in
     (ap (λ (u : Update). u.answer) e, ap (λ (u : Update). u.part) e)
 
-score-word-requires : tie.Need-score_word-s-requires
-score-word-requires c κs = search rules
+score_word-s-requires : tie.Need-score_word-s-requires
+score_word-s-requires c κs = search rules
 
-enter-fraction-requires : tie.Need-enter_fraction-requires
-enter-fraction-requires c κs = search rules
+enter_fraction-requires : tie.Need-enter_fraction-requires
+enter_fraction-requires c κs = search rules
 
-is-reasonable-requires : tie.Need-is_reasonable-requires
-is-reasonable-requires c κs = search rules
+is_reasonable-requires : tie.Need-is_reasonable-requires
+is_reasonable-requires c κs = search rules
 
-greater-fraction-requires-2 : tie.Need-greater_fraction-requires
-greater-fraction-requires-2 c κs = search rules
+greater_fraction-requires : tie.Need-greater_fraction-requires
+greater_fraction-requires c κs = search rules
 
-same_length : tie.Need-shape_of-part
-same_length c = search rules
+shape_of-part : tie.Need-shape_of-part
+shape_of-part c = search rules
 
-returns-2 : tie.Need-returns
+returns : tie.Need-returns
 unfolding line_score
-returns-2 c =
+returns c =
     let j = c.before in
     let recorded = j.before.before.before in
     let scored = recorded.before.before in
@@ -102,4 +102,24 @@ returns-2 c =
 pub pass_row_fraction_spec : {M : Type 1} → statement M
 pass_row_fraction_spec =
     tie.close
-    (tie.spec mul-x slice-read-x add-below mul-below slice-read-below below-requires add-greater-fraction mul-greater-fraction slice-read-greater-fraction greater-fraction-requires lowered-requires add-next matters-fraction-requires returns score-word-requires enter-fraction-requires is-reasonable-requires greater-fraction-requires-2 same_length returns-2)
+    (tie.spec
+    offset_bounds-part-row
+    bounds-part-row
+    overflow_add-row
+    offset_bounds-part-row-2
+    bounds-part-row-2
+    below-one-requires
+    overflow_add-row-2
+    offset_bounds-part-row-3
+    bounds-part-row-3
+    greater_fraction-seen-requires
+    lowered-rest-requires
+    overflow_add-next
+    matters_fraction-requires
+    returns-then-not-matters_fraction
+    score_word-s-requires
+    enter_fraction-requires
+    is_reasonable-requires
+    greater_fraction-requires
+    shape_of-part
+    returns)

@@ -40,39 +40,39 @@ module _ (b : tie.After-below invariant-loop decreases-loop) where
   abbrev paused : tie.After-quiet_fractions-q invariant-loop decreases-loop
   paused = recorded.before.before
 
-loop-holds : tie.Need-loop-i-init invariant-loop decreases-loop
-loop-holds c = (search rules, search rules, refl)
+loop-i-init : tie.Need-loop-i-init invariant-loop decreases-loop
+loop-i-init c = (search rules, search rules, refl)
 
-quiet-fractions-requires : tie.Need-quiet_fractions-q-requires invariant-loop decreases-loop
-quiet-fractions-requires c κs = search rules
+quiet_fractions-q-requires : tie.Need-quiet_fractions-q-requires invariant-loop decreases-loop
+quiet_fractions-q-requires c κs = search rules
 
-sub-enter-fraction : tie.Need-overflow_sub-i invariant-loop decreases-loop
-sub-enter-fraction c = omega (arith, (paced c.before).0)
+overflow_sub-i : tie.Need-overflow_sub-i invariant-loop decreases-loop
+overflow_sub-i c = omega (arith, (paced c.before).0)
 
-enter-fraction-requires : tie.Need-enter_fraction-requires invariant-loop decreases-loop
-enter-fraction-requires c κs =
+enter_fraction-requires : tie.Need-enter_fraction-requires invariant-loop decreases-loop
+enter_fraction-requires c κs =
     let d = c.before in
     (d.loop-i.invariant.1, omega (arith, (paced d).0, (paced d).1, d.requires.2))
 
-greater-fraction-requires : tie.Need-greater_fraction-highest-requires invariant-loop decreases-loop
-greater-fraction-requires c κs = search rules
+greater_fraction-highest-requires : tie.Need-greater_fraction-highest-requires invariant-loop decreases-loop
+greater_fraction-highest-requires c κs = search rules
 
 below-requires : tie.Need-below-requires invariant-loop decreases-loop
 below-requires c κs = search rules
 
-sub-is-reasonable : tie.Need-overflow_sub-i-in-loop-i invariant-loop decreases-loop
-sub-is-reasonable c = omega (arith, (paced (paused c)).0)
+overflow_sub-i-in-loop-i : tie.Need-overflow_sub-i-in-loop-i invariant-loop decreases-loop
+overflow_sub-i-in-loop-i c = omega (arith, (paced (paused c)).0)
 
-is-reasonable-requires : tie.Need-is_reasonable-requires invariant-loop decreases-loop
-is-reasonable-requires c κs = search rules
+is_reasonable-requires : tie.Need-is_reasonable-requires invariant-loop decreases-loop
+is_reasonable-requires c κs = search rules
 
-same_length : tie.Need-shape_of-part-then-is_reasonable invariant-loop decreases-loop
-same_length c =
+shape_of-part-then-is_reasonable : tie.Need-shape_of-part-then-is_reasonable invariant-loop decreases-loop
+shape_of-part-then-is_reasonable c =
     let b = c.before.before in
     (recorded b).enter_fraction.auto.part ∙ (paused b).loop-i.invariant.1 ∙ sym (paused b).requires.0
 
-returns : tie.Need-returns-then-is_reasonable invariant-loop decreases-loop
-returns c =
+returns-then-is_reasonable : tie.Need-returns-then-is_reasonable invariant-loop decreases-loop
+returns-then-is_reasonable c =
     let j = c.before in
     let b = j.before in
     let d = paused b in
@@ -83,13 +83,13 @@ returns c =
     (entered_of line _ kind _ _ _ _ (recorded b).enter_fraction.ensures) (sym j.is_reasonable.ensures ∙ c.if-is_reasonable.true)) ∙ d.loop-i.invariant.2 in
     (ap (λ (u : Update). u.answer) e, ap (λ (u : Update). u.part) e)
 
-loop-less : tie.Need-loop-i-smaller invariant-loop decreases-loop
-loop-less c =
+loop-i-smaller : tie.Need-loop-i-smaller invariant-loop decreases-loop
+loop-i-smaller c =
     let d = paused c.before.before in
     omega (arith, (paced d).0, (paced d).1)
 
-loop-again : tie.Need-loop-i-preserved invariant-loop decreases-loop
-loop-again c =
+loop-i-preserved : tie.Need-loop-i-preserved invariant-loop decreases-loop
+loop-i-preserved c =
     let j = c.before in
     let b = j.before in
     let d = paused b in
@@ -100,11 +100,11 @@ loop-again c =
     (entered_of line _ kind _ _ _ _ (recorded b).enter_fraction.ensures) (sym j.is_reasonable.ensures ∙ c.if-is_reasonable.false)) ∙ d.loop-i.invariant.2 in
     ((paced d).1, (recorded b).enter_fraction.auto.part ∙ d.loop-i.invariant.1, e)
 
-same-length-2 : tie.Need-shape_of-part invariant-loop decreases-loop
-same-length-2 c = search rules
+shape_of-part : tie.Need-shape_of-part invariant-loop decreases-loop
+shape_of-part c = search rules
 
-returns-2 : tie.Need-returns invariant-loop decreases-loop
-returns-2 c =
+returns : tie.Need-returns invariant-loop decreases-loop
+returns c =
     let n : c.args.to - c.loop-i.i ≡ 0 = omega arith in
     let e = rw n at c.loop-i.invariant.2 in
     (ap (λ (u : Update). u.answer) e, ap (λ (u : Update). u.part) e)
@@ -112,4 +112,20 @@ returns-2 c =
 pub pass_rows_fractions_spec : {M : Type 1} → statement M
 pass_rows_fractions_spec =
     tie.close
-    (tie.spec invariant-loop decreases-loop loop-holds quiet-fractions-requires sub-enter-fraction enter-fraction-requires greater-fraction-requires below-requires sub-is-reasonable is-reasonable-requires same_length returns loop-less loop-again same-length-2 returns-2)
+    (tie.spec
+    invariant-loop
+    decreases-loop
+    loop-i-init
+    quiet_fractions-q-requires
+    overflow_sub-i
+    enter_fraction-requires
+    greater_fraction-highest-requires
+    below-requires
+    overflow_sub-i-in-loop-i
+    is_reasonable-requires
+    shape_of-part-then-is_reasonable
+    returns-then-is_reasonable
+    loop-i-smaller
+    loop-i-preserved
+    shape_of-part
+    returns)

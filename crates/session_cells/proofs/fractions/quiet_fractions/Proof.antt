@@ -46,10 +46,10 @@ module _ (d : tie.After-lowered-m invariant-loop decreases-loop) where
   left = d.args.to - (d.loop-i.i + 1)
 
   -- the whole, from this row on
-  from-here : quiet_rows d.args.line (suc left) d.loop-i.i d.loop-i.m d.loop-i.top.word d.args.part.now
+  from_here : quiet_rows d.args.line (suc left) d.loop-i.i d.loop-i.m d.loop-i.top.word d.args.part.now
       ≡ quiet_rows d.args.line (d.args.to - d.args.from) d.args.from d.args.m0
       d.args.highest0 d.args.part.now
-  from-here =
+  from_here =
       let n : d.args.to - d.loop-i.i ≡ suc left = omega (arith, d.loop-i-test.true) in
       rw n at d.loop-i.invariant.2
 
@@ -62,80 +62,80 @@ told t e =
     fraction_matters began.args.line _ _ _ began.requires.3 t.divisor.result t.divisor.ensures
     (sym t.is_at_most.ensures ∙ e)
 
-apart-requires : tie.Need-apart-top-requires invariant-loop decreases-loop
-apart-requires c κs = search rules
+apart-top-requires : tie.Need-apart-top-requires invariant-loop decreases-loop
+apart-top-requires c κs = search rules
 
-loop-holds : tie.Need-loop-i-init invariant-loop decreases-loop
-loop-holds c =
+loop-i-init : tie.Need-loop-i-init invariant-loop decreases-loop
+loop-i-init c =
     let args = c.args in (
       search rules,
       c.apart-top.ensures.1,
       ap (λ (w : ℕ). quiet_rows args.line (args.to - args.from) args.from args.m0 w args.part.now) c.apart-top.ensures.0,
     )
 
-mul-x : tie.Need-offset_bounds-part-i invariant-loop decreases-loop
-mul-x c = search rules
+offset_bounds-part-i : tie.Need-offset_bounds-part-i invariant-loop decreases-loop
+offset_bounds-part-i c = search rules
 
-shared-slice-read-x : tie.Need-bounds-part-i invariant-loop decreases-loop
-shared-slice-read-x c = search rules
+bounds-part-i : tie.Need-bounds-part-i invariant-loop decreases-loop
+bounds-part-i c = search rules
 
-add-reach : tie.Need-overflow_add-reach invariant-loop decreases-loop
-add-reach c = search rules
+overflow_add-reach : tie.Need-overflow_add-reach invariant-loop decreases-loop
+overflow_add-reach c = search rules
 
-mul-reach : tie.Need-offset_bounds-part-i-in-loop-i invariant-loop decreases-loop
-mul-reach c = search rules
+offset_bounds-part-i-in-loop-i : tie.Need-offset_bounds-part-i-in-loop-i invariant-loop decreases-loop
+offset_bounds-part-i-in-loop-i c = search rules
 
-shared-slice-read-reach : tie.Need-bounds-part-i-in-loop-i invariant-loop decreases-loop
-shared-slice-read-reach c = search rules
+bounds-part-i-in-loop-i : tie.Need-bounds-part-i-in-loop-i invariant-loop decreases-loop
+bounds-part-i-in-loop-i c = search rules
 
-add-raised : tie.Need-overflow_add-i invariant-loop decreases-loop
-add-raised c = search rules
+overflow_add-i : tie.Need-overflow_add-i invariant-loop decreases-loop
+overflow_add-i c = search rules
 
-mul-raised : tie.Need-offset_bounds-part-i-in-loop-i-2 invariant-loop decreases-loop
-mul-raised c = search rules
+offset_bounds-part-i-in-loop-i-2 : tie.Need-offset_bounds-part-i-in-loop-i-2 invariant-loop decreases-loop
+offset_bounds-part-i-in-loop-i-2 c = search rules
 
-shared-slice-read-raised : tie.Need-bounds-part-i-in-loop-i-2 invariant-loop decreases-loop
-shared-slice-read-raised c = search rules
+bounds-part-i-in-loop-i-2 : tie.Need-bounds-part-i-in-loop-i-2 invariant-loop decreases-loop
+bounds-part-i-in-loop-i-2 c = search rules
 
-raised-requires : tie.Need-raised-top-requires invariant-loop decreases-loop
-raised-requires c κs = search rules
+raised-top-requires : tie.Need-raised-top-requires invariant-loop decreases-loop
+raised-top-requires c κs = search rules
 
 below-requires : tie.Need-below-requires invariant-loop decreases-loop
 below-requires c κs = search rules
 
-lowered-requires : tie.Need-lowered-m-requires invariant-loop decreases-loop
-lowered-requires c κs = search rules
+lowered-m-requires : tie.Need-lowered-m-requires invariant-loop decreases-loop
+lowered-m-requires c κs = search rules
 
-add-i : tie.Need-overflow_add-i-in-loop-i invariant-loop decreases-loop
-add-i c = search rules
+overflow_add-i-in-loop-i : tie.Need-overflow_add-i-in-loop-i invariant-loop decreases-loop
+overflow_add-i-in-loop-i c = search rules
 
 divisor-requires : tie.Need-divisor-requires invariant-loop decreases-loop
 divisor-requires c κs = search rules
 
-is-at-most-requires : tie.Need-is_at_most-requires invariant-loop decreases-loop
-is-at-most-requires c κs = search rules
+is_at_most-requires : tie.Need-is_at_most-requires invariant-loop decreases-loop
+is_at_most-requires c κs = search rules
 
-score-word-requires : tie.Need-score_word-requires invariant-loop decreases-loop
-score-word-requires c κs = search rules
+score_word-requires : tie.Need-score_word-requires invariant-loop decreases-loop
+score_word-requires c κs = search rules
 
-returns : tie.Need-returns-then-is_at_most invariant-loop decreases-loop
+returns-then-is_at_most : tie.Need-returns-then-is_at_most invariant-loop decreases-loop
 unfolding line_score
-returns c =
+returns-then-is_at_most c =
     let t = c.before.before in
     let d = t.before.before in
-    sym (quiet_stop _ _ _ _ _ _ _ _ _ (at_cell d _ c.score_word.ensures) (left d) (told t c.if-is_at_most.true)) ∙ from-here d
+    sym (quiet_stop _ _ _ _ _ _ _ _ _ (at_cell d _ c.score_word.ensures) (left d) (told t c.if-is_at_most.true)) ∙ from_here d
 
-loop-less : tie.Need-loop-i-smaller invariant-loop decreases-loop
-loop-less c = search rules
+loop-i-smaller : tie.Need-loop-i-smaller invariant-loop decreases-loop
+loop-i-smaller c = search rules
 
-loop-again : tie.Need-loop-i-preserved invariant-loop decreases-loop
-loop-again c =
+loop-i-preserved : tie.Need-loop-i-preserved invariant-loop decreases-loop
+loop-i-preserved c =
     let t = c.before in
     let d = t.before.before in
-    (search rules, d.raised-top.ensures.1, sym (quiet_on _ _ _ _ _ _ _ _ _ (at_cell d _ refl) (left d) (told t c.if-is_at_most.false)) ∙ from-here d)
+    (search rules, d.raised-top.ensures.1, sym (quiet_on _ _ _ _ _ _ _ _ _ (at_cell d _ refl) (left d) (told t c.if-is_at_most.false)) ∙ from_here d)
 
-returns-2 : tie.Need-returns invariant-loop decreases-loop
-returns-2 c =
+returns : tie.Need-returns invariant-loop decreases-loop
+returns c =
     let last = c.before in
     let began = last.before.before.before in
     let n : began.args.to - last.loop-i.i ≡ 0 = omega arith in
@@ -144,4 +144,27 @@ returns-2 c =
 pub quiet_fractions_spec : {M : Type 1} → statement M
 quiet_fractions_spec =
     tie.close
-    (tie.spec invariant-loop decreases-loop apart-requires loop-holds mul-x shared-slice-read-x add-reach mul-reach shared-slice-read-reach add-raised mul-raised shared-slice-read-raised raised-requires below-requires lowered-requires add-i divisor-requires is-at-most-requires score-word-requires returns loop-less loop-again returns-2)
+    (tie.spec
+    invariant-loop
+    decreases-loop
+    apart-top-requires
+    loop-i-init
+    offset_bounds-part-i
+    bounds-part-i
+    overflow_add-reach
+    offset_bounds-part-i-in-loop-i
+    bounds-part-i-in-loop-i
+    overflow_add-i
+    offset_bounds-part-i-in-loop-i-2
+    bounds-part-i-in-loop-i-2
+    raised-top-requires
+    below-requires
+    lowered-m-requires
+    overflow_add-i-in-loop-i
+    divisor-requires
+    is_at_most-requires
+    score_word-requires
+    returns-then-is_at_most
+    loop-i-smaller
+    loop-i-preserved
+    returns)

@@ -8,48 +8,61 @@ use Rattle.session_cells.specs.Passing.{entered}
 use Rattle.session_cells.proofs.rows.enter.Statement.{statement}
 use Rattle.session_cells.proofs.rows.enter.Tie as tie
 
-returns : tie.Need-returns-then-s-seen
+returns-then-s-seen : tie.Need-returns-then-s-seen
 unfolding entered at_most
-returns c = simp (le-leb _ _ c.if-s-seen.true)
+returns-then-s-seen c = simp (le-leb _ _ c.if-s-seen.true)
 
-add-greater-number : tie.Need-overflow_add-block
-add-greater-number c = search rules
+overflow_add-block : tie.Need-overflow_add-block
+overflow_add-block c = search rules
 
-mul-greater-number : tie.Need-offset_bounds-part-block
-mul-greater-number c = search rules
+offset_bounds-part-block : tie.Need-offset_bounds-part-block
+offset_bounds-part-block c = search rules
 
-slice-read-greater-number : tie.Need-bounds-part-block
-slice-read-greater-number c = search rules
+bounds-part-block : tie.Need-bounds-part-block
+bounds-part-block c = search rules
 
-greater-number-requires : tie.Need-greater_number-top-requires
-greater-number-requires c κs = search rules
+greater_number-top-requires : tie.Need-greater_number-top-requires
+greater_number-top-requires c κs = search rules
 
-add-part : tie.Need-overflow_add-part
-add-part c = search rules
+overflow_add-part : tie.Need-overflow_add-part
+overflow_add-part c = search rules
 
-mul-part : tie.Need-offset_bounds-part-row
-mul-part c = search rules
+offset_bounds-part-row : tie.Need-offset_bounds-part-row
+offset_bounds-part-row c = search rules
 
-slice-write-part : tie.Need-bounds-part-row
-slice-write-part c = search rules
+bounds-part-row : tie.Need-bounds-part-row
+bounds-part-row c = search rules
 
-add-part-2 : tie.Need-overflow_add-part-2
-add-part-2 c = search rules
+overflow_add-part-2 : tie.Need-overflow_add-part-2
+overflow_add-part-2 c = search rules
 
-mul-part-2 : tie.Need-offset_bounds-part-block-2
-mul-part-2 c = search rules
+offset_bounds-part-block-2 : tie.Need-offset_bounds-part-block-2
+offset_bounds-part-block-2 c = search rules
 
-slice-write-part-2 : tie.Need-bounds-part-block-2
-slice-write-part-2 c = simp length-set (omega arith)
+bounds-part-block-2 : tie.Need-bounds-part-block-2
+bounds-part-block-2 c = simp length-set (omega arith)
 
-same_length : tie.Need-shape_of-part
-same_length c = search rules
+shape_of-part : tie.Need-shape_of-part
+shape_of-part c = search rules
 
-returns-2 : tie.Need-returns
+returns : tie.Need-returns
 unfolding entered at_most
-returns-2 c = simp (lt-leb _ _ c.if-s-seen.false, c.greater_number-top.ensures)
+returns c = simp (lt-leb _ _ c.if-s-seen.false, c.greater_number-top.ensures)
 
 pub enter_spec : {M : Type 1} → statement M
 enter_spec =
     tie.close
-    (tie.spec returns add-greater-number mul-greater-number slice-read-greater-number greater-number-requires add-part mul-part slice-write-part add-part-2 mul-part-2 slice-write-part-2 same_length returns-2)
+    (tie.spec
+    returns-then-s-seen
+    overflow_add-block
+    offset_bounds-part-block
+    bounds-part-block
+    greater_number-top-requires
+    overflow_add-part
+    offset_bounds-part-row
+    bounds-part-row
+    overflow_add-part-2
+    offset_bounds-part-block-2
+    bounds-part-block-2
+    shape_of-part
+    returns)

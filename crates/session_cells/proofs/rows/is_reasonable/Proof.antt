@@ -3,11 +3,11 @@ use borrow.Author.Tests.{eq-eqb, ne_eqb}
 use Rattle.session_cells.proofs.rows.is_reasonable.Statement.{statement}
 use Rattle.session_cells.proofs.rows.is_reasonable.Tie as tie
 
-returns : tie.Need-returns-then-one-ne1
-returns c = simp (ne_eqb _ _ c.if-one-ne1.true)
+returns-then-one-ne1 : tie.Need-returns-then-one-ne1
+returns-then-one-ne1 c = simp (ne_eqb _ _ c.if-one-ne1.true)
 
-returns-2 : tie.Need-returns
-returns-2 c = simp (eq-eqb _ _ c.if-one-ne1.false)
+returns : tie.Need-returns
+returns c = simp (eq-eqb _ _ c.if-one-ne1.false)
 
 pub is_reasonable_spec : {M : Type 1} → statement M
-is_reasonable_spec = tie.close (tie.spec returns returns-2)
+is_reasonable_spec = tie.close (tie.spec returns-then-one-ne1 returns)

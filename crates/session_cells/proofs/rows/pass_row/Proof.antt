@@ -27,64 +27,64 @@ told : (d : tie.After-lowered-rest) {answer : Bool} → leb d.greater_number-see
     → matters d.args.line d.greater_number-seen.result d.args.m (get_or d.args.part.now d.args.row 0) ≡ answer
 told d e = number_matters d.args.line _ _ _ d.requires.2 _ (at_cell d).score e
 
-mul-score-word : tie.Need-offset_bounds-part-row
-mul-score-word c = search rules
+offset_bounds-part-row : tie.Need-offset_bounds-part-row
+offset_bounds-part-row c = search rules
 
-slice-read-score-word : tie.Need-bounds-part-row
-slice-read-score-word c = search rules
+bounds-part-row : tie.Need-bounds-part-row
+bounds-part-row c = search rules
 
-score-word-requires : tie.Need-score_word-s-requires
-score-word-requires c κs = search rules
+score_word-s-requires : tie.Need-score_word-s-requires
+score_word-s-requires c κs = search rules
 
-add-below : tie.Need-overflow_add-row
-add-below c = search rules
+overflow_add-row : tie.Need-overflow_add-row
+overflow_add-row c = search rules
 
-mul-below : tie.Need-offset_bounds-part-row-2
-mul-below c = search rules
+offset_bounds-part-row-2 : tie.Need-offset_bounds-part-row-2
+offset_bounds-part-row-2 c = search rules
 
-slice-read-below : tie.Need-bounds-part-row-2
-slice-read-below c = search rules
+bounds-part-row-2 : tie.Need-bounds-part-row-2
+bounds-part-row-2 c = search rules
 
-below-requires : tie.Need-below-one-requires
-below-requires c κs = search rules
+below-one-requires : tie.Need-below-one-requires
+below-one-requires c κs = search rules
 
-add-greater-number : tie.Need-overflow_add-row-2
-add-greater-number c = search rules
+overflow_add-row-2 : tie.Need-overflow_add-row-2
+overflow_add-row-2 c = search rules
 
-mul-greater-number : tie.Need-offset_bounds-part-row-3
-mul-greater-number c = search rules
+offset_bounds-part-row-3 : tie.Need-offset_bounds-part-row-3
+offset_bounds-part-row-3 c = search rules
 
-slice-read-greater-number : tie.Need-bounds-part-row-3
-slice-read-greater-number c = search rules
+bounds-part-row-3 : tie.Need-bounds-part-row-3
+bounds-part-row-3 c = search rules
 
-greater-number-requires : tie.Need-greater_number-seen-requires
-greater-number-requires c κs = search rules
+greater_number-seen-requires : tie.Need-greater_number-seen-requires
+greater_number-seen-requires c κs = search rules
 
-lowered-requires : tie.Need-lowered-rest-requires
-lowered-requires c κs = search rules
+lowered-rest-requires : tie.Need-lowered-rest-requires
+lowered-rest-requires c κs = search rules
 
-add-next : tie.Need-overflow_add-next
-add-next c = search rules
+overflow_add-next : tie.Need-overflow_add-next
+overflow_add-next c = search rules
 
-returns : tie.Need-returns-then-s-seen
-returns c =
+returns-then-s-seen : tie.Need-returns-then-s-seen
+returns-then-s-seen c =
     let e = sym (pass_low _ _ _ _ _ _ _ _ _ (at_cell c.before) 0 (told c.before (lt-leb _ _ c.if-s-seen.true))) in
     (ap (λ (u : Update). u.answer) e, ap (λ (u : Update). u.part) e)
 
 enter-requires : tie.Need-enter-requires
 enter-requires c κs = search rules
 
-is-reasonable-requires : tie.Need-is_reasonable-requires
-is-reasonable-requires c κs = search rules
+is_reasonable-requires : tie.Need-is_reasonable-requires
+is_reasonable-requires c κs = search rules
 
-greater-number-requires-2 : tie.Need-greater_number-requires
-greater-number-requires-2 c κs = search rules
+greater_number-requires : tie.Need-greater_number-requires
+greater_number-requires c κs = search rules
 
-same_length : tie.Need-shape_of-part
-same_length c = search rules
+shape_of-part : tie.Need-shape_of-part
+shape_of-part c = search rules
 
-returns-2 : tie.Need-returns
-returns-2 c =
+returns : tie.Need-returns
+returns c =
     let j = c.before in
     let recorded = j.before.before.before in
     let d = recorded.before.before in
@@ -98,4 +98,23 @@ returns-2 c =
 pub pass_row_spec : {M : Type 1} → statement M
 pass_row_spec =
     tie.close
-    (tie.spec mul-score-word slice-read-score-word score-word-requires add-below mul-below slice-read-below below-requires add-greater-number mul-greater-number slice-read-greater-number greater-number-requires lowered-requires add-next returns enter-requires is-reasonable-requires greater-number-requires-2 same_length returns-2)
+    (tie.spec
+    offset_bounds-part-row
+    bounds-part-row
+    score_word-s-requires
+    overflow_add-row
+    offset_bounds-part-row-2
+    bounds-part-row-2
+    below-one-requires
+    overflow_add-row-2
+    offset_bounds-part-row-3
+    bounds-part-row-3
+    greater_number-seen-requires
+    lowered-rest-requires
+    overflow_add-next
+    returns-then-s-seen
+    enter-requires
+    is_reasonable-requires
+    greater_number-requires
+    shape_of-part
+    returns)

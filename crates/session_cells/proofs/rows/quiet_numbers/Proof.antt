@@ -47,74 +47,94 @@ module _ (d : tie.After-lowered-m invariant-loop decreases-loop) where
   left = d.args.to - (d.loop-i.i + 1)
 
   -- the whole, from this row on
-  from-here : quiet_rows d.args.line (suc left) d.loop-i.i d.loop-i.m d.loop-i.highest d.args.part.now
+  from_here : quiet_rows d.args.line (suc left) d.loop-i.i d.loop-i.m d.loop-i.highest d.args.part.now
       ≡ quiet_rows d.args.line (d.args.to - d.args.from) d.args.from d.args.m0
       d.args.highest0 d.args.part.now
-  from-here =
+  from_here =
       let n : d.args.to - d.loop-i.i ≡ suc left = omega (arith, d.loop-i-test.true) in
       rw n at d.loop-i.invariant.1
 
-loop-holds : tie.Need-loop-i-init invariant-loop decreases-loop
-loop-holds c = (search rules, refl)
+loop-i-init : tie.Need-loop-i-init invariant-loop decreases-loop
+loop-i-init c = (search rules, refl)
 
-mul-score-word : tie.Need-offset_bounds-part-i invariant-loop decreases-loop
-mul-score-word c = search rules
+offset_bounds-part-i : tie.Need-offset_bounds-part-i invariant-loop decreases-loop
+offset_bounds-part-i c = search rules
 
-shared-slice-read-score-word : tie.Need-bounds-part-i invariant-loop decreases-loop
-shared-slice-read-score-word c = search rules
+bounds-part-i : tie.Need-bounds-part-i invariant-loop decreases-loop
+bounds-part-i c = search rules
 
-score-word-requires : tie.Need-score_word-s-requires invariant-loop decreases-loop
-score-word-requires c κs = search rules
+score_word-s-requires : tie.Need-score_word-s-requires invariant-loop decreases-loop
+score_word-s-requires c κs = search rules
 
-add-reach : tie.Need-overflow_add-reach invariant-loop decreases-loop
-add-reach c = search rules
+overflow_add-reach : tie.Need-overflow_add-reach invariant-loop decreases-loop
+overflow_add-reach c = search rules
 
-mul-reach : tie.Need-offset_bounds-part-i-in-loop-i invariant-loop decreases-loop
-mul-reach c = search rules
+offset_bounds-part-i-in-loop-i : tie.Need-offset_bounds-part-i-in-loop-i invariant-loop decreases-loop
+offset_bounds-part-i-in-loop-i c = search rules
 
-shared-slice-read-reach : tie.Need-bounds-part-i-in-loop-i invariant-loop decreases-loop
-shared-slice-read-reach c = search rules
+bounds-part-i-in-loop-i : tie.Need-bounds-part-i-in-loop-i invariant-loop decreases-loop
+bounds-part-i-in-loop-i c = search rules
 
-add-greater-number : tie.Need-overflow_add-i invariant-loop decreases-loop
-add-greater-number c = search rules
+overflow_add-i : tie.Need-overflow_add-i invariant-loop decreases-loop
+overflow_add-i c = search rules
 
-mul-greater-number : tie.Need-offset_bounds-part-i-in-loop-i-2 invariant-loop decreases-loop
-mul-greater-number c = search rules
+offset_bounds-part-i-in-loop-i-2 : tie.Need-offset_bounds-part-i-in-loop-i-2 invariant-loop decreases-loop
+offset_bounds-part-i-in-loop-i-2 c = search rules
 
-shared-slice-read-greater-number : tie.Need-bounds-part-i-in-loop-i-2 invariant-loop decreases-loop
-shared-slice-read-greater-number c = search rules
+bounds-part-i-in-loop-i-2 : tie.Need-bounds-part-i-in-loop-i-2 invariant-loop decreases-loop
+bounds-part-i-in-loop-i-2 c = search rules
 
-greater-number-requires : tie.Need-greater_number-highest-requires invariant-loop decreases-loop
-greater-number-requires c κs = search rules
+greater_number-highest-requires : tie.Need-greater_number-highest-requires invariant-loop decreases-loop
+greater_number-highest-requires c κs = search rules
 
 below-requires : tie.Need-below-requires invariant-loop decreases-loop
 below-requires c κs = search rules
 
-lowered-requires : tie.Need-lowered-m-requires invariant-loop decreases-loop
-lowered-requires c κs = search rules
+lowered-m-requires : tie.Need-lowered-m-requires invariant-loop decreases-loop
+lowered-m-requires c κs = search rules
 
-add-i : tie.Need-overflow_add-i-in-loop-i invariant-loop decreases-loop
-add-i c = search rules
+overflow_add-i-in-loop-i : tie.Need-overflow_add-i-in-loop-i invariant-loop decreases-loop
+overflow_add-i-in-loop-i c = search rules
 
-returns : tie.Need-returns-then-highest-s invariant-loop decreases-loop
+returns-then-highest-s : tie.Need-returns-then-highest-s invariant-loop decreases-loop
+returns-then-highest-s c =
+    let d = c.before in
+    sym (quiet_stop _ _ _ _ _ _ _ _ _ (at_cell d) (left d) (told d (le-leb _ _ c.if-highest-s.true))) ∙ from_here d
+
+loop-i-smaller : tie.Need-loop-i-smaller invariant-loop decreases-loop
+loop-i-smaller c = search rules
+
+loop-i-preserved : tie.Need-loop-i-preserved invariant-loop decreases-loop
+loop-i-preserved c =
+    let d = c.before in
+    (search rules, sym (quiet_on _ _ _ _ _ _ _ _ _ (at_cell d) (left d) (told d (lt-leb _ _ c.if-highest-s.false))) ∙ from_here d)
+
+returns : tie.Need-returns invariant-loop decreases-loop
 returns c =
-    let d = c.before in
-    sym (quiet_stop _ _ _ _ _ _ _ _ _ (at_cell d) (left d) (told d (le-leb _ _ c.if-highest-s.true))) ∙ from-here d
-
-loop-less : tie.Need-loop-i-smaller invariant-loop decreases-loop
-loop-less c = search rules
-
-loop-again : tie.Need-loop-i-preserved invariant-loop decreases-loop
-loop-again c =
-    let d = c.before in
-    (search rules, sym (quiet_on _ _ _ _ _ _ _ _ _ (at_cell d) (left d) (told d (lt-leb _ _ c.if-highest-s.false))) ∙ from-here d)
-
-returns-2 : tie.Need-returns invariant-loop decreases-loop
-returns-2 c =
     let n : c.args.to - c.loop-i.i ≡ 0 = omega arith in
     rw n at c.loop-i.invariant.1
 
 pub quiet_numbers_spec : {M : Type 1} → statement M
 quiet_numbers_spec =
     tie.close
-    (tie.spec invariant-loop decreases-loop loop-holds mul-score-word shared-slice-read-score-word score-word-requires add-reach mul-reach shared-slice-read-reach add-greater-number mul-greater-number shared-slice-read-greater-number greater-number-requires below-requires lowered-requires add-i returns loop-less loop-again returns-2)
+    (tie.spec
+    invariant-loop
+    decreases-loop
+    loop-i-init
+    offset_bounds-part-i
+    bounds-part-i
+    score_word-s-requires
+    overflow_add-reach
+    offset_bounds-part-i-in-loop-i
+    bounds-part-i-in-loop-i
+    overflow_add-i
+    offset_bounds-part-i-in-loop-i-2
+    bounds-part-i-in-loop-i-2
+    greater_number-highest-requires
+    below-requires
+    lowered-m-requires
+    overflow_add-i-in-loop-i
+    returns-then-highest-s
+    loop-i-smaller
+    loop-i-preserved
+    returns)

@@ -8,8 +8,8 @@ use Rattle.session_records.specs.Words.{divisor_span, at_most}
 use Rattle.session_cells.proofs.score.at_most_fraction.Statement.{statement}
 use Rattle.session_cells.proofs.score.at_most_fraction.Tie as tie
 
-in-word : (n k : ℕ) → n ≤ 2048 → k < divisor_span → n * k < word_limit
-in-word n k a b =
+in_word : (n k : ℕ) → n ≤ 2048 → k < divisor_span → n * k < word_limit
+in_word n k a b =
     let b' : k ≤ divisor_span - 1 = omega arith in
     let h : n * k ≤ 2048 * (divisor_span - 1) = mul-le-mul a b' in
     omega arith
@@ -20,8 +20,8 @@ numerator-requires c κs = search rules
 denominator-requires : tie.Need-denominator-requires
 denominator-requires c κs = search rules
 
-mul-result : tie.Need-overflow_mul-result
-mul-result c = record { fits = in-word _ _ c.numerator.ensures.1 c.denominator.ensures.1 }
+overflow_mul-result : tie.Need-overflow_mul-result
+overflow_mul-result c = record { fits = in_word _ _ c.numerator.ensures.1 c.denominator.ensures.1 }
 
 numerator-requires-2 : tie.Need-numerator-requires-2
 numerator-requires-2 c κs = search rules
@@ -29,8 +29,8 @@ numerator-requires-2 c κs = search rules
 denominator-requires-2 : tie.Need-denominator-requires-2
 denominator-requires-2 c κs = search rules
 
-mul-result-2 : tie.Need-overflow_mul-result-2
-mul-result-2 c = record { fits = in-word _ _ c.numerator-2.ensures.1 c.denominator-2.ensures.1 }
+overflow_mul-result-2 : tie.Need-overflow_mul-result-2
+overflow_mul-result-2 c = record { fits = in_word _ _ c.numerator-2.ensures.1 c.denominator-2.ensures.1 }
 
 returns : tie.Need-returns
 unfolding at_most
@@ -42,4 +42,11 @@ returns c =
 pub at_most_fraction_spec : {M : Type 1} → statement M
 at_most_fraction_spec =
     tie.close
-    (tie.spec numerator-requires denominator-requires mul-result numerator-requires-2 denominator-requires-2 mul-result-2 returns)
+    (tie.spec
+    numerator-requires
+    denominator-requires
+    overflow_mul-result
+    numerator-requires-2
+    denominator-requires-2
+    overflow_mul-result-2
+    returns)

@@ -5,13 +5,13 @@ use Rattle.session_records.specs.Records.{greater}
 use Rattle.session_cells.proofs.score.greater_number.Statement.{statement}
 use Rattle.session_cells.proofs.score.greater_number.Tie as tie
 
-returns : tie.Need-returns-then-a-b
+returns-then-a-b : tie.Need-returns-then-a-b
 unfolding greater at_most
-returns c = simp (lt-leb _ _ c.if-a-b.true)
+returns-then-a-b c = simp (lt-leb _ _ c.if-a-b.true)
 
-returns-2 : tie.Need-returns-else-a-b
+returns-else-a-b : tie.Need-returns-else-a-b
 unfolding greater at_most
-returns-2 c = simp (le-leb _ _ c.if-a-b.false)
+returns-else-a-b c = simp (le-leb _ _ c.if-a-b.false)
 
 pub greater_number_spec : {M : Type 1} → statement M
-greater_number_spec = tie.close (tie.spec returns returns-2)
+greater_number_spec = tie.close (tie.spec returns-then-a-b returns-else-a-b)

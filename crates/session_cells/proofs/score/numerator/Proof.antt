@@ -4,12 +4,12 @@ use Rattle.session_records.specs.Words.{numerator}
 use Rattle.session_cells.proofs.score.numerator.Statement.{statement}
 use Rattle.session_cells.proofs.score.numerator.Tie as tie
 
-add-result : tie.Need-overflow_add-result
-add-result c = search rules
+overflow_add-result : tie.Need-overflow_add-result
+overflow_add-result c = search rules
 
 returns : tie.Need-returns
 unfolding numerator
 returns c = search rules
 
 pub numerator_spec : {M : Type 1} → statement M
-numerator_spec = tie.close (tie.spec add-result returns)
+numerator_spec = tie.close (tie.spec overflow_add-result returns)

@@ -9,8 +9,8 @@ use Rattle.session_cells.proofs.score.score_word.Statement.{statement}
 use Rattle.session_cells.proofs.score.score_word.Tie as tie
 
 -- a product of two words has 64 bits
-in-64-bits : (a b : ℕ) → a < word_limit → b < word_limit → a * b < word_limit * word_limit
-in-64-bits a b k l =
+in_64_bits : (a b : ℕ) → a < word_limit → b < word_limit → a * b < word_limit * word_limit
+in_64_bits a b k l =
     let k' : a ≤ word_limit - 1 = omega arith in
     let l' : b ≤ word_limit - 1 = omega arith in
     let h : a * b ≤ (word_limit - 1) * (word_limit - 1) = mul-le-mul k' l' in
@@ -27,24 +27,30 @@ cut a b c =
     ∙ mod-add-mod b word_limit (a + c)
     ∙ ap (λ (n : ℕ). n % word_limit) third
 
-mul-shared : tie.Need-overflow_mul-shared
-mul-shared c = record { fits = in-64-bits c.args.gain c.args.m c.ranges.gain.fits c.ranges.m.fits }
+overflow_mul-shared : tie.Need-overflow_mul-shared
+overflow_mul-shared c = record { fits = in_64_bits c.args.gain c.args.m c.ranges.gain.fits c.ranges.m.fits }
 
-mul-before : tie.Need-overflow_mul-before
-mul-before c = record { fits = in-64-bits c.args.v c.args.x c.ranges.v.fits c.ranges.x.fits }
+overflow_mul-before : tie.Need-overflow_mul-before
+overflow_mul-before c = record { fits = in_64_bits c.args.v c.args.x c.ranges.v.fits c.ranges.x.fits }
 
-add-result : tie.Need-overflow_add-result
-add-result c = search rules
+overflow_add-result : tie.Need-overflow_add-result
+overflow_add-result c = search rules
 
-add-result-2 : tie.Need-overflow_add-result-2
-add-result-2 c = search rules
+overflow_add-result-2 : tie.Need-overflow_add-result-2
+overflow_add-result-2 c = search rules
 
-cast-result : tie.Need-overflow_cast-result-2
-cast-result c = search rules
+overflow_cast-result-2 : tie.Need-overflow_cast-result-2
+overflow_cast-result-2 c = search rules
 
 returns : tie.Need-returns
 returns c = cut (c.args.gain * c.args.m) (c.args.v * c.args.x) c.args.base
 
 pub score_word_spec : {M : Type 1} → statement M
 score_word_spec =
-    tie.close (tie.spec mul-shared mul-before add-result add-result-2 cast-result returns)
+    tie.close (tie.spec
+    overflow_mul-shared
+    overflow_mul-before
+    overflow_add-result
+    overflow_add-result-2
+    overflow_cast-result-2
+    returns)

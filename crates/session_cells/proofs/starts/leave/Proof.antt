@@ -14,55 +14,55 @@ invariant-loop starts₀ back column to b₀ starts b = (back ≤ b * block_rows
 abbrev decreases-loop : tie.decreases-loop-b
 decreases-loop starts₀ back column to b₀ starts b = to - b
 
-add-smaller : tie.Need-overflow_add-column invariant-loop decreases-loop
-add-smaller c = search rules
+overflow_add-column : tie.Need-overflow_add-column invariant-loop decreases-loop
+overflow_add-column c = search rules
 
-smaller-requires : tie.Need-smaller-to-requires invariant-loop decreases-loop
+smaller-to-requires : tie.Need-smaller-to-requires invariant-loop decreases-loop
+smaller-to-requires c κs = search rules
+
+smaller-requires : tie.Need-smaller-requires invariant-loop decreases-loop
 smaller-requires c κs = search rules
 
-smaller-requires-2 : tie.Need-smaller-requires invariant-loop decreases-loop
-smaller-requires-2 c κs = search rules
+overflow_add-b : tie.Need-overflow_add-b invariant-loop decreases-loop
+overflow_add-b c = search rules
 
-add-b : tie.Need-overflow_add-b invariant-loop decreases-loop
-add-b c = search rules
-
-loop-holds : tie.Need-loop-b-init invariant-loop decreases-loop
-loop-holds c =
+loop-b-init : tie.Need-loop-b-init invariant-loop decreases-loop
+loop-b-init c =
     let args = c.args in
     let first : (k : ℕ) → k < args.back / block_rows + c.smaller.result → k * block_rows < args.back = λ k l. omega (arith, c.smaller.ensures) in
     (omega (arith, c.smaller.ensures), none_lowered args.back args.column _ args.starts.now first)
 
-mul-lowered : tie.Need-offset_bounds-starts-b invariant-loop decreases-loop
-mul-lowered c = search rules
+offset_bounds-starts-b : tie.Need-offset_bounds-starts-b invariant-loop decreases-loop
+offset_bounds-starts-b c = search rules
 
-slice-read-lowered : tie.Need-bounds-starts-b invariant-loop decreases-loop
-slice-read-lowered c = search rules
+bounds-starts-b : tie.Need-bounds-starts-b invariant-loop decreases-loop
+bounds-starts-b c = search rules
 
 lowered-requires : tie.Need-lowered-requires invariant-loop decreases-loop
 lowered-requires c κs = search rules
 
-mul-starts : tie.Need-offset_bounds-starts-b-in-loop-b invariant-loop decreases-loop
-mul-starts c = search rules
+offset_bounds-starts-b-in-loop-b : tie.Need-offset_bounds-starts-b-in-loop-b invariant-loop decreases-loop
+offset_bounds-starts-b-in-loop-b c = search rules
 
-slice-write-starts : tie.Need-bounds-starts-b-in-loop-b invariant-loop decreases-loop
-slice-write-starts c = search rules
+bounds-starts-b-in-loop-b : tie.Need-bounds-starts-b-in-loop-b invariant-loop decreases-loop
+bounds-starts-b-in-loop-b c = search rules
 
-add-b-2 : tie.Need-overflow_add-b-in-loop-b invariant-loop decreases-loop
-add-b-2 c = search rules
+overflow_add-b-in-loop-b : tie.Need-overflow_add-b-in-loop-b invariant-loop decreases-loop
+overflow_add-b-in-loop-b c = search rules
 
-loop-less : tie.Need-loop-b-smaller invariant-loop decreases-loop
-loop-less c = search rules
+loop-b-smaller : tie.Need-loop-b-smaller invariant-loop decreases-loop
+loop-b-smaller c = search rules
 
-loop-again : tie.Need-loop-b-preserved invariant-loop decreases-loop
-loop-again c =
+loop-b-preserved : tie.Need-loop-b-preserved invariant-loop decreases-loop
+loop-b-preserved c =
     let t = c in
     let args = t.args in
     let s = one_lowered args.back args.column t.loop-b.b c.lowered.result args.starts.now t.loop-b.starts t.loop-b.invariant.0 (omega arith)
     (omega arith) c.lowered.ensures t.loop-b.invariant.1 in
     (omega arith, s)
 
-same_length : tie.Need-shape_of-starts invariant-loop decreases-loop
-same_length c = search rules
+shape_of-starts : tie.Need-shape_of-starts invariant-loop decreases-loop
+shape_of-starts c = search rules
 
 returns : tie.Need-returns invariant-loop decreases-loop
 returns c =
@@ -74,4 +74,21 @@ returns c =
 pub leave_spec : {M : Type 1} → statement M
 leave_spec =
     tie.close
-    (tie.spec invariant-loop decreases-loop add-smaller smaller-requires smaller-requires-2 add-b loop-holds mul-lowered slice-read-lowered lowered-requires mul-starts slice-write-starts add-b-2 loop-less loop-again same_length returns)
+    (tie.spec
+    invariant-loop
+    decreases-loop
+    overflow_add-column
+    smaller-to-requires
+    smaller-requires
+    overflow_add-b
+    loop-b-init
+    offset_bounds-starts-b
+    bounds-starts-b
+    lowered-requires
+    offset_bounds-starts-b-in-loop-b
+    bounds-starts-b-in-loop-b
+    overflow_add-b-in-loop-b
+    loop-b-smaller
+    loop-b-preserved
+    shape_of-starts
+    returns)

@@ -10,26 +10,26 @@ use Rattle.session_start.proofs.hits.one_at.Tie as tie
 use Rattle.session_start.proofs.hits.one_at.Reads as reads
 use Rattle.session_start.proofs.hits.one_at.Lts as lts
 
-returns : tie.Need-returns-then-words-at
-returns c = (rw (le-ltb c.args.at (length c.args.words.now) c.if-words-at.true), zero-le)
+returns-then-words-at : tie.Need-returns-then-words-at
+returns-then-words-at c = (rw (le-ltb c.args.at (length c.args.words.now) c.if-words-at.true), zero-le)
 
-mul-if2 : tie.Need-offset_bounds-words-at
-mul-if2 c = search rules
+offset_bounds-words-at : tie.Need-offset_bounds-words-at
+offset_bounds-words-at c = search rules
 
-shared-slice-read-if2 : tie.Need-bounds-words-at
-shared-slice-read-if2 c = search rules
+bounds-words-at : tie.Need-bounds-words-at
+bounds-words-at c = search rules
 
-returns-2 : tie.Need-returns-then-words-at-2
-returns-2 c =
+returns-then-words-at-2 : tie.Need-returns-then-words-at-2
+returns-then-words-at-2 c =
     let inside = c in
     let args = inside.args in
     (rw (lt-ltb args.at (length args.words.now) inside.if-words-at.false, eq-eqb _ _ c.if-words-at-2.true), le_refl 1)
 
-returns-3 : tie.Need-returns-else-words-at-2
-returns-3 c =
+returns-else-words-at-2 : tie.Need-returns-else-words-at-2
+returns-else-words-at-2 c =
     let inside = c in
     let args = inside.args in
     (rw (lt-ltb args.at (length args.words.now) inside.if-words-at.false, ne_eqb _ _ c.if-words-at-2.false), zero-le)
 
 pub one_at_spec : {M : Type 1} → statement M
-one_at_spec = tie.close (tie.spec returns mul-if2 shared-slice-read-if2 returns-2 returns-3)
+one_at_spec = tie.close (tie.spec returns-then-words-at offset_bounds-words-at bounds-words-at returns-then-words-at-2 returns-else-words-at-2)

@@ -43,91 +43,91 @@ place_at c =
     place_in start.args.sorted.now start.args.slots.now start.requires.0 at.turns at.ring at.j w.wide-slot.result c.wide.result
     at.invariant.4 w.loop-j-test.true w.wide-slot.ensures.0 c.wide.ensures.0
 
-loop-holds : tie.Need-loop-j-init invariant-loop decreases-loop
-loop-holds c = let zeros = c.requires.1.1 in (zero-le, refl, refl, refl, ring_none _ _ _ _ zeros.0.1 zeros.1.1, refl)
+loop-j-init : tie.Need-loop-j-init invariant-loop decreases-loop
+loop-j-init c = let zeros = c.requires.1.1 in (zero-le, refl, refl, refl, ring_none _ _ _ _ zeros.0.1 zeros.1.1, refl)
 
-mul_wide : tie.Need-offset_bounds-slots-j invariant-loop decreases-loop
-mul_wide c = search rules
+offset_bounds-slots-j : tie.Need-offset_bounds-slots-j invariant-loop decreases-loop
+offset_bounds-slots-j c = search rules
 
-shared-slice-read-wide : tie.Need-bounds-slots-j invariant-loop decreases-loop
-shared-slice-read-wide c = search rules
+bounds-slots-j : tie.Need-bounds-slots-j invariant-loop decreases-loop
+bounds-slots-j c = search rules
 
-wide-requires : tie.Need-wide-slot-requires invariant-loop decreases-loop
-wide-requires c κs = search rules
+wide-slot-requires : tie.Need-wide-slot-requires invariant-loop decreases-loop
+wide-slot-requires c κs = search rules
 
-mul-turn : tie.Need-offset_bounds-turns-slot invariant-loop decreases-loop
-mul-turn c = search rules
+offset_bounds-turns-slot : tie.Need-offset_bounds-turns-slot invariant-loop decreases-loop
+offset_bounds-turns-slot c = search rules
 
-slice-read-turn : tie.Need-bounds-turns-slot invariant-loop decreases-loop
-slice-read-turn c =
+bounds-turns-slot : tie.Need-bounds-turns-slot invariant-loop decreases-loop
+bounds-turns-slot c =
     let w = c in
     omega (arith, w.requires.0.within w.loop-j.j w.loop-j-test.true)
 
-wide-requires-2 : tie.Need-wide-requires invariant-loop decreases-loop
-wide-requires-2 c κs = search rules
+wide-requires : tie.Need-wide-requires invariant-loop decreases-loop
+wide-requires c κs = search rules
 
-add-place : tie.Need-overflow_add-place invariant-loop decreases-loop
-add-place c = search rules
+overflow_add-place : tie.Need-overflow_add-place invariant-loop decreases-loop
+overflow_add-place c = search rules
 
-mul-backs : tie.Need-offset_bounds-ring-place invariant-loop decreases-loop
-mul-backs c = search rules
+offset_bounds-ring-place : tie.Need-offset_bounds-ring-place invariant-loop decreases-loop
+offset_bounds-ring-place c = search rules
 
-slice-read-backs : tie.Need-bounds-ring-place invariant-loop decreases-loop
-slice-read-backs c = omega (arith, place_at c.before)
+bounds-ring-place : tie.Need-bounds-ring-place invariant-loop decreases-loop
+bounds-ring-place c = omega (arith, place_at c.before)
 
-mul-backs-2 : tie.Need-offset_bounds-backs-j invariant-loop decreases-loop
-mul-backs-2 c = search rules
+offset_bounds-backs-j : tie.Need-offset_bounds-backs-j invariant-loop decreases-loop
+offset_bounds-backs-j c = search rules
 
-slice-write-backs : tie.Need-bounds-backs-j invariant-loop decreases-loop
-slice-write-backs c = search rules
+bounds-backs-j : tie.Need-bounds-backs-j invariant-loop decreases-loop
+bounds-backs-j c = search rules
 
-cast-ring : tie.Need-overflow_cast-ring invariant-loop decreases-loop
-cast-ring c = search rules
+overflow_cast-ring : tie.Need-overflow_cast-ring invariant-loop decreases-loop
+overflow_cast-ring c = search rules
 
-add-ring : tie.Need-overflow_add-ring invariant-loop decreases-loop
-add-ring c = search rules
+overflow_add-ring : tie.Need-overflow_add-ring invariant-loop decreases-loop
+overflow_add-ring c = search rules
 
-mul-ring : tie.Need-offset_bounds-ring-place-in-loop-j invariant-loop decreases-loop
-mul-ring c = search rules
+offset_bounds-ring-place-in-loop-j : tie.Need-offset_bounds-ring-place-in-loop-j invariant-loop decreases-loop
+offset_bounds-ring-place-in-loop-j c = search rules
 
-slice-write-ring : tie.Need-bounds-ring-place-in-loop-j invariant-loop decreases-loop
-slice-write-ring c = omega (arith, place_at c.before)
+bounds-ring-place-in-loop-j : tie.Need-bounds-ring-place-in-loop-j invariant-loop decreases-loop
+bounds-ring-place-in-loop-j c = omega (arith, place_at c.before)
 
-add-turns : tie.Need-overflow_add-turns invariant-loop decreases-loop
-add-turns c = omega (arith, place_at c.before)
+overflow_add-turns : tie.Need-overflow_add-turns invariant-loop decreases-loop
+overflow_add-turns c = omega (arith, place_at c.before)
 
-add-one-at : tie.Need-overflow_add-place-in-loop-j invariant-loop decreases-loop
-add-one-at c = search rules
+overflow_add-place-in-loop-j : tie.Need-overflow_add-place-in-loop-j invariant-loop decreases-loop
+overflow_add-place-in-loop-j c = search rules
 
-mul-one-at : tie.Need-offset_bounds-sorted-slot invariant-loop decreases-loop
-mul-one-at c = search rules
+offset_bounds-sorted-slot : tie.Need-offset_bounds-sorted-slot invariant-loop decreases-loop
+offset_bounds-sorted-slot c = search rules
 
-shared-slice-read-one-at : tie.Need-bounds-sorted-slot invariant-loop decreases-loop
-shared-slice-read-one-at c = omega (arith, place_at c.before.before)
+bounds-sorted-slot : tie.Need-bounds-sorted-slot invariant-loop decreases-loop
+bounds-sorted-slot c = omega (arith, place_at c.before.before)
 
-one-at-requires : tie.Need-one_at-requires invariant-loop decreases-loop
-one-at-requires c κs = search rules
+one_at-requires : tie.Need-one_at-requires invariant-loop decreases-loop
+one_at-requires c κs = search rules
 
-mul-turns : tie.Need-overflow_mul-turns invariant-loop decreases-loop
-mul-turns c =
+overflow_mul-turns : tie.Need-overflow_mul-turns invariant-loop decreases-loop
+overflow_mul-turns c =
     let w = c in
     let t = get_or w.loop-j.turns w.wide-slot.result 0 in
     omega (arith, place_at (placed c), mul-le-mul_left (t + 1) c.one_at.ensures.1)
 
-mul-turns-2 : tie.Need-offset_bounds-turns-slot-in-loop-j invariant-loop decreases-loop
-mul-turns-2 c = search rules
+offset_bounds-turns-slot-in-loop-j : tie.Need-offset_bounds-turns-slot-in-loop-j invariant-loop decreases-loop
+offset_bounds-turns-slot-in-loop-j c = search rules
 
-slice-write-turns : tie.Need-bounds-turns-slot-in-loop-j invariant-loop decreases-loop
-slice-write-turns c = omega (arith, place_at (placed c))
+bounds-turns-slot-in-loop-j : tie.Need-bounds-turns-slot-in-loop-j invariant-loop decreases-loop
+bounds-turns-slot-in-loop-j c = omega (arith, place_at (placed c))
 
-add-j : tie.Need-overflow_add-j invariant-loop decreases-loop
-add-j c = search rules
+overflow_add-j : tie.Need-overflow_add-j invariant-loop decreases-loop
+overflow_add-j c = search rules
 
-loop-less : tie.Need-loop-j-smaller invariant-loop decreases-loop
-loop-less c = search rules
+loop-j-smaller : tie.Need-loop-j-smaller invariant-loop decreases-loop
+loop-j-smaller c = search rules
 
-loop-again : tie.Need-loop-j-preserved invariant-loop decreases-loop
-loop-again c =
+loop-j-preserved : tie.Need-loop-j-preserved invariant-loop decreases-loop
+loop-j-preserved c =
     let w = slotted (placed c) in
     let at = w.loop-j in
     let start = w in
@@ -149,14 +149,14 @@ loop-again c =
           (finds_back sorted slots begin at.turns at.ring at.j slot.result turned.result at.invariant.4 h slot.ensures.0 turned.ensures.0),
     )
 
-same_length : tie.Need-shape_of-turns invariant-loop decreases-loop
-same_length c = search rules
+shape_of-turns : tie.Need-shape_of-turns invariant-loop decreases-loop
+shape_of-turns c = search rules
 
-same-length-2 : tie.Need-shape_of-ring invariant-loop decreases-loop
-same-length-2 c = search rules
+shape_of-ring : tie.Need-shape_of-ring invariant-loop decreases-loop
+shape_of-ring c = search rules
 
-same-length-3 : tie.Need-shape_of-backs invariant-loop decreases-loop
-same-length-3 c = search rules
+shape_of-backs : tie.Need-shape_of-backs invariant-loop decreases-loop
+shape_of-backs c = search rules
 
 returns : tie.Need-returns invariant-loop decreases-loop
 returns c =
@@ -170,4 +170,37 @@ returns c =
 pub link_spec : {M : Type 1} → statement M
 link_spec =
     tie.close
-    (tie.spec invariant-loop decreases-loop loop-holds mul_wide shared-slice-read-wide wide-requires mul-turn slice-read-turn wide-requires-2 add-place mul-backs slice-read-backs mul-backs-2 slice-write-backs cast-ring add-ring mul-ring slice-write-ring add-turns add-one-at mul-one-at shared-slice-read-one-at one-at-requires mul-turns mul-turns-2 slice-write-turns add-j loop-less loop-again same_length same-length-2 same-length-3 returns)
+    (tie.spec
+    invariant-loop
+    decreases-loop
+    loop-j-init
+    offset_bounds-slots-j
+    bounds-slots-j
+    wide-slot-requires
+    offset_bounds-turns-slot
+    bounds-turns-slot
+    wide-requires
+    overflow_add-place
+    offset_bounds-ring-place
+    bounds-ring-place
+    offset_bounds-backs-j
+    bounds-backs-j
+    overflow_cast-ring
+    overflow_add-ring
+    offset_bounds-ring-place-in-loop-j
+    bounds-ring-place-in-loop-j
+    overflow_add-turns
+    overflow_add-place-in-loop-j
+    offset_bounds-sorted-slot
+    bounds-sorted-slot
+    one_at-requires
+    overflow_mul-turns
+    offset_bounds-turns-slot-in-loop-j
+    bounds-turns-slot-in-loop-j
+    overflow_add-j
+    loop-j-smaller
+    loop-j-preserved
+    shape_of-turns
+    shape_of-ring
+    shape_of-backs
+    returns)

@@ -15,23 +15,23 @@ use Rattle.session_start.proofs.per_hit.put_back.Lts as lts
 use Rattle.session_start.proofs.word_tables.pattern_zeros.Reads as pattern-zeros-reads
 use Rattle.session_start.proofs.per_hit.link.Reads as link-reads
 
-pattern-zeros-requires : tie.Need-pattern_zeros-turns-requires
-pattern-zeros-requires c κs = search rules
+pattern_zeros-turns-requires : tie.Need-pattern_zeros-turns-requires
+pattern_zeros-turns-requires c κs = search rules
 
-pattern-zeros-requires-2 : tie.Need-pattern_zeros-ring-requires
-pattern-zeros-requires-2 c κs = search rules
+pattern_zeros-ring-requires : tie.Need-pattern_zeros-ring-requires
+pattern_zeros-ring-requires c κs = search rules
 
-array-borrow-prefix-turns : tie.Need-slice_bounds-turns-end
-array-borrow-prefix-turns c = search rules
+slice_bounds-turns-end : tie.Need-slice_bounds-turns-end
+slice_bounds-turns-end c = search rules
 
-slice-aggregate-link : tie.Need-slice_bounds-link-end
-slice-aggregate-link c = sym (length-take-le _ _ (omega arith))
+slice_bounds-link-end : tie.Need-slice_bounds-link-end
+slice_bounds-link-end c = sym (length-take-le _ _ (omega arith))
 
-array-borrow-prefix-ring : tie.Need-slice_bounds-ring-end
-array-borrow-prefix-ring c = search rules
+slice_bounds-ring-end : tie.Need-slice_bounds-ring-end
+slice_bounds-ring-end c = search rules
 
-slice-aggregate-link-2 : tie.Need-slice_bounds-link-end-2
-slice-aggregate-link-2 c = sym (length-take-le _ _ (omega arith))
+slice_bounds-link-end-2 : tie.Need-slice_bounds-link-end-2
+slice_bounds-link-end-2 c = sym (length-take-le _ _ (omega arith))
 
 link-requires : tie.Need-link-requires
 link-requires c κs =
@@ -52,8 +52,8 @@ link-requires c κs =
       ),
     )
 
-same_length : tie.Need-shape_of-backs
-same_length c = search rules
+shape_of-backs : tie.Need-shape_of-backs
+shape_of-backs c = search rules
 
 returns : tie.Need-returns
 returns c = c.link.ensures
@@ -61,4 +61,13 @@ returns c = c.link.ensures
 pub put_back_spec : {M : Type 1} → statement M
 put_back_spec =
     tie.close
-    (tie.spec pattern-zeros-requires pattern-zeros-requires-2 array-borrow-prefix-turns slice-aggregate-link array-borrow-prefix-ring slice-aggregate-link-2 link-requires same_length returns)
+    (tie.spec
+    pattern_zeros-turns-requires
+    pattern_zeros-ring-requires
+    slice_bounds-turns-end
+    slice_bounds-link-end
+    slice_bounds-ring-end
+    slice_bounds-link-end-2
+    link-requires
+    shape_of-backs
+    returns)

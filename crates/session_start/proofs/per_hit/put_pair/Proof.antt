@@ -6,24 +6,30 @@ use Rattle.session_start.proofs.per_hit.put_pair.Tie as tie
 use Rattle.session_start.proofs.per_hit.put_pair.Reads as reads
 use Rattle.session_start.proofs.per_hit.put_pair.Lts as lts
 
-sub-reach : tie.Need-overflow_sub-reach
-sub-reach c = search rules
+overflow_sub-reach : tie.Need-overflow_sub-reach
+overflow_sub-reach c = search rules
 
-mul-reach : tie.Need-offset_bounds-reach-back
-mul-reach c = search rules
+offset_bounds-reach-back : tie.Need-offset_bounds-reach-back
+offset_bounds-reach-back c = search rules
 
-slice-write-reach : tie.Need-bounds-reach-back
-slice-write-reach c = search rules
+bounds-reach-back : tie.Need-bounds-reach-back
+bounds-reach-back c = search rules
 
-same_length : tie.Need-shape_of-reach
-same_length c = search rules
+shape_of-reach : tie.Need-shape_of-reach
+shape_of-reach c = search rules
 
-returns : tie.Need-returns-then-back-gt0
-returns c = pair_some c.args.back c.args.j c.args.reach.now c.if-back-gt0.true
+returns-then-back-gt0 : tie.Need-returns-then-back-gt0
+returns-then-back-gt0 c = pair_some c.args.back c.args.j c.args.reach.now c.if-back-gt0.true
 
-returns-2 : tie.Need-returns-else-back-gt0
-returns-2 c = pair_none c.args.back c.args.j c.args.reach.now c.if-back-gt0.false
+returns-else-back-gt0 : tie.Need-returns-else-back-gt0
+returns-else-back-gt0 c = pair_none c.args.back c.args.j c.args.reach.now c.if-back-gt0.false
 
 pub put_pair_spec : {M : Type 1} → statement M
 put_pair_spec =
-    tie.close (tie.spec sub-reach mul-reach slice-write-reach same_length returns returns-2)
+    tie.close (tie.spec
+    overflow_sub-reach
+    offset_bounds-reach-back
+    bounds-reach-back
+    shape_of-reach
+    returns-then-back-gt0
+    returns-else-back-gt0)

@@ -30,14 +30,14 @@ entry c = c.before.before.before.before.before.before
 abbrev turn : tie.After-put_pair-arg-1 invariant-loop decreases-loop → tie.At-loop-j invariant-loop decreases-loop
 turn c = c.before.before.before.before
 
-cast-fill : tie.Need-overflow_cast-backs invariant-loop decreases-loop
-cast-fill c = search rules
+overflow_cast-backs : tie.Need-overflow_cast-backs invariant-loop decreases-loop
+overflow_cast-backs c = search rules
 
 fill-requires : tie.Need-fill-requires invariant-loop decreases-loop
 fill-requires c κs = search rules
 
-loop-holds : tie.Need-loop-j-init invariant-loop decreases-loop
-loop-holds c =
+loop-j-init : tie.Need-loop-j-init invariant-loop decreases-loop
+loop-j-init c =
     let args = c.args in
     let noted = args.backs.now in
     let n : length args.reach.now ≡ length noted = c.requires.0.1 in
@@ -45,33 +45,33 @@ loop-holds c =
     let zeros = c.fill.ensures ∙ store_all (replicate (length noted) (length noted)) args.reach.now (n ∙ sym many) in
     (zero-le, ap length zeros ∙ many, λ p g all e. told_filled p g noted e c.fill.new.work (length noted) refl zeros)
 
-mul_wide : tie.Need-offset_bounds-backs-j invariant-loop decreases-loop
-mul_wide c = search rules
+offset_bounds-backs-j : tie.Need-offset_bounds-backs-j invariant-loop decreases-loop
+offset_bounds-backs-j c = search rules
 
-shared-slice-read-wide : tie.Need-bounds-backs-j invariant-loop decreases-loop
-shared-slice-read-wide c = search rules
+bounds-backs-j : tie.Need-bounds-backs-j invariant-loop decreases-loop
+bounds-backs-j c = search rules
 
 wide-requires : tie.Need-wide-requires invariant-loop decreases-loop
 wide-requires c κs = search rules
 
-cast-put-pair : tie.Need-overflow_cast-j invariant-loop decreases-loop
-cast-put-pair c = search rules
+overflow_cast-j : tie.Need-overflow_cast-j invariant-loop decreases-loop
+overflow_cast-j c = search rules
 
-put-pair-requires : tie.Need-put_pair-requires invariant-loop decreases-loop
-put-pair-requires c κs =
+put_pair-requires : tie.Need-put_pair-requires invariant-loop decreases-loop
+put_pair-requires c κs =
     let at = c.loop-j in
     let start = entry (turn c).before in
     let l : length at.reach ≡ length start.args.backs.now = at.invariant.1 in
     omega (arith, l, c.wide.ensures.0, start.requires.1 at.j c.loop-j-test.true)
 
-add-j : tie.Need-overflow_add-j invariant-loop decreases-loop
-add-j c = search rules
+overflow_add-j : tie.Need-overflow_add-j invariant-loop decreases-loop
+overflow_add-j c = search rules
 
-loop-less : tie.Need-loop-j-smaller invariant-loop decreases-loop
-loop-less c = search rules
+loop-j-smaller : tie.Need-loop-j-smaller invariant-loop decreases-loop
+loop-j-smaller c = search rules
 
-loop-again : tie.Need-loop-j-preserved invariant-loop decreases-loop
-loop-again c =
+loop-j-preserved : tie.Need-loop-j-preserved invariant-loop decreases-loop
+loop-j-preserved c =
     let put = c.put_pair in
     let lending = c.before.before.before in
     let back = lending.wide in
@@ -85,8 +85,8 @@ loop-again c =
           (at.invariant.2 p g all e),
     )
 
-same_length : tie.Need-shape_of-reach invariant-loop decreases-loop
-same_length c = c.loop-j.invariant.1 ∙ sym c.requires.0.1
+shape_of-reach : tie.Need-shape_of-reach invariant-loop decreases-loop
+shape_of-reach c = c.loop-j.invariant.1 ∙ sym c.requires.0.1
 
 returns : tie.Need-returns invariant-loop decreases-loop
 returns c =
@@ -97,4 +97,19 @@ returns c =
 pub put_pairs_spec : {M : Type 1} → statement M
 put_pairs_spec =
     tie.close
-    (tie.spec invariant-loop decreases-loop cast-fill fill-requires loop-holds mul_wide shared-slice-read-wide wide-requires cast-put-pair put-pair-requires add-j loop-less loop-again same_length returns)
+    (tie.spec
+    invariant-loop
+    decreases-loop
+    overflow_cast-backs
+    fill-requires
+    loop-j-init
+    offset_bounds-backs-j
+    bounds-backs-j
+    wide-requires
+    overflow_cast-j
+    put_pair-requires
+    overflow_add-j
+    loop-j-smaller
+    loop-j-preserved
+    shape_of-reach
+    returns)

@@ -15,27 +15,27 @@ use Rattle.session_start.proofs.per_hit.put_reach.Reads as reads
 use Rattle.session_start.proofs.per_hit.put_reach.Lts as lts
 use Rattle.session_start.proofs.per_hit.put_pairs.Reads as put-pairs-reads
 
-add-put-pairs : tie.Need-overflow_add-backs
-add-put-pairs c = search rules
+overflow_add-backs : tie.Need-overflow_add-backs
+overflow_add-backs c = search rules
 
-sub-put-pairs : tie.Need-slice_bounds-put_pairs-count
-sub-put-pairs c = search rules
+slice_bounds-put_pairs-count : tie.Need-slice_bounds-put_pairs-count
+slice_bounds-put_pairs-count c = search rules
 
-part-put-pairs-start : tie.Need-slice_bounds-put_pairs-start
-part-put-pairs-start c = search rules
+slice_bounds-put_pairs-start : tie.Need-slice_bounds-put_pairs-start
+slice_bounds-put_pairs-start c = search rules
 
-part-put-pairs-end : tie.Need-slice_bounds-put_pairs-end
-part-put-pairs-end c = search rules
+slice_bounds-put_pairs-end : tie.Need-slice_bounds-put_pairs-end
+slice_bounds-put_pairs-end c = search rules
 
-put-pairs-requires : tie.Need-put_pairs-requires
-put-pairs-requires c κs =
+put_pairs-requires : tie.Need-put_pairs-requires
+put_pairs-requires c κs =
     let start = c in
     let h = length start.args.backs.now in
     let many : reach_from + h - reach_from ≡ h = omega arith in
     ((start.requires.0.0, mid_len reach_from (reach_from + h) start.args.work.now (omega (arith, start.requires.0)) ∙ many), start.requires.1)
 
-same_length : tie.Need-shape_of-work
-same_length c = search rules
+shape_of-work : tie.Need-shape_of-work
+shape_of-work c = search rules
 
 returns : tie.Need-returns
 returns c =
@@ -49,4 +49,11 @@ returns c =
 pub put_reach_spec : {M : Type 1} → statement M
 put_reach_spec =
     tie.close
-    (tie.spec add-put-pairs sub-put-pairs part-put-pairs-start part-put-pairs-end put-pairs-requires same_length returns)
+    (tie.spec
+    overflow_add-backs
+    slice_bounds-put_pairs-count
+    slice_bounds-put_pairs-start
+    slice_bounds-put_pairs-end
+    put_pairs-requires
+    shape_of-work
+    returns)

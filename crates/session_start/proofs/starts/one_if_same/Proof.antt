@@ -7,11 +7,11 @@ use Rattle.session_start.proofs.starts.one_if_same.Tie as tie
 use Rattle.session_start.proofs.starts.one_if_same.Reads as reads
 use Rattle.session_start.proofs.starts.one_if_same.Lts as lts
 
-returns : tie.Need-returns-then-x-y
-returns c = (rw (eq-eqb c.args.x c.args.y c.if-x-y.true), le_refl 1)
+returns-then-x-y : tie.Need-returns-then-x-y
+returns-then-x-y c = (rw (eq-eqb c.args.x c.args.y c.if-x-y.true), le_refl 1)
 
-returns-2 : tie.Need-returns-else-x-y
-returns-2 c = (rw (ne_eqb c.args.x c.args.y c.if-x-y.false), zero-le)
+returns-else-x-y : tie.Need-returns-else-x-y
+returns-else-x-y c = (rw (ne_eqb c.args.x c.args.y c.if-x-y.false), zero-le)
 
 pub one_if_same_spec : {M : Type 1} → statement M
-one_if_same_spec = tie.close (tie.spec returns returns-2)
+one_if_same_spec = tie.close (tie.spec returns-then-x-y returns-else-x-y)

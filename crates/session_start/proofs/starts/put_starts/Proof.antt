@@ -22,47 +22,47 @@ invariant-loop h work₀ m₀ i₀ work m i =
 abbrev decreases-loop : tie.decreases-loop-i
 decreases-loop h work₀ m₀ i₀ work m i = i
 
-loop-holds : tie.Need-loop-i-init invariant-loop decreases-loop
-loop-holds c =
+loop-i-init : tie.Need-loop-i-init invariant-loop decreases-loop
+loop-i-init c =
     let args = c.args in
     let full : 0 + args.h ≤ args.h = omega arith in
     (full, refl, λ p g e holds. begun_none p g args.h args.work.now)
 
-sub-i : tie.Need-overflow_sub-i invariant-loop decreases-loop
-sub-i c = search rules
+overflow_sub-i : tie.Need-overflow_sub-i invariant-loop decreases-loop
+overflow_sub-i c = search rules
 
-add-one-if-same : tie.Need-overflow_add-i invariant-loop decreases-loop
-add-one-if-same c = search rules
+overflow_add-i : tie.Need-overflow_add-i invariant-loop decreases-loop
+overflow_add-i c = search rules
 
-mul-one-if-same : tie.Need-offset_bounds-work-i invariant-loop decreases-loop
-mul-one-if-same c = search rules
+offset_bounds-work-i : tie.Need-offset_bounds-work-i invariant-loop decreases-loop
+offset_bounds-work-i c = search rules
 
-slice-read-one-if-same : tie.Need-bounds-work-i invariant-loop decreases-loop
-slice-read-one-if-same c = search rules
+bounds-work-i : tie.Need-bounds-work-i invariant-loop decreases-loop
+bounds-work-i c = search rules
 
-cast-one-if-same : tie.Need-overflow_cast-h invariant-loop decreases-loop
-cast-one-if-same c = search rules
+overflow_cast-h : tie.Need-overflow_cast-h invariant-loop decreases-loop
+overflow_cast-h c = search rules
 
-one-if-same-requires : tie.Need-one_if_same-m-requires invariant-loop decreases-loop
-one-if-same-requires c κs = search rules
+one_if_same-m-requires : tie.Need-one_if_same-m-requires invariant-loop decreases-loop
+one_if_same-m-requires c κs = search rules
 
-add-m : tie.Need-overflow_add-m invariant-loop decreases-loop
-add-m c = search rules
+overflow_add-m : tie.Need-overflow_add-m invariant-loop decreases-loop
+overflow_add-m c = search rules
 
-add-work : tie.Need-overflow_add-work invariant-loop decreases-loop
-add-work c = search rules
+overflow_add-work : tie.Need-overflow_add-work invariant-loop decreases-loop
+overflow_add-work c = search rules
 
-mul-work : tie.Need-offset_bounds-work-i-in-loop-i invariant-loop decreases-loop
-mul-work c = search rules
+offset_bounds-work-i-in-loop-i : tie.Need-offset_bounds-work-i-in-loop-i invariant-loop decreases-loop
+offset_bounds-work-i-in-loop-i c = search rules
 
-slice-write-work : tie.Need-bounds-work-i-in-loop-i invariant-loop decreases-loop
-slice-write-work c = search rules
+bounds-work-i-in-loop-i : tie.Need-bounds-work-i-in-loop-i invariant-loop decreases-loop
+bounds-work-i-in-loop-i c = search rules
 
-loop-less : tie.Need-loop-i-smaller invariant-loop decreases-loop
-loop-less c = search rules
+loop-i-smaller : tie.Need-loop-i-smaller invariant-loop decreases-loop
+loop-i-smaller c = search rules
 
-loop-again : tie.Need-loop-i-preserved invariant-loop decreases-loop
-loop-again c =
+loop-i-preserved : tie.Need-loop-i-preserved invariant-loop decreases-loop
+loop-i-preserved c =
     let l = c.loop-i in
     let start = c in
     let args = start.args in
@@ -75,20 +75,20 @@ loop-again c =
           next (omega arith) one.ensures.0 (l.invariant.2 p g e holds),
     )
 
-block-count-requires : tie.Need-block_count-requires invariant-loop decreases-loop
-block-count-requires c κs = search rules
+block_count-requires : tie.Need-block_count-requires invariant-loop decreases-loop
+block_count-requires c κs = search rules
 
-add-work-2 : tie.Need-overflow_add-work-2 invariant-loop decreases-loop
-add-work-2 c = search rules
+overflow_add-work-2 : tie.Need-overflow_add-work-2 invariant-loop decreases-loop
+overflow_add-work-2 c = search rules
 
-mul-work-2 : tie.Need-offset_bounds-work-block_count invariant-loop decreases-loop
-mul-work-2 c = search rules
+offset_bounds-work-block_count : tie.Need-offset_bounds-work-block_count invariant-loop decreases-loop
+offset_bounds-work-block_count c = search rules
 
-slice-write-work-2 : tie.Need-bounds-work-block_count invariant-loop decreases-loop
-slice-write-work-2 c = search rules
+bounds-work-block_count : tie.Need-bounds-work-block_count invariant-loop decreases-loop
+bounds-work-block_count c = search rules
 
-same_length : tie.Need-shape_of-work invariant-loop decreases-loop
-same_length c = search rules
+shape_of-work : tie.Need-shape_of-work invariant-loop decreases-loop
+shape_of-work c = search rules
 
 returns : tie.Need-returns invariant-loop decreases-loop
 returns c =
@@ -103,4 +103,25 @@ returns c =
 pub put_starts_spec : {M : Type 1} → statement M
 put_starts_spec =
     tie.close
-    (tie.spec invariant-loop decreases-loop loop-holds sub-i add-one-if-same mul-one-if-same slice-read-one-if-same cast-one-if-same one-if-same-requires add-m add-work mul-work slice-write-work loop-less loop-again block-count-requires add-work-2 mul-work-2 slice-write-work-2 same_length returns)
+    (tie.spec
+    invariant-loop
+    decreases-loop
+    loop-i-init
+    overflow_sub-i
+    overflow_add-i
+    offset_bounds-work-i
+    bounds-work-i
+    overflow_cast-h
+    one_if_same-m-requires
+    overflow_add-m
+    overflow_add-work
+    offset_bounds-work-i-in-loop-i
+    bounds-work-i-in-loop-i
+    loop-i-smaller
+    loop-i-preserved
+    block_count-requires
+    overflow_add-work-2
+    offset_bounds-work-block_count
+    bounds-work-block_count
+    shape_of-work
+    returns)

@@ -10,29 +10,35 @@ use mathlib.Core.Path.{sym, ap, ◌∙◌}
 use Rattle.session_start.proofs.threshold.threshold_word.Statement.{statement}
 use Rattle.session_start.proofs.threshold.threshold_word.Tie as tie
 
-enum-known-scoring : tie.Need-enum_known-scoring
-enum-known-scoring c = search rules
+enum_known-scoring : tie.Need-enum_known-scoring
+enum_known-scoring c = search rules
 
 biased-requires : tie.Need-biased-requires
 biased-requires c κs = search rules
 
-enum-known-scoring-2 : tie.Need-enum_known-scoring-in-Jaccard-1
-enum-known-scoring-2 c = search rules
+enum_known-scoring-in-Jaccard-1 : tie.Need-enum_known-scoring-in-Jaccard-1
+enum_known-scoring-in-Jaccard-1 c = search rules
 
-fraction-word-requires : tie.Need-fraction_word-requires
-fraction-word-requires c κs =
+fraction_word-requires : tie.Need-fraction_word-requires
+fraction_word-requires c κs =
     let pre = c.requires in
     small_fraction c.in-Jaccard.f c.in-Jaccard.g (sym (ap bad_scoring c.in-Jaccard.is) ∙ pre)
 
-returns : tie.Need-returns-in-Linear
-returns c =
+returns-in-Linear : tie.Need-returns-in-Linear
+returns-in-Linear c =
     let same = to_z-of_z {w = w32} {z = c.in-Linear.threshold} (sfits_of c.in-Linear.known_told-1-own.given.1.1.0.1) in
     c.biased.ensures ∙ ap biased_z same ∙ sym (ap threshold_word c.in-Linear.is)
 
-returns-2 : tie.Need-returns-in-Jaccard
-returns-2 c = c.fraction_word.ensures ∙ sym (ap threshold_word c.in-Jaccard.is)
+returns-in-Jaccard : tie.Need-returns-in-Jaccard
+returns-in-Jaccard c = c.fraction_word.ensures ∙ sym (ap threshold_word c.in-Jaccard.is)
 
 pub threshold_word_spec : {M : Type 1} → statement M
 threshold_word_spec =
     tie.close
-    (tie.spec enum-known-scoring biased-requires enum-known-scoring-2 fraction-word-requires returns returns-2)
+    (tie.spec
+    enum_known-scoring
+    biased-requires
+    enum_known-scoring-in-Jaccard-1
+    fraction_word-requires
+    returns-in-Linear
+    returns-in-Jaccard)

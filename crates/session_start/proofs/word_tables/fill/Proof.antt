@@ -16,26 +16,26 @@ invariant-loop word n at work₀ i₀ work i = (i ≤ n) × (length work ≡ len
 abbrev decreases-loop : tie.decreases-loop-i
 decreases-loop word n at work₀ i₀ work i = n - i
 
-loop-holds : tie.Need-loop-i-init invariant-loop decreases-loop
-loop-holds c = let args = c.args in (zero-le, refl, stored_none args.at (replicate args.n args.word) args.work.now)
+loop-i-init : tie.Need-loop-i-init invariant-loop decreases-loop
+loop-i-init c = let args = c.args in (zero-le, refl, stored_none args.at (replicate args.n args.word) args.work.now)
 
-add-work : tie.Need-overflow_add-work invariant-loop decreases-loop
-add-work c = search rules
+overflow_add-work : tie.Need-overflow_add-work invariant-loop decreases-loop
+overflow_add-work c = search rules
 
-mul-work : tie.Need-offset_bounds-work-at invariant-loop decreases-loop
-mul-work c = search rules
+offset_bounds-work-at : tie.Need-offset_bounds-work-at invariant-loop decreases-loop
+offset_bounds-work-at c = search rules
 
-slice-write-work : tie.Need-bounds-work-at invariant-loop decreases-loop
-slice-write-work c = search rules
+bounds-work-at : tie.Need-bounds-work-at invariant-loop decreases-loop
+bounds-work-at c = search rules
 
-add-i : tie.Need-overflow_add-i invariant-loop decreases-loop
-add-i c = search rules
+overflow_add-i : tie.Need-overflow_add-i invariant-loop decreases-loop
+overflow_add-i c = search rules
 
-loop-less : tie.Need-loop-i-smaller invariant-loop decreases-loop
-loop-less c = search rules
+loop-i-smaller : tie.Need-loop-i-smaller invariant-loop decreases-loop
+loop-i-smaller c = search rules
 
-loop-again : tie.Need-loop-i-preserved invariant-loop decreases-loop
-loop-again c =
+loop-i-preserved : tie.Need-loop-i-preserved invariant-loop decreases-loop
+loop-i-preserved c =
     let l = c.loop-i in
     let args = c.args in
     let m : length (replicate args.n args.word) ≡ args.n = length-replicate args.n args.word in
@@ -46,8 +46,8 @@ loop-again c =
           (sym (get_or-replicate args.n l.i args.word 0 h)),
     )
 
-same_length : tie.Need-shape_of-work invariant-loop decreases-loop
-same_length c = search rules
+shape_of-work : tie.Need-shape_of-work invariant-loop decreases-loop
+shape_of-work c = search rules
 
 returns : tie.Need-returns invariant-loop decreases-loop
 returns c =
@@ -59,4 +59,15 @@ returns c =
 pub fill_spec : {M : Type 1} → statement M
 fill_spec =
     tie.close
-    (tie.spec invariant-loop decreases-loop loop-holds add-work mul-work slice-write-work add-i loop-less loop-again same_length returns)
+    (tie.spec
+    invariant-loop
+    decreases-loop
+    loop-i-init
+    overflow_add-work
+    offset_bounds-work-at
+    bounds-work-at
+    overflow_add-i
+    loop-i-smaller
+    loop-i-preserved
+    shape_of-work
+    returns)

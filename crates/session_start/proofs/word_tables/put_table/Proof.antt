@@ -16,32 +16,32 @@ invariant-loop words at work₀ i₀ work i = (i ≤ length words) × (length wo
 abbrev decreases-loop : tie.decreases-loop-i
 decreases-loop words at work₀ i₀ work i = length words - i
 
-loop-holds : tie.Need-loop-i-init invariant-loop decreases-loop
-loop-holds c = let args = c.args in (zero-le, refl, stored_none args.at args.words.now args.work.now)
+loop-i-init : tie.Need-loop-i-init invariant-loop decreases-loop
+loop-i-init c = let args = c.args in (zero-le, refl, stored_none args.at args.words.now args.work.now)
 
-mul-work : tie.Need-offset_bounds-words-i invariant-loop decreases-loop
-mul-work c = search rules
+offset_bounds-words-i : tie.Need-offset_bounds-words-i invariant-loop decreases-loop
+offset_bounds-words-i c = search rules
 
-shared-slice-read-work : tie.Need-bounds-words-i invariant-loop decreases-loop
-shared-slice-read-work c = search rules
+bounds-words-i : tie.Need-bounds-words-i invariant-loop decreases-loop
+bounds-words-i c = search rules
 
-add-work : tie.Need-overflow_add-work invariant-loop decreases-loop
-add-work c = search rules
+overflow_add-work : tie.Need-overflow_add-work invariant-loop decreases-loop
+overflow_add-work c = search rules
 
-mul-work-2 : tie.Need-offset_bounds-work-at invariant-loop decreases-loop
-mul-work-2 c = search rules
+offset_bounds-work-at : tie.Need-offset_bounds-work-at invariant-loop decreases-loop
+offset_bounds-work-at c = search rules
 
-slice-write-work : tie.Need-bounds-work-at invariant-loop decreases-loop
-slice-write-work c = search rules
+bounds-work-at : tie.Need-bounds-work-at invariant-loop decreases-loop
+bounds-work-at c = search rules
 
-add-i : tie.Need-overflow_add-i invariant-loop decreases-loop
-add-i c = search rules
+overflow_add-i : tie.Need-overflow_add-i invariant-loop decreases-loop
+overflow_add-i c = search rules
 
-loop-less : tie.Need-loop-i-smaller invariant-loop decreases-loop
-loop-less c = search rules
+loop-i-smaller : tie.Need-loop-i-smaller invariant-loop decreases-loop
+loop-i-smaller c = search rules
 
-loop-again : tie.Need-loop-i-preserved invariant-loop decreases-loop
-loop-again c =
+loop-i-preserved : tie.Need-loop-i-preserved invariant-loop decreases-loop
+loop-i-preserved c =
     let l = c.loop-i in
     let args = c.args in (
       omega arith,
@@ -50,8 +50,8 @@ loop-again c =
           c.loop-i-test.true refl,
     )
 
-same_length : tie.Need-shape_of-work invariant-loop decreases-loop
-same_length c = search rules
+shape_of-work : tie.Need-shape_of-work invariant-loop decreases-loop
+shape_of-work c = search rules
 
 returns : tie.Need-returns invariant-loop decreases-loop
 returns c =
@@ -62,4 +62,17 @@ returns c =
 pub put_table_spec : {M : Type 1} → statement M
 put_table_spec =
     tie.close
-    (tie.spec invariant-loop decreases-loop loop-holds mul-work shared-slice-read-work add-work mul-work-2 slice-write-work add-i loop-less loop-again same_length returns)
+    (tie.spec
+    invariant-loop
+    decreases-loop
+    loop-i-init
+    offset_bounds-words-i
+    bounds-words-i
+    overflow_add-work
+    offset_bounds-work-at
+    bounds-work-at
+    overflow_add-i
+    loop-i-smaller
+    loop-i-preserved
+    shape_of-work
+    returns)

@@ -23,14 +23,14 @@ carries a b h l = go (ltb a b) refl
     go true e = let m : a < b = ltb-true a b e in omega arith
     go false e = let m : b ≤ a = ltb-false a b e in omega arith
 
-add-result : tie.Need-overflow_add-result
-add-result c = search rules
+overflow_add-result : tie.Need-overflow_add-result
+overflow_add-result c = search rules
 
-sub-result : tie.Need-overflow_sub-result
-sub-result c = search rules
+overflow_sub-result : tie.Need-overflow_sub-result
+overflow_sub-result c = search rules
 
 returns : tie.Need-returns
 returns c = carries c.args.a c.args.b c.ranges.a.fits c.ranges.b.fits
 
 pub one_if_below_spec : {M : Type 1} → statement M
-one_if_below_spec = tie.close (tie.spec add-result sub-result returns)
+one_if_below_spec = tie.close (tie.spec overflow_add-result overflow_sub-result returns)

@@ -7,14 +7,14 @@ use Rattle.store_load.proofs.format.is_code_word.Tie as tie
 kind-requires : tie.Need-kind-requires
 kind-requires c κs = search rules
 
-returns : tie.Need-returns-then-kind-ne1
-returns c = simp (← c.kind.ensures, ne_eqb _ _ c.if-kind-ne1.true)
+returns-then-kind-ne1 : tie.Need-returns-then-kind-ne1
+returns-then-kind-ne1 c = simp (← c.kind.ensures, ne_eqb _ _ c.if-kind-ne1.true)
 
 content-requires : tie.Need-content-requires
 content-requires c κs = search rules
 
-returns-2 : tie.Need-returns
-returns-2 c = simp (c.content.ensures, ← c.kind.ensures, eq-eqb _ _ c.if-kind-ne1.false)
+returns : tie.Need-returns
+returns c = simp (c.content.ensures, ← c.kind.ensures, eq-eqb _ _ c.if-kind-ne1.false)
 
 pub is_code_word_spec : {M : Type 1} → statement M
-is_code_word_spec = tie.close (tie.spec kind-requires returns content-requires returns-2)
+is_code_word_spec = tie.close (tie.spec kind-requires returns-then-kind-ne1 content-requires returns)

@@ -8,28 +8,28 @@ use Rattle.store_load.proofs.format.is_header.Tie as tie
 kind-requires : tie.Need-kind-requires
 kind-requires c κs = search rules
 
-returns : tie.Need-returns-then-kind-ne0
+returns-then-kind-ne0 : tie.Need-returns-then-kind-ne0
 unfolding is_header
-returns c = simp (← c.kind.ensures, ne_eqb _ _ c.if-kind-ne0.true)
+returns-then-kind-ne0 c = simp (← c.kind.ensures, ne_eqb _ _ c.if-kind-ne0.true)
 
 content-requires : tie.Need-content-requires
 content-requires c κs = search rules
 
-returns-2 : tie.Need-returns-then-content-ge-HEADER_LIMIT
+returns-then-content-ge-HEADER_LIMIT : tie.Need-returns-then-content-ge-HEADER_LIMIT
 unfolding is_header
-returns-2 c =
+returns-then-content-ge-HEADER_LIMIT c =
     let d = c in
     simp (← d.kind.ensures, eq-eqb _ _ d.if-kind-ne0.false, ← c.content.ensures, le-ltb _ _ c.if-content-ge-HEADER_LIMIT.true)
 
-header-k-requires : tie.Need-header_k-requires
-header-k-requires c κs = search rules
+header_k-requires : tie.Need-header_k-requires
+header_k-requires c κs = search rules
 
 outside-requires : tie.Need-outside-requires
 outside-requires c κs = search rules
 
-returns-3 : tie.Need-returns-then-outside
+returns-then-outside : tie.Need-returns-then-outside
 unfolding is_header
-returns-3 c =
+returns-then-outside c =
     let d = c.before.before.before in
     let e = d.before.before in
     simp (
@@ -42,15 +42,15 @@ returns-3 c =
       eq-eqb _ _ e.if-kind-ne0.false,
     )
 
-header-w-requires : tie.Need-header_w-requires
-header-w-requires c κs = search rules
+header_w-requires : tie.Need-header_w-requires
+header_w-requires c κs = search rules
 
 outside-requires-2 : tie.Need-outside-requires-2
 outside-requires-2 c κs = search rules
 
-returns-4 : tie.Need-returns
+returns : tie.Need-returns
 unfolding is_header
-returns-4 c =
+returns c =
     let k = c.before.before in
     let d = k.before.before.before in
     let e = d.before.before in
@@ -69,4 +69,14 @@ returns-4 c =
 pub is_header_spec : {M : Type 1} → statement M
 is_header_spec =
     tie.close
-    (tie.spec kind-requires returns content-requires returns-2 header-k-requires outside-requires returns-3 header-w-requires outside-requires-2 returns-4)
+    (tie.spec
+    kind-requires
+    returns-then-kind-ne0
+    content-requires
+    returns-then-content-ge-HEADER_LIMIT
+    header_k-requires
+    outside-requires
+    returns-then-outside
+    header_w-requires
+    outside-requires-2
+    returns)

@@ -7,18 +7,18 @@ use Rattle.store_load.proofs.format.is_position_word.Tie as tie
 kind-requires : tie.Need-kind-requires
 kind-requires c κs = search rules
 
-returns : tie.Need-returns-then-kind-ne2
-returns c = simp (← c.kind.ensures, ne_eqb _ _ c.if-kind-ne2.true)
+returns-then-kind-ne2 : tie.Need-returns-then-kind-ne2
+returns-then-kind-ne2 c = simp (← c.kind.ensures, ne_eqb _ _ c.if-kind-ne2.true)
 
 content-requires : tie.Need-content-requires
 content-requires c κs = search rules
 
-is-position-requires : tie.Need-is_position-requires
-is-position-requires c κs = search rules
+is_position-requires : tie.Need-is_position-requires
+is_position-requires c κs = search rules
 
-returns-2 : tie.Need-returns
-returns-2 c =
+returns : tie.Need-returns
+returns c =
     simp (c.is_position.ensures, c.content.ensures, ← c.kind.ensures, eq-eqb _ _ c.if-kind-ne2.false)
 
 pub is_position_word_spec : {M : Type 1} → statement M
-is_position_word_spec = tie.close (tie.spec kind-requires returns content-requires is-position-requires returns-2)
+is_position_word_spec = tie.close (tie.spec kind-requires returns-then-kind-ne2 content-requires is_position-requires returns)

@@ -32,14 +32,14 @@ abbrev decreases-loop : tie.decreases-loop-index
 decreases-loop words k limit index₀ n₀ low₀ index n low = length words - index
 
 -- places, each named for where it leads and from where
-abbrev in-loop-shared-slice-known2 : tie.After-shared_slice_known-in-loop-index-1 invariant-loop decreases-loop → tie.In-loop-index invariant-loop decreases-loop
-in-loop-shared-slice-known2 c = c.before
+abbrev in_loop_shared_slice_known2 : tie.After-shared_slice_known-in-loop-index-1 invariant-loop decreases-loop → tie.In-loop-index invariant-loop decreases-loop
+in_loop_shared_slice_known2 c = c.before
 
-abbrev in-loop-else1 : tie.Else-kind-eq3 invariant-loop decreases-loop → tie.In-loop-index invariant-loop decreases-loop
-in-loop-else1 c = c.before.before.before
+abbrev in_loop_else1 : tie.Else-kind-eq3 invariant-loop decreases-loop → tie.In-loop-index invariant-loop decreases-loop
+in_loop_else1 c = c.before.before.before
 
-abbrev else3-shared-slice-known3 : tie.After-shared_slice_known-in-loop-index-2-1 invariant-loop decreases-loop → tie.Else-words-next invariant-loop decreases-loop
-else3-shared-slice-known3 c = c.before
+abbrev else3_shared_slice_known3 : tie.After-shared_slice_known-in-loop-index-2-1 invariant-loop decreases-loop → tie.Else-words-next invariant-loop decreases-loop
+else3_shared_slice_known3 c = c.before
 
 -- what judging finds from this turn's first word on, it finds in all words
 turn :
@@ -55,44 +55,44 @@ turn c e =
     ∙ l.invariant.2
 
 -- the test of this turn's first word, against the limit that was computed
-code-test :
+code_test :
     (c : tie.After-is_code_word invariant-loop decreases-loop) →
-    let d = in-loop-else1 c.before in
+    let d = in_loop_else1 c.before in
     let a = d.args in
     c.is_code_word.result ≡ is_code_word a.k (get_or a.words.now d.loop-index.index 0)
-code-test c =
-    let d = in-loop-else1 c.before in
+code_test c =
+    let d = in_loop_else1 c.before in
     let s = d in
     let x = get_or s.args.words.now d.loop-index.index 0 in
     let limit = d.code_limit-limit in
     c.is_code_word.ensures
     ∙ ap (λ (b : Bool). eqb (kind x) 1 && b) (sym (is_code_limit s.args.k limit.result (content x) s.requires.1 limit.ensures))
 
-code-word :
+code_word :
     (c : tie.Else-not-is_code_word invariant-loop decreases-loop) →
     let d = c in
     let a = d.args in
     is_code_word a.k (get_or a.words.now d.loop-index.index 0) ≡ true
-code-word c = sym (code-test c.before) ∙ not-false c.is_code_word.result c.if-not-is_code_word.false-raw
+code_word c = sym (code_test c.before) ∙ not-false c.is_code_word.result c.if-not-is_code_word.false-raw
 
-position-test :
+position_test :
     (c : tie.After-is_position_word invariant-loop decreases-loop) →
     let d = c in
     let a = d.args in
     c.is_position_word.result ≡ is_position_word d.loop-index.low (get_or a.words.now (suc d.loop-index.index) 0)
-position-test c = rw (add-one c.loop-index.index) at c.is_position_word.ensures
+position_test c = rw (add-one c.loop-index.index) at c.is_position_word.ensures
 
 -- what judging finds from this turn's two words on, it finds in all words
 turn₂ :
     (c : tie.Else-words-next invariant-loop decreases-loop) {j : Judged} →
-    let d = in-loop-else1 c.before.before.before in
+    let d = in_loop_else1 c.before.before.before in
     let a = d.args in
     let l = d.loop-index in
     let ws = a.words.now in
     judge_from a.k l.index l.n l.low (get_or ws l.index 0 ∷ get_or ws (suc l.index) 0 ∷ drop (suc (suc l.index)) ws) ≡ j →
     counted l.n j ≡ counted 0 (judge_from a.k 1 0 0 (drop 1 ws))
 turn₂ c e =
-    let d = in-loop-else1 c.before.before.before in
+    let d = in_loop_else1 c.before.before.before in
     let a = d.args in
     let l = d.loop-index in
     let ws = a.words.now in
@@ -100,53 +100,53 @@ turn₂ c e =
     turn d
     (ap (λ (rest : List ℕ). judge_from a.k l.index l.n l.low (get_or ws l.index 0 ∷ rest)) (drop-cons ws (suc l.index) 0 inside) ∙ e)
 
-code-limit-requires : tie.Need-code_limit-limit-requires invariant-loop decreases-loop
-code-limit-requires c κs = search rules
+code_limit-limit-requires : tie.Need-code_limit-limit-requires invariant-loop decreases-loop
+code_limit-limit-requires c κs = search rules
 
-loop-holds : tie.Need-loop-index-init invariant-loop decreases-loop
-loop-holds c = (search rules, refl, refl)
+loop-index-init : tie.Need-loop-index-init invariant-loop decreases-loop
+loop-index-init c = (search rules, refl, refl)
 
-mul-first : tie.Need-offset_bounds-words-index invariant-loop decreases-loop
-mul-first c = search rules
+offset_bounds-words-index : tie.Need-offset_bounds-words-index invariant-loop decreases-loop
+offset_bounds-words-index c = search rules
 
-shared-slice-read-first : tie.Need-bounds-words-index invariant-loop decreases-loop
-shared-slice-read-first c = search rules
+bounds-words-index : tie.Need-bounds-words-index invariant-loop decreases-loop
+bounds-words-index c = search rules
 
 kind-requires : tie.Need-kind-requires invariant-loop decreases-loop
 kind-requires c κs = search rules
 
-judge-last-requires : tie.Need-judge_last-requires invariant-loop decreases-loop
-judge-last-requires c κs = search rules
+judge_last-requires : tie.Need-judge_last-requires invariant-loop decreases-loop
+judge_last-requires c κs = search rules
 
-returns : tie.Need-returns-then-kind-eq3 invariant-loop decreases-loop
-returns c =
-    let d = in-loop-shared-slice-known2 c.before.before.before in
+returns-then-kind-eq3 : tie.Need-returns-then-kind-eq3 invariant-loop decreases-loop
+returns-then-kind-eq3 c =
+    let d = in_loop_shared_slice_known2 c.before.before.before in
     let a = d.args in
     let l = d.loop-index in
     let x = get_or a.words.now l.index 0 in
     let third : eqb (kind x) 3 ≡ true = eq-eqb (kind x) 3 (sym c.kind.ensures ∙ c.if-kind-eq3.true) in
     c.judge_last.ensures ∙ turn d (judge_last_lem a.k l.index l.n l.low x (drop (suc l.index) a.words.now) third)
 
-is-code-word-requires : tie.Need-is_code_word-requires invariant-loop decreases-loop
-is-code-word-requires c κs = search rules
+is_code_word-requires : tie.Need-is_code_word-requires invariant-loop decreases-loop
+is_code_word-requires c κs = search rules
 
-returns-2 : tie.Need-returns-then-not-is_code_word invariant-loop decreases-loop
-returns-2 c =
+returns-then-not-is_code_word : tie.Need-returns-then-not-is_code_word invariant-loop decreases-loop
+returns-then-not-is_code_word c =
     let e = c.before.before in
     let d = e.before.before.before in
     let a = d.args in
     let l = d.loop-index in
     let x = get_or a.words.now l.index 0 in
     let other : eqb (kind x) 3 ≡ false = ap (λ (t : ℕ). eqb t 3) (sym e.kind.ensures) ∙ ne_eqb e.kind.result 3 e.if-kind-eq3.false in
-    let no_code : is_code_word a.k x ≡ false = sym (code-test c.before) ∙ not-true c.is_code_word.result c.if-not-is_code_word.true-raw in
+    let no_code : is_code_word a.k x ≡ false = sym (code_test c.before) ∙ not-true c.is_code_word.result c.if-not-is_code_word.true-raw in
     turn d (judge_first a.k l.index l.n l.low x (drop (suc l.index) a.words.now) other no_code)
 
-add-next : tie.Need-overflow_add-next invariant-loop decreases-loop
-add-next c = search rules
+overflow_add-next : tie.Need-overflow_add-next invariant-loop decreases-loop
+overflow_add-next c = search rules
 
-returns-3 : tie.Need-returns-then-words-next invariant-loop decreases-loop
-returns-3 c =
-    let d = in-loop-else1 c.before.before.before in
+returns-then-words-next : tie.Need-returns-then-words-next invariant-loop decreases-loop
+returns-then-words-next c =
+    let d = in_loop_else1 c.before.before.before in
     let a = d.args in
     let l = d.loop-index in
     let x = get_or a.words.now l.index 0 in
@@ -154,63 +154,63 @@ returns-3 c =
     ap (λ (i : ℕ). refused 14 (i ∷ [])) (add-one l.index)
     ∙ turn d
     (ap (λ (rest : List ℕ). judge_from a.k l.index l.n l.low (x ∷ rest)) (drop_of_length-le a.words.now end)
-    ∙ judge_half a.k l.index l.n l.low x (code-word c.before))
+    ∙ judge_half a.k l.index l.n l.low x (code_word c.before))
 
-mul-second : tie.Need-offset_bounds-words-next invariant-loop decreases-loop
-mul-second c = search rules
+offset_bounds-words-next : tie.Need-offset_bounds-words-next invariant-loop decreases-loop
+offset_bounds-words-next c = search rules
 
-shared-slice-read-second : tie.Need-bounds-words-next invariant-loop decreases-loop
-shared-slice-read-second c = search rules
+bounds-words-next : tie.Need-bounds-words-next invariant-loop decreases-loop
+bounds-words-next c = search rules
 
-is-position-word-requires : tie.Need-is_position_word-requires invariant-loop decreases-loop
-is-position-word-requires c κs = search rules
+is_position_word-requires : tie.Need-is_position_word-requires invariant-loop decreases-loop
+is_position_word-requires c κs = search rules
 
-returns-4 : tie.Need-returns-then-not-is_position_word invariant-loop decreases-loop
-returns-4 c =
+returns-then-not-is_position_word : tie.Need-returns-then-not-is_position_word invariant-loop decreases-loop
+returns-then-not-is_position_word c =
     let f = c.before.before.before in
     let d = f in
     let a = d.args in
     let l = d.loop-index in
     let ws = a.words.now in
     let y = get_or ws (suc l.index) 0 in
-    let no-position : is_position_word l.low y ≡ false =
-    sym (position-test c.before) ∙ not-true c.is_position_word.result c.if-not-is_position_word.true-raw
+    let no_position : is_position_word l.low y ≡ false =
+    sym (position_test c.before) ∙ not-true c.is_position_word.result c.if-not-is_position_word.true-raw
     in
     ap (λ (i : ℕ). refused 13 (i ∷ [])) (add-one l.index)
     ∙ turn₂ f
-    (judge_second a.k l.index l.n l.low (get_or ws l.index 0) y (drop (suc (suc l.index)) ws) (code-word f.before) no-position)
+    (judge_second a.k l.index l.n l.low (get_or ws l.index 0) y (drop (suc (suc l.index)) ws) (code_word f.before) no_position)
 
-content-requires : tie.Need-content-low-requires invariant-loop decreases-loop
-content-requires c κs = search rules
+content-low-requires : tie.Need-content-low-requires invariant-loop decreases-loop
+content-low-requires c κs = search rules
 
-position-word :
+position_word :
     (c : tie.Else-not-is_position_word invariant-loop decreases-loop) →
     let d = c in
     let a = d.args in
     is_position_word d.loop-index.low (get_or a.words.now (suc d.loop-index.index) 0) ≡ true
-position-word c = sym (position-test c.before) ∙ not-false c.is_position_word.result c.if-not-is_position_word.false-raw
+position_word c = sym (position_test c.before) ∙ not-false c.is_position_word.result c.if-not-is_position_word.false-raw
 
-add_low : tie.Need-overflow_add-low invariant-loop decreases-loop
-add_low c =
+overflow_add-low : tie.Need-overflow_add-low invariant-loop decreases-loop
+overflow_add-low c =
     let d = c in
     let l = d.loop-index in
     let y = get_or d.args.words.now (suc l.index) 0 in
-    let range = is_position_range l.low (content y) (and_right (eqb (kind y) 2) (is_position l.low (content y)) (position-word c.before)) in
+    let range = is_position_range l.low (content y) (and_right (eqb (kind y) 2) (is_position l.low (content y)) (position_word c.before)) in
     let same : c.content-low.result ≡ content y = rw (add-one l.index) at c.content-low.ensures in
     omega (arith, range.1)
 
-add-n : tie.Need-overflow_add-n invariant-loop decreases-loop
-add-n c = search rules
+overflow_add-n : tie.Need-overflow_add-n invariant-loop decreases-loop
+overflow_add-n c = search rules
 
-add-index : tie.Need-overflow_add-index invariant-loop decreases-loop
-add-index c = search rules
+overflow_add-index : tie.Need-overflow_add-index invariant-loop decreases-loop
+overflow_add-index c = search rules
 
-loop-less : tie.Need-loop-index-smaller invariant-loop decreases-loop
-loop-less c = search rules
+loop-index-smaller : tie.Need-loop-index-smaller invariant-loop decreases-loop
+loop-index-smaller c = search rules
 
-loop-again : tie.Need-loop-index-preserved invariant-loop decreases-loop
-loop-again c =
-    let f = else3-shared-slice-known3 c.before.before.before in
+loop-index-preserved : tie.Need-loop-index-preserved invariant-loop decreases-loop
+loop-index-preserved c =
+    let f = else3_shared_slice_known3 c.before.before.before in
     let d = f in
     let a = d.args in
     let l = d.loop-index in
@@ -220,16 +220,16 @@ loop-again c =
     let rest = judge_from a.k (suc (suc l.index)) (suc l.n) (suc (content y)) (drop (suc (suc l.index)) ws) in
     let found =
     turn₂ f
-    (judge_entry a.k l.index l.n l.low x y (drop (suc (suc l.index)) ws) (code-word f.before) (position-word c.before))
+    (judge_entry a.k l.index l.n l.low x y (drop (suc (suc l.index)) ws) (code_word f.before) (position_word c.before))
     in (
       omega arith,
       omega arith,
       simp (c.content-low.ensures, add-one, add-two) (counted_entry l.n (record { code = content x; position = content y }) rest ∙ found),
     )
 
-returns-5 : tie.Need-returns invariant-loop decreases-loop
+returns : tie.Need-returns invariant-loop decreases-loop
 unfolding judge_from
-returns-5 c =
+returns c =
     let a = c.args in
     let l = c.loop-index in
     ap (λ (rest : List ℕ). counted l.n (judge_from a.k l.index l.n l.low rest)) (sym (drop_of_length-le a.words.now c.loop-index-test.false))
@@ -238,4 +238,28 @@ returns-5 c =
 pub judge_spec : {M : Type 1} → statement M
 judge_spec =
     tie.close
-    (tie.spec invariant-loop decreases-loop code-limit-requires loop-holds mul-first shared-slice-read-first kind-requires judge-last-requires returns is-code-word-requires returns-2 add-next returns-3 mul-second shared-slice-read-second is-position-word-requires returns-4 content-requires add_low add-n add-index loop-less loop-again returns-5)
+    (tie.spec
+    invariant-loop
+    decreases-loop
+    code_limit-limit-requires
+    loop-index-init
+    offset_bounds-words-index
+    bounds-words-index
+    kind-requires
+    judge_last-requires
+    returns-then-kind-eq3
+    is_code_word-requires
+    returns-then-not-is_code_word
+    overflow_add-next
+    returns-then-words-next
+    offset_bounds-words-next
+    bounds-words-next
+    is_position_word-requires
+    returns-then-not-is_position_word
+    content-low-requires
+    overflow_add-low
+    overflow_add-n
+    overflow_add-index
+    loop-index-smaller
+    loop-index-preserved
+    returns)

@@ -11,29 +11,28 @@ use Rattle.store.specs.Load.{last_word}
 use Rattle.store_load.proofs.judging.judge_last.Statement.{statement}
 use Rattle.store_load.proofs.judging.judge_last.Tie as tie
 
--- places, each named for where it leads and from where
-mul-content : tie.Need-offset_bounds-words-index
-mul-content c = search rules
+offset_bounds-words-index : tie.Need-offset_bounds-words-index
+offset_bounds-words-index c = search rules
 
-shared-slice-read-content : tie.Need-bounds-words-index
-shared-slice-read-content c = search rules
+bounds-words-index : tie.Need-bounds-words-index
+bounds-words-index c = search rules
 
 content-requires : tie.Need-content-requires
 content-requires c κs = search rules
 
-cast-if1 : tie.Need-overflow_cast-content
-cast-if1 c = search rules
+overflow_cast-content : tie.Need-overflow_cast-content
+overflow_cast-content c = search rules
 
-returns : tie.Need-returns-then-content-n
+returns-then-content-n : tie.Need-returns-then-content-n
 unfolding last_word
-returns c = simp (← c.content.ensures, ne_eqb _ _ c.if-content-n.true)
+returns-then-content-n c = simp (← c.content.ensures, ne_eqb _ _ c.if-content-n.true)
 
-add-next : tie.Need-overflow_add-next
-add-next c = search rules
+overflow_add-next : tie.Need-overflow_add-next
+overflow_add-next c = search rules
 
-returns-2 : tie.Need-returns-then-next-words
+returns-then-next-words : tie.Need-returns-then-next-words
 unfolding last_word
-returns-2 c =
+returns-then-next-words c =
     let d = c in
     let a = d.args in
     let h : suc a.index < length a.words.now = omega arith in
@@ -44,9 +43,9 @@ returns-2 c =
       add-one,
     )
 
-returns-3 : tie.Need-returns
+returns : tie.Need-returns
 unfolding last_word
-returns-3 c =
+returns c =
     let d = c in
     let a = d.args in
     let h : length a.words.now ≤ suc a.index = omega arith in
@@ -60,4 +59,12 @@ returns-3 c =
 pub judge_last_spec : {M : Type 1} → statement M
 judge_last_spec =
     tie.close
-    (tie.spec mul-content shared-slice-read-content content-requires cast-if1 returns add-next returns-2 returns-3)
+    (tie.spec
+    offset_bounds-words-index
+    bounds-words-index
+    content-requires
+    overflow_cast-content
+    returns-then-content-n
+    overflow_add-next
+    returns-then-next-words
+    returns)

@@ -23,66 +23,65 @@ invariant-loop codes positions k limit low₀ i₀ low i =
 abbrev decreases-loop : tie.decreases-loop-i
 decreases-loop codes positions k limit low₀ i₀ low i = length codes - i
 
--- places, each named for where it leads and from where
-code-limit-requires : tie.Need-code_limit-limit-requires invariant-loop decreases-loop
-code-limit-requires c κs = search rules
+code_limit-limit-requires : tie.Need-code_limit-limit-requires invariant-loop decreases-loop
+code_limit-limit-requires c κs = search rules
 
-loop-holds : tie.Need-loop-i-init invariant-loop decreases-loop
-loop-holds c = (omega arith, refl)
+loop-i-init : tie.Need-loop-i-init invariant-loop decreases-loop
+loop-i-init c = (omega arith, refl)
 
-mul-if1 : tie.Need-offset_bounds-codes-i invariant-loop decreases-loop
-mul-if1 c = search rules
+offset_bounds-codes-i : tie.Need-offset_bounds-codes-i invariant-loop decreases-loop
+offset_bounds-codes-i c = search rules
 
-shared-slice-read-if1 : tie.Need-bounds-codes-i invariant-loop decreases-loop
-shared-slice-read-if1 c = search rules
+bounds-codes-i : tie.Need-bounds-codes-i invariant-loop decreases-loop
+bounds-codes-i c = search rules
 
 -- the test of this turn's code, against the limit that was computed
-code-test :
+code_test :
     (c : tie.In-loop-i invariant-loop decreases-loop) →
     let a = c.args in
     let code = get_or a.codes.now c.loop-i.i 0 in
     is_code a.k code ≡ ltb code c.code_limit-limit.result
-code-test c =
+code_test c =
     let s = c in
     let code = get_or s.args.codes.now c.loop-i.i 0 in
     is_code_limit s.args.k c.code_limit-limit.result code s.requires.0 c.code_limit-limit.ensures
 
-returns : tie.Need-returns-then-limit-codes invariant-loop decreases-loop
-returns c =
+returns-then-limit-codes : tie.Need-returns-then-limit-codes invariant-loop decreases-loop
+returns-then-limit-codes c =
     let d = c.before.before in
     let a = d.args in
     simp (
       ← d.loop-i.invariant.1,
       entries_drop a.codes.now a.positions.now d.loop-i.i (search rules) d.loop-i-test.true,
-      code-test d,
+      code_test d,
       le-ltb _ _ c.if-limit-codes.true,
     )
 
-mul-position : tie.Need-offset_bounds-positions-i invariant-loop decreases-loop
-mul-position c = search rules
+offset_bounds-positions-i : tie.Need-offset_bounds-positions-i invariant-loop decreases-loop
+offset_bounds-positions-i c = search rules
 
-shared-slice-read-position : tie.Need-bounds-positions-i invariant-loop decreases-loop
-shared-slice-read-position c = search rules
+bounds-positions-i : tie.Need-bounds-positions-i invariant-loop decreases-loop
+bounds-positions-i c = search rules
 
-is-position-requires : tie.Need-is_position-requires invariant-loop decreases-loop
-is-position-requires c κs = search rules
+is_position-requires : tie.Need-is_position-requires invariant-loop decreases-loop
+is_position-requires c κs = search rules
 
-returns-2 : tie.Need-returns-then-not-is_position invariant-loop decreases-loop
-returns-2 c =
+returns-then-not-is_position : tie.Need-returns-then-not-is_position invariant-loop decreases-loop
+returns-then-not-is_position c =
     let e = c.before.before.before in
     let d = e.before.before in
     let a = d.args in
     simp (
       ← d.loop-i.invariant.1,
       entries_drop a.codes.now a.positions.now d.loop-i.i (search rules) d.loop-i-test.true,
-      code-test d,
+      code_test d,
       lt-ltb _ _ e.if-limit-codes.false,
       ← c.is_position.ensures,
       not-true c.is_position.result c.if-not-is_position.true-raw,
     )
 
-add_low : tie.Need-overflow_add-low invariant-loop decreases-loop
-add_low c =
+overflow_add-low : tie.Need-overflow_add-low invariant-loop decreases-loop
+overflow_add-low c =
     let d = c in
     let p = d.args.positions.now in
     omega (
@@ -91,14 +90,14 @@ add_low c =
           (sym c.is_position.ensures ∙ not-false c.is_position.result c.if-not-is_position.false-raw),
     )
 
-add-i : tie.Need-overflow_add-i invariant-loop decreases-loop
-add-i c = search rules
+overflow_add-i : tie.Need-overflow_add-i invariant-loop decreases-loop
+overflow_add-i c = search rules
 
-loop-less : tie.Need-loop-i-smaller invariant-loop decreases-loop
-loop-less c = search rules
+loop-i-smaller : tie.Need-loop-i-smaller invariant-loop decreases-loop
+loop-i-smaller c = search rules
 
-loop-again : tie.Need-loop-i-preserved invariant-loop decreases-loop
-loop-again c =
+loop-i-preserved : tie.Need-loop-i-preserved invariant-loop decreases-loop
+loop-i-preserved c =
     let e = c.before.before.before in
     let d = e.before.before in
     let a = d.args in (
@@ -106,7 +105,7 @@ loop-again c =
       simp (
         ← d.loop-i.invariant.1,
         entries_drop a.codes.now a.positions.now d.loop-i.i (search rules) d.loop-i-test.true,
-        code-test d,
+        code_test d,
         lt-ltb _ _ e.if-limit-codes.false,
         ← c.is_position.ensures,
         not-false c.is_position.result c.if-not-is_position.false-raw,
@@ -114,8 +113,8 @@ loop-again c =
       ),
     )
 
-returns-3 : tie.Need-returns invariant-loop decreases-loop
-returns-3 c =
+returns : tie.Need-returns invariant-loop decreases-loop
+returns c =
     let a = c.args in
     let end : length a.codes.now ≤ c.loop-i.i = c.loop-i-test.false in
     simp (← c.loop-i.invariant.1, drop_of_length-le a.codes.now end)
@@ -123,4 +122,20 @@ returns-3 c =
 pub are_storable_spec : {M : Type 1} → statement M
 are_storable_spec =
     tie.close
-    (tie.spec invariant-loop decreases-loop code-limit-requires loop-holds mul-if1 shared-slice-read-if1 returns mul-position shared-slice-read-position is-position-requires returns-2 add_low add-i loop-less loop-again returns-3)
+    (tie.spec
+    invariant-loop
+    decreases-loop
+    code_limit-limit-requires
+    loop-i-init
+    offset_bounds-codes-i
+    bounds-codes-i
+    returns-then-limit-codes
+    offset_bounds-positions-i
+    bounds-positions-i
+    is_position-requires
+    returns-then-not-is_position
+    overflow_add-low
+    overflow_add-i
+    loop-i-smaller
+    loop-i-preserved
+    returns)

@@ -23,8 +23,8 @@ use Rattle.store_save.proofs.entries.write.Tie as tie
 
 module _ (k : ℕ) (cs ps : List ℕ) (same : length cs ≡ length ps) (good : storable k 0 (entries cs ps) ≡ true) where
   -- the words at an index are in their ranges
-  storable-index : (i : ℕ) → i < length cs → (is_code k (get_or cs i 0) ≡ true) × (get_or ps i 0 < letter_limit)
-  storable-index i h =
+  storable_index : (i : ℕ) → i < length cs → (is_code k (get_or cs i 0) ≡ true) × (get_or ps i 0 < letter_limit)
+  storable_index i h =
       let size : length (entries cs ps) ≡ length cs = length_entries cs ps same in
       let at = storable_at k 0 (entries cs ps) i good (omega arith) in
       (rw (codes_entries cs ps same) at at.0, rw (positions_entries cs ps same) at at.1)
@@ -45,16 +45,15 @@ invariant-loop codes positions k w words₀ i₀ words i =
 abbrev decreases-loop : tie.decreases-loop-i
 decreases-loop codes positions k w words₀ i₀ words i = length codes - i
 
--- places, each named for where it leads and from where
 header-requires : tie.Need-header-requires invariant-loop decreases-loop
 header-requires c κs = search rules
 
-slice-write-words : tie.Need-bounds-words-0 invariant-loop decreases-loop
-slice-write-words c = search rules
+bounds-words-0 : tie.Need-bounds-words-0 invariant-loop decreases-loop
+bounds-words-0 c = search rules
 
-loop-holds : tie.Need-loop-i-init invariant-loop decreases-loop
+loop-i-init : tie.Need-loop-i-init invariant-loop decreases-loop
 unfolding stored
-loop-holds c =
+loop-i-init c =
     let a = c.args in
     let es = entries a.codes.now a.positions.now in
     let some : 0 < length a.words.now = omega arith in (
@@ -69,65 +68,65 @@ loop-holds c =
       },
     )
 
-mul-word : tie.Need-offset_bounds-codes-i invariant-loop decreases-loop
-mul-word c = search rules
+offset_bounds-codes-i : tie.Need-offset_bounds-codes-i invariant-loop decreases-loop
+offset_bounds-codes-i c = search rules
 
-shared-slice-read-word : tie.Need-bounds-codes-i invariant-loop decreases-loop
-shared-slice-read-word c = search rules
+bounds-codes-i : tie.Need-bounds-codes-i invariant-loop decreases-loop
+bounds-codes-i c = search rules
 
 word-requires : tie.Need-word-requires invariant-loop decreases-loop
 word-requires c κs =
     let d = c.before in
     let s = d in
     let i = d.loop-i.i in
-    let in-range = storable-index s.args.k s.args.codes.now s.args.positions.now s.requires.1.0 s.requires.1.1.0 i d.loop-i-test.true in
-    (lit< tt, code_fits s.args.k (get_or s.args.codes.now i 0) s.requires.0.0 in-range.0)
+    let in_range = storable_index s.args.k s.args.codes.now s.args.positions.now s.requires.1.0 s.requires.1.1.0 i d.loop-i-test.true in
+    (lit< tt, code_fits s.args.k (get_or s.args.codes.now i 0) s.requires.0.0 in_range.0)
 
-mul_words : tie.Need-overflow_mul-words invariant-loop decreases-loop
-mul_words c = search rules
+overflow_mul-words : tie.Need-overflow_mul-words invariant-loop decreases-loop
+overflow_mul-words c = search rules
 
-add_words : tie.Need-overflow_add-words invariant-loop decreases-loop
-add_words c = search rules
+overflow_add-words : tie.Need-overflow_add-words invariant-loop decreases-loop
+overflow_add-words c = search rules
 
-mul-words-2 : tie.Need-offset_bounds-words-i invariant-loop decreases-loop
-mul-words-2 c = omega arith
+offset_bounds-words-i : tie.Need-offset_bounds-words-i invariant-loop decreases-loop
+offset_bounds-words-i c = omega arith
 
-slice-write-words-2 : tie.Need-bounds-words-i invariant-loop decreases-loop
-slice-write-words-2 c = omega arith
+bounds-words-i : tie.Need-bounds-words-i invariant-loop decreases-loop
+bounds-words-i c = omega arith
 
-mul-word-2 : tie.Need-offset_bounds-positions-i invariant-loop decreases-loop
-mul-word-2 c = search rules
+offset_bounds-positions-i : tie.Need-offset_bounds-positions-i invariant-loop decreases-loop
+offset_bounds-positions-i c = search rules
 
-shared-slice-read-word-2 : tie.Need-bounds-positions-i invariant-loop decreases-loop
-shared-slice-read-word-2 c = search rules
+bounds-positions-i : tie.Need-bounds-positions-i invariant-loop decreases-loop
+bounds-positions-i c = search rules
 
-word-requires-2 : tie.Need-word-requires-in-loop-i invariant-loop decreases-loop
-word-requires-2 c κs =
+word-requires-in-loop-i : tie.Need-word-requires-in-loop-i invariant-loop decreases-loop
+word-requires-in-loop-i c κs =
     let d = c.before.before.before in
     let s = d in
     let i = d.loop-i.i in
-    omega (arith, (storable-index s.args.k s.args.codes.now s.args.positions.now s.requires.1.0 s.requires.1.1.0 i d.loop-i-test.true).1)
+    omega (arith, (storable_index s.args.k s.args.codes.now s.args.positions.now s.requires.1.0 s.requires.1.1.0 i d.loop-i-test.true).1)
 
-mul-words-3 : tie.Need-overflow_mul-words-in-loop-i invariant-loop decreases-loop
-mul-words-3 c = search rules
+overflow_mul-words-in-loop-i : tie.Need-overflow_mul-words-in-loop-i invariant-loop decreases-loop
+overflow_mul-words-in-loop-i c = search rules
 
-add-words-2 : tie.Need-overflow_add-words-in-loop-i invariant-loop decreases-loop
-add-words-2 c = search rules
+overflow_add-words-in-loop-i : tie.Need-overflow_add-words-in-loop-i invariant-loop decreases-loop
+overflow_add-words-in-loop-i c = search rules
 
-mul-words-4 : tie.Need-offset_bounds-words-i-in-loop-i invariant-loop decreases-loop
-mul-words-4 c = omega arith
+offset_bounds-words-i-in-loop-i : tie.Need-offset_bounds-words-i-in-loop-i invariant-loop decreases-loop
+offset_bounds-words-i-in-loop-i c = omega arith
 
-slice-write-words-3 : tie.Need-bounds-words-i-in-loop-i invariant-loop decreases-loop
-slice-write-words-3 c = simp length-set (omega arith)
+bounds-words-i-in-loop-i : tie.Need-bounds-words-i-in-loop-i invariant-loop decreases-loop
+bounds-words-i-in-loop-i c = simp length-set (omega arith)
 
-add-i : tie.Need-overflow_add-i invariant-loop decreases-loop
-add-i c = search rules
+overflow_add-i : tie.Need-overflow_add-i invariant-loop decreases-loop
+overflow_add-i c = search rules
 
-loop-less : tie.Need-loop-i-smaller invariant-loop decreases-loop
-loop-less c = search rules
+loop-i-smaller : tie.Need-loop-i-smaller invariant-loop decreases-loop
+loop-i-smaller c = search rules
 
-loop-again : tie.Need-loop-i-preserved invariant-loop decreases-loop
-loop-again c =
+loop-i-preserved : tie.Need-loop-i-preserved invariant-loop decreases-loop
+loop-i-preserved c =
     let d = c in
     let a = d.args in
     let l = d.loop-i in
@@ -143,30 +142,30 @@ loop-again c =
       rw (add-one l.i) (fill_next at₂ (simp length-set (omega arith)) (fill_next at₁ (omega arith) f)),
     )
 
-cast-word : tie.Need-overflow_cast-i invariant-loop decreases-loop
-cast-word c =
+overflow_cast-i : tie.Need-overflow_cast-i invariant-loop decreases-loop
+overflow_cast-i c =
     let s = c in
     omega (arith, few s.args.k s.args.codes.now s.args.positions.now s.requires.1.0 s.requires.1.1.0)
 
-word-requires-3 : tie.Need-word-requires-2 invariant-loop decreases-loop
-word-requires-3 c κs =
+word-requires-2 : tie.Need-word-requires-2 invariant-loop decreases-loop
+word-requires-2 c κs =
     let s = c in
     omega (arith, few s.args.k s.args.codes.now s.args.positions.now s.requires.1.0 s.requires.1.1.0)
 
-mul-words-5 : tie.Need-overflow_mul-words-2 invariant-loop decreases-loop
-mul-words-5 c = search rules
+overflow_mul-words-2 : tie.Need-overflow_mul-words-2 invariant-loop decreases-loop
+overflow_mul-words-2 c = search rules
 
-add-words-3 : tie.Need-overflow_add-words-2 invariant-loop decreases-loop
-add-words-3 c = search rules
+overflow_add-words-2 : tie.Need-overflow_add-words-2 invariant-loop decreases-loop
+overflow_add-words-2 c = search rules
 
-mul-words-6 : tie.Need-offset_bounds-words-i-2 invariant-loop decreases-loop
-mul-words-6 c = omega arith
+offset_bounds-words-i-2 : tie.Need-offset_bounds-words-i-2 invariant-loop decreases-loop
+offset_bounds-words-i-2 c = omega arith
 
-slice-write-words-4 : tie.Need-bounds-words-i-2 invariant-loop decreases-loop
-slice-write-words-4 c = search rules
+bounds-words-i-2 : tie.Need-bounds-words-i-2 invariant-loop decreases-loop
+bounds-words-i-2 c = search rules
 
-same_length : tie.Need-shape_of-words invariant-loop decreases-loop
-same_length c = simp length-set (c.loop-i.invariant.2.same_length ∙ simp length-set)
+shape_of-words : tie.Need-shape_of-words invariant-loop decreases-loop
+shape_of-words c = simp length-set (c.loop-i.invariant.2.same_length ∙ simp length-set)
 
 returns : tie.Need-returns invariant-loop decreases-loop
 returns c =
@@ -184,4 +183,34 @@ returns c =
 pub write_spec : {M : Type 1} → statement M
 write_spec =
     tie.close
-    (tie.spec invariant-loop decreases-loop header-requires slice-write-words loop-holds mul-word shared-slice-read-word word-requires mul_words add_words mul-words-2 slice-write-words-2 mul-word-2 shared-slice-read-word-2 word-requires-2 mul-words-3 add-words-2 mul-words-4 slice-write-words-3 add-i loop-less loop-again cast-word word-requires-3 mul-words-5 add-words-3 mul-words-6 slice-write-words-4 same_length returns)
+    (tie.spec
+    invariant-loop
+    decreases-loop
+    header-requires
+    bounds-words-0
+    loop-i-init
+    offset_bounds-codes-i
+    bounds-codes-i
+    word-requires
+    overflow_mul-words
+    overflow_add-words
+    offset_bounds-words-i
+    bounds-words-i
+    offset_bounds-positions-i
+    bounds-positions-i
+    word-requires-in-loop-i
+    overflow_mul-words-in-loop-i
+    overflow_add-words-in-loop-i
+    offset_bounds-words-i-in-loop-i
+    bounds-words-i-in-loop-i
+    overflow_add-i
+    loop-i-smaller
+    loop-i-preserved
+    overflow_cast-i
+    word-requires-2
+    overflow_mul-words-2
+    overflow_add-words-2
+    offset_bounds-words-i-2
+    bounds-words-i-2
+    shape_of-words
+    returns)

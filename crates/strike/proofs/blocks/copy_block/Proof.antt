@@ -10,53 +10,53 @@ use Rattle.strike.proofs.blocks.copy_block.Statement.{statement}
 use Rattle.strike.proofs.blocks.copy_block.Tie as tie
 
 -- places, each named for where it leads and from where
-abbrev mark-block-copy-marked-arg2 : tie.After-copy_marked-arg-1 → tie.After-mark_block-kept
-mark-block-copy-marked-arg2 c = c.before.before.before
+abbrev mark_block_copy_marked_arg2 : tie.After-copy_marked-arg-1 → tie.After-mark_block-kept
+mark_block_copy_marked_arg2 c = c.before.before.before
 
-abbrev mark-block-copy-marked : tie.After-copy_marked → tie.After-mark_block-kept
-mark-block-copy-marked c = c.before.before.before.before
+abbrev mark_block_copy_marked : tie.After-copy_marked → tie.After-mark_block-kept
+mark_block_copy_marked c = c.before.before.before.before
 
-abbrev copy-marked-copy-marked-arg4 : tie.After-copy_marked-arg-2-1 → tie.After-copy_marked
-copy-marked-copy-marked-arg4 c = c.before.before.before
+abbrev copy_marked_copy_marked_arg4 : tie.After-copy_marked-arg-2-1 → tie.After-copy_marked
+copy_marked_copy_marked_arg4 c = c.before.before.before
 
-abbrev copy-marked2-slice-known6 : tie.After-slice_known-6-1 → tie.After-copy_marked-2
-copy-marked2-slice-known6 c = c.before.before
+abbrev copy_marked2_slice_known6 : tie.After-slice_known-6-1 → tie.After-copy_marked-2
+copy_marked2_slice_known6 c = c.before.before
 
-abbrev copy-marked-copy-marked2 : tie.After-copy_marked-2 → tie.After-copy_marked
-copy-marked-copy-marked2 c = c.before.before.before.before
+abbrev copy_marked_copy_marked2 : tie.After-copy_marked-2 → tie.After-copy_marked
+copy_marked_copy_marked2 c = c.before.before.before.before
 
-mark-block-requires : tie.Need-mark_block-kept-requires
-mark-block-requires c κs = search rules
+mark_block-kept-requires : tie.Need-mark_block-kept-requires
+mark_block-kept-requires c κs = search rules
 
-copy-marked-requires : tie.Need-copy_marked-requires
-copy-marked-requires c κs =
-    let called = mark-block-copy-marked-arg2 c in
+copy_marked-requires : tie.Need-copy_marked-requires
+copy_marked-requires c κs =
+    let called = mark_block_copy_marked_arg2 c in
     let start = called in
     let can = copyable start.args.deciding.now start.args.codes.now start.args.codes.now called.mark_block-kept.new.marks
     start.args.c called.mark_block-kept.result refl called.mark_block-kept.ensures.1 called.mark_block-kept.ensures.0 in
     (can.0, (can.1, (can.2, rw called.mark_block-kept.ensures.0 start.requires.1.1.0)))
 
-copy-marked-requires-2 : tie.Need-copy_marked-requires-2
-copy-marked-requires-2 c κs =
-    let called = mark-block-copy-marked (copy-marked-copy-marked-arg4 c) in
+copy_marked-requires-2 : tie.Need-copy_marked-requires-2
+copy_marked-requires-2 c κs =
+    let called = mark_block_copy_marked (copy_marked_copy_marked_arg4 c) in
     let start = called in
     let can = copyable start.args.deciding.now start.args.codes.now start.args.positions.now called.mark_block-kept.new.marks
     start.args.c called.mark_block-kept.result (sym start.requires.0.2) called.mark_block-kept.ensures.1 called.mark_block-kept.ensures.0 in
     (can.0, (can.1, (can.2, rw called.mark_block-kept.ensures.0 start.requires.1.1.1)))
 
-same_length : tie.Need-shape_of-marks
-same_length c = search rules
+shape_of-marks : tie.Need-shape_of-marks
+shape_of-marks c = search rules
 
-same-length-2 : tie.Need-shape_of-codes_out
-same-length-2 c = search rules
+shape_of-codes_out : tie.Need-shape_of-codes_out
+shape_of-codes_out c = search rules
 
-same-length-3 : tie.Need-shape_of-positions_out
-same-length-3 c = search rules
+shape_of-positions_out : tie.Need-shape_of-positions_out
+shape_of-positions_out c = search rules
 
 returns : tie.Need-returns
 returns c =
-    let last = copy-marked2-slice-known6 c in
-    let first = copy-marked-copy-marked2 last in
+    let last = copy_marked2_slice_known6 c in
+    let first = copy_marked_copy_marked2 last in
     let called = first in
     let args = called.args in
     let marked : List ℕ → List ℕ → List ℕ → List ℕ = λ (words old marks : List ℕ). over (marked_words marks words) old in (
@@ -73,4 +73,11 @@ returns c =
 pub copy_block_spec : {M : Type 1} → statement M
 copy_block_spec =
     tie.close
-    (tie.spec mark-block-requires copy-marked-requires copy-marked-requires-2 same_length same-length-2 same-length-3 returns)
+    (tie.spec
+    mark_block-kept-requires
+    copy_marked-requires
+    copy_marked-requires-2
+    shape_of-marks
+    shape_of-codes_out
+    shape_of-positions_out
+    returns)

@@ -26,88 +26,88 @@ abbrev decreases-loop : tie.decreases-loop-from
 decreases-loop deciding codes positions c marks₀ codes-out₀ positions-out₀ at₀ from₀ marks codes-out positions-out at from = length codes - from
 
 -- places, each named for where it leads and from where
-abbrev turn-smaller : tie.After-smaller-n invariant-loop decreases-loop → tie.At-loop-from invariant-loop decreases-loop
-turn-smaller c = c.before.before
+abbrev turn_smaller : tie.After-smaller-n invariant-loop decreases-loop → tie.At-loop-from invariant-loop decreases-loop
+turn_smaller c = c.before.before
 
-abbrev smaller-copy-block-arg5 : tie.After-copy_block-arg-in-loop-from-4-1 invariant-loop decreases-loop → tie.After-smaller-n invariant-loop decreases-loop
-smaller-copy-block-arg5 c = c.before.before.before.before.before
+abbrev smaller_copy_block_arg5 : tie.After-copy_block-arg-in-loop-from-4-1 invariant-loop decreases-loop → tie.After-smaller-n invariant-loop decreases-loop
+smaller_copy_block_arg5 c = c.before.before.before.before.before
 
-abbrev smaller-copy-block : tie.After-copy_block-at invariant-loop decreases-loop → tie.After-smaller-n invariant-loop decreases-loop
-smaller-copy-block c = c.before.before.before.before.before.before
+abbrev smaller_copy_block : tie.After-copy_block-at invariant-loop decreases-loop → tie.After-smaller-n invariant-loop decreases-loop
+smaller_copy_block c = c.before.before.before.before.before.before
 
-abbrev copy-block-slice-known6 : tie.After-slice_known-in-loop-from-3-1 invariant-loop decreases-loop → tie.After-copy_block-at invariant-loop decreases-loop
-copy-block-slice-known6 c = c.before.before.before.before.before.before
+abbrev copy_block_slice_known6 : tie.After-slice_known-in-loop-from-3-1 invariant-loop decreases-loop → tie.After-copy_block-at invariant-loop decreases-loop
+copy_block_slice_known6 c = c.before.before.before.before.before.before
 
-loop-holds : tie.Need-loop-from-init invariant-loop decreases-loop
-loop-holds c = (omega arith, refl, refl, (refl, omega arith, refl), (refl, omega arith, refl), left_from_none _ _ _ _)
+loop-from-init : tie.Need-loop-from-init invariant-loop decreases-loop
+loop-from-init c = (omega arith, refl, refl, (refl, omega arith, refl), (refl, omega arith, refl), left_from_none _ _ _ _)
 
-sub-smaller : tie.Need-overflow_sub-codes invariant-loop decreases-loop
-sub-smaller c = search rules
+overflow_sub-codes : tie.Need-overflow_sub-codes invariant-loop decreases-loop
+overflow_sub-codes c = search rules
 
-smaller-requires : tie.Need-smaller-n-requires invariant-loop decreases-loop
-smaller-requires c κs = search rules
+smaller-n-requires : tie.Need-smaller-n-requires invariant-loop decreases-loop
+smaller-n-requires c κs = search rules
 
-add-to : tie.Need-overflow_add-to invariant-loop decreases-loop
-add-to c = search rules
+overflow_add-to : tie.Need-overflow_add-to invariant-loop decreases-loop
+overflow_add-to c = search rules
 
-mul-copy-block : tie.Need-offset_bounds-codes-from invariant-loop decreases-loop
-mul-copy-block c = search rules
+offset_bounds-codes-from : tie.Need-offset_bounds-codes-from invariant-loop decreases-loop
+offset_bounds-codes-from c = search rules
 
-sub-copy-block : tie.Need-slice_bounds-copy_block-count invariant-loop decreases-loop
-sub-copy-block c = search rules
+slice_bounds-copy_block-count : tie.Need-slice_bounds-copy_block-count invariant-loop decreases-loop
+slice_bounds-copy_block-count c = search rules
 
-part-copy-block-start : tie.Need-slice_bounds-copy_block-start invariant-loop decreases-loop
-part-copy-block-start c = search rules
+slice_bounds-copy_block-start : tie.Need-slice_bounds-copy_block-start invariant-loop decreases-loop
+slice_bounds-copy_block-start c = search rules
 
-part-copy-block-end : tie.Need-slice_bounds-copy_block-end invariant-loop decreases-loop
-part-copy-block-end c = search rules
+slice_bounds-copy_block-end : tie.Need-slice_bounds-copy_block-end invariant-loop decreases-loop
+slice_bounds-copy_block-end c = search rules
 
-mul-copy-block-2 : tie.Need-offset_bounds-positions-from invariant-loop decreases-loop
-mul-copy-block-2 c = search rules
+offset_bounds-positions-from : tie.Need-offset_bounds-positions-from invariant-loop decreases-loop
+offset_bounds-positions-from c = search rules
 
-sub-copy-block-2 : tie.Need-slice_bounds-copy_block-count-in-loop-from invariant-loop decreases-loop
-sub-copy-block-2 c = search rules
+slice_bounds-copy_block-count-in-loop-from : tie.Need-slice_bounds-copy_block-count-in-loop-from invariant-loop decreases-loop
+slice_bounds-copy_block-count-in-loop-from c = search rules
 
-part-copy-block-start-2 : tie.Need-slice_bounds-copy_block-start-in-loop-from invariant-loop decreases-loop
-part-copy-block-start-2 c = search rules
+slice_bounds-copy_block-start-in-loop-from : tie.Need-slice_bounds-copy_block-start-in-loop-from invariant-loop decreases-loop
+slice_bounds-copy_block-start-in-loop-from c = search rules
 
-part-copy-block-end-2 : tie.Need-slice_bounds-copy_block-end-in-loop-from invariant-loop decreases-loop
-part-copy-block-end-2 c = search rules
+slice_bounds-copy_block-end-in-loop-from : tie.Need-slice_bounds-copy_block-end-in-loop-from invariant-loop decreases-loop
+slice_bounds-copy_block-end-in-loop-from c = search rules
 
-slice-relend-prefix-copy-block : tie.Need-slice_bounds-copy_block-end-in-loop-from-2 invariant-loop decreases-loop
-slice-relend-prefix-copy-block c = search rules
+slice_bounds-copy_block-end-in-loop-from-2 : tie.Need-slice_bounds-copy_block-end-in-loop-from-2 invariant-loop decreases-loop
+slice_bounds-copy_block-end-in-loop-from-2 c = search rules
 
-slice-aggregate-copy-block : tie.Need-slice_bounds-copy_block-end-in-loop-from-3 invariant-loop decreases-loop
-slice-aggregate-copy-block c = sym (length-take-le _ _ (omega arith))
+slice_bounds-copy_block-end-in-loop-from-3 : tie.Need-slice_bounds-copy_block-end-in-loop-from-3 invariant-loop decreases-loop
+slice_bounds-copy_block-end-in-loop-from-3 c = sym (length-take-le _ _ (omega arith))
 
-mul-copy-block-3 : tie.Need-offset_bounds-codes_out-at invariant-loop decreases-loop
-mul-copy-block-3 c = search rules
+offset_bounds-codes_out-at : tie.Need-offset_bounds-codes_out-at invariant-loop decreases-loop
+offset_bounds-codes_out-at c = search rules
 
-sub-copy-block-3 : tie.Need-slice_bounds-copy_block-count-in-loop-from-2 invariant-loop decreases-loop
-sub-copy-block-3 c = search rules
+slice_bounds-copy_block-count-in-loop-from-2 : tie.Need-slice_bounds-copy_block-count-in-loop-from-2 invariant-loop decreases-loop
+slice_bounds-copy_block-count-in-loop-from-2 c = search rules
 
-part-copy-block-start-3 : tie.Need-slice_bounds-copy_block-start-in-loop-from-2 invariant-loop decreases-loop
-part-copy-block-start-3 c = search rules
+slice_bounds-copy_block-start-in-loop-from-2 : tie.Need-slice_bounds-copy_block-start-in-loop-from-2 invariant-loop decreases-loop
+slice_bounds-copy_block-start-in-loop-from-2 c = search rules
 
-part-copy-block-end-3 : tie.Need-slice_bounds-copy_block-end-in-loop-from-4 invariant-loop decreases-loop
-part-copy-block-end-3 c = search rules
+slice_bounds-copy_block-end-in-loop-from-4 : tie.Need-slice_bounds-copy_block-end-in-loop-from-4 invariant-loop decreases-loop
+slice_bounds-copy_block-end-in-loop-from-4 c = search rules
 
-mul-copy-block-4 : tie.Need-offset_bounds-positions_out-at invariant-loop decreases-loop
-mul-copy-block-4 c = search rules
+offset_bounds-positions_out-at : tie.Need-offset_bounds-positions_out-at invariant-loop decreases-loop
+offset_bounds-positions_out-at c = search rules
 
-sub-copy-block-4 : tie.Need-slice_bounds-copy_block-count-in-loop-from-3 invariant-loop decreases-loop
-sub-copy-block-4 c = search rules
+slice_bounds-copy_block-count-in-loop-from-3 : tie.Need-slice_bounds-copy_block-count-in-loop-from-3 invariant-loop decreases-loop
+slice_bounds-copy_block-count-in-loop-from-3 c = search rules
 
-part-copy-block-start-4 : tie.Need-slice_bounds-copy_block-start-in-loop-from-3 invariant-loop decreases-loop
-part-copy-block-start-4 c = search rules
+slice_bounds-copy_block-start-in-loop-from-3 : tie.Need-slice_bounds-copy_block-start-in-loop-from-3 invariant-loop decreases-loop
+slice_bounds-copy_block-start-in-loop-from-3 c = search rules
 
-part-copy-block-end-4 : tie.Need-slice_bounds-copy_block-end-in-loop-from-5 invariant-loop decreases-loop
-part-copy-block-end-4 c = search rules
+slice_bounds-copy_block-end-in-loop-from-5 : tie.Need-slice_bounds-copy_block-end-in-loop-from-5 invariant-loop decreases-loop
+slice_bounds-copy_block-end-in-loop-from-5 c = search rules
 
-copy-block-requires : tie.Need-copy_block-at-requires invariant-loop decreases-loop
-copy-block-requires c κs =
-    let called = smaller-copy-block-arg5 c in
-    let turn = turn-smaller called in
+copy_block-at-requires : tie.Need-copy_block-at-requires invariant-loop decreases-loop
+copy_block-at-requires c κs =
+    let called = smaller_copy_block_arg5 c in
+    let turn = turn_smaller called in
     let start = turn in
     let args = start.args in
     let n = called.smaller-n.result in
@@ -128,10 +128,10 @@ copy-block-requires c κs =
       ),
     )
 
-add_at : tie.Need-overflow_add-at invariant-loop decreases-loop
-add_at c =
-    let called = copy-block-slice-known6 c in
-    let turn = turn-smaller (smaller-copy-block called) in
+overflow_add-at : tie.Need-overflow_add-at invariant-loop decreases-loop
+overflow_add-at c =
+    let called = copy_block_slice_known6 c in
+    let turn = turn_smaller (smaller_copy_block called) in
     let start = turn in
     let args = start.args in
     let from = turn.loop-from.from in
@@ -142,13 +142,13 @@ add_at c =
     in
     omega arith
 
-loop-less : tie.Need-loop-from-smaller invariant-loop decreases-loop
-loop-less c = search rules
+loop-from-smaller : tie.Need-loop-from-smaller invariant-loop decreases-loop
+loop-from-smaller c = search rules
 
-loop-again : tie.Need-loop-from-preserved invariant-loop decreases-loop
-loop-again c =
-    let called = copy-block-slice-known6 c in
-    let turn = turn-smaller (smaller-copy-block called) in
+loop-from-preserved : tie.Need-loop-from-preserved invariant-loop decreases-loop
+loop-from-preserved c =
+    let called = copy_block_slice_known6 c in
+    let turn = turn_smaller (smaller_copy_block called) in
     let start = turn in
     let args = start.args in
     let from = turn.loop-from.from in
@@ -172,14 +172,14 @@ loop-again c =
           called.copy_block-at.ensures.1.1.1 turn.loop-from.invariant.5,
     )
 
-same_length : tie.Need-shape_of-marks invariant-loop decreases-loop
-same_length c = c.loop-from.invariant.1
+shape_of-marks : tie.Need-shape_of-marks invariant-loop decreases-loop
+shape_of-marks c = c.loop-from.invariant.1
 
-same-length-2 : tie.Need-shape_of-codes_out invariant-loop decreases-loop
-same-length-2 c = c.loop-from.invariant.3.0
+shape_of-codes_out : tie.Need-shape_of-codes_out invariant-loop decreases-loop
+shape_of-codes_out c = c.loop-from.invariant.3.0
 
-same-length-3 : tie.Need-shape_of-positions_out invariant-loop decreases-loop
-same-length-3 c = c.loop-from.invariant.4.0
+shape_of-positions_out : tie.Need-shape_of-positions_out invariant-loop decreases-loop
+shape_of-positions_out c = c.loop-from.invariant.4.0
 
 returns : tie.Need-returns invariant-loop decreases-loop
 returns c =
@@ -203,4 +203,36 @@ returns c =
 pub copy_kept_spec : {M : Type 1} → statement M
 copy_kept_spec =
     tie.close
-    (tie.spec invariant-loop decreases-loop loop-holds sub-smaller smaller-requires add-to mul-copy-block sub-copy-block part-copy-block-start part-copy-block-end mul-copy-block-2 sub-copy-block-2 part-copy-block-start-2 part-copy-block-end-2 slice-relend-prefix-copy-block slice-aggregate-copy-block mul-copy-block-3 sub-copy-block-3 part-copy-block-start-3 part-copy-block-end-3 mul-copy-block-4 sub-copy-block-4 part-copy-block-start-4 part-copy-block-end-4 copy-block-requires add_at loop-less loop-again same_length same-length-2 same-length-3 returns)
+    (tie.spec
+    invariant-loop
+    decreases-loop
+    loop-from-init
+    overflow_sub-codes
+    smaller-n-requires
+    overflow_add-to
+    offset_bounds-codes-from
+    slice_bounds-copy_block-count
+    slice_bounds-copy_block-start
+    slice_bounds-copy_block-end
+    offset_bounds-positions-from
+    slice_bounds-copy_block-count-in-loop-from
+    slice_bounds-copy_block-start-in-loop-from
+    slice_bounds-copy_block-end-in-loop-from
+    slice_bounds-copy_block-end-in-loop-from-2
+    slice_bounds-copy_block-end-in-loop-from-3
+    offset_bounds-codes_out-at
+    slice_bounds-copy_block-count-in-loop-from-2
+    slice_bounds-copy_block-start-in-loop-from-2
+    slice_bounds-copy_block-end-in-loop-from-4
+    offset_bounds-positions_out-at
+    slice_bounds-copy_block-count-in-loop-from-3
+    slice_bounds-copy_block-start-in-loop-from-3
+    slice_bounds-copy_block-end-in-loop-from-5
+    copy_block-at-requires
+    overflow_add-at
+    loop-from-smaller
+    loop-from-preserved
+    shape_of-marks
+    shape_of-codes_out
+    shape_of-positions_out
+    returns)

@@ -19,14 +19,14 @@ abbrev decreases-loop : tie.decreases-loop-from
 decreases-loop deciding codes c marks₀ kept₀ from₀ marks kept from = length codes - from
 
 -- places, each named for where it leads and from where
-abbrev smaller-mark-block-arg2 : tie.After-mark_block-arg-in-loop-from-1 invariant-loop decreases-loop → tie.After-smaller-n invariant-loop decreases-loop
-smaller-mark-block-arg2 c = c.before.before
+abbrev smaller_mark_block_arg2 : tie.After-mark_block-arg-in-loop-from-1 invariant-loop decreases-loop → tie.After-smaller-n invariant-loop decreases-loop
+smaller_mark_block_arg2 c = c.before.before
 
-abbrev turn-smaller : tie.After-smaller-n invariant-loop decreases-loop → tie.At-loop-from invariant-loop decreases-loop
-turn-smaller c = c.before.before
+abbrev turn_smaller : tie.After-smaller-n invariant-loop decreases-loop → tie.At-loop-from invariant-loop decreases-loop
+turn_smaller c = c.before.before
 
-abbrev mark-block-slice-known2 : tie.After-slice_known-in-loop-from-1 invariant-loop decreases-loop → tie.After-mark_block-kept invariant-loop decreases-loop
-mark-block-slice-known2 c = c.before.before
+abbrev mark_block_slice_known2 : tie.After-slice_known-in-loop-from-1 invariant-loop decreases-loop → tie.After-mark_block-kept invariant-loop decreases-loop
+mark_block_slice_known2 c = c.before.before
 
 -- what is counted after one block more
 counted : (c : tie.After-mark_block-kept invariant-loop decreases-loop)
@@ -41,39 +41,39 @@ counted c =
     ∙ kept_more args.deciding.now args.c args.codes.now turn.loop-from.from (turn.loop-from.from + c.smaller-n.result)
     (omega arith)
 
-loop-holds : tie.Need-loop-from-init invariant-loop decreases-loop
-loop-holds c = (omega arith, refl, refl, left_from_none _ _ _ _)
+loop-from-init : tie.Need-loop-from-init invariant-loop decreases-loop
+loop-from-init c = (omega arith, refl, refl, left_from_none _ _ _ _)
 
-sub-smaller : tie.Need-overflow_sub-codes invariant-loop decreases-loop
-sub-smaller c = search rules
+overflow_sub-codes : tie.Need-overflow_sub-codes invariant-loop decreases-loop
+overflow_sub-codes c = search rules
 
-smaller-requires : tie.Need-smaller-n-requires invariant-loop decreases-loop
-smaller-requires c κs = search rules
+smaller-n-requires : tie.Need-smaller-n-requires invariant-loop decreases-loop
+smaller-n-requires c κs = search rules
 
-add-to : tie.Need-overflow_add-to invariant-loop decreases-loop
-add-to c = search rules
+overflow_add-to : tie.Need-overflow_add-to invariant-loop decreases-loop
+overflow_add-to c = search rules
 
-mul-mark-block : tie.Need-offset_bounds-codes-from invariant-loop decreases-loop
-mul-mark-block c = search rules
+offset_bounds-codes-from : tie.Need-offset_bounds-codes-from invariant-loop decreases-loop
+offset_bounds-codes-from c = search rules
 
-sub-mark-block : tie.Need-slice_bounds-mark_block-count invariant-loop decreases-loop
-sub-mark-block c = search rules
+slice_bounds-mark_block-count : tie.Need-slice_bounds-mark_block-count invariant-loop decreases-loop
+slice_bounds-mark_block-count c = search rules
 
-part-mark-block-start : tie.Need-slice_bounds-mark_block-start invariant-loop decreases-loop
-part-mark-block-start c = search rules
+slice_bounds-mark_block-start : tie.Need-slice_bounds-mark_block-start invariant-loop decreases-loop
+slice_bounds-mark_block-start c = search rules
 
-part-mark-block-end : tie.Need-slice_bounds-mark_block-end invariant-loop decreases-loop
-part-mark-block-end c = search rules
+slice_bounds-mark_block-end : tie.Need-slice_bounds-mark_block-end invariant-loop decreases-loop
+slice_bounds-mark_block-end c = search rules
 
-slice-relend-prefix-mark-block : tie.Need-slice_bounds-mark_block-end-in-loop-from invariant-loop decreases-loop
-slice-relend-prefix-mark-block c = search rules
+slice_bounds-mark_block-end-in-loop-from : tie.Need-slice_bounds-mark_block-end-in-loop-from invariant-loop decreases-loop
+slice_bounds-mark_block-end-in-loop-from c = search rules
 
-slice-aggregate-mark-block : tie.Need-slice_bounds-mark_block-end-in-loop-from-2 invariant-loop decreases-loop
-slice-aggregate-mark-block c = sym (length-take-le _ _ (omega arith))
+slice_bounds-mark_block-end-in-loop-from-2 : tie.Need-slice_bounds-mark_block-end-in-loop-from-2 invariant-loop decreases-loop
+slice_bounds-mark_block-end-in-loop-from-2 c = sym (length-take-le _ _ (omega arith))
 
-mark-block-requires : tie.Need-mark_block-kept-requires invariant-loop decreases-loop
-mark-block-requires c κs =
-    let turn = turn-smaller (smaller-mark-block-arg2 c) in
+mark_block-kept-requires : tie.Need-mark_block-kept-requires invariant-loop decreases-loop
+mark_block-kept-requires c κs =
+    let turn = turn_smaller (smaller_mark_block_arg2 c) in
     let start = turn in
     let n = c.smaller-n.result in
     let from = turn.loop-from.from in
@@ -82,20 +82,20 @@ mark-block-requires c κs =
     let marks : length (take n turn.loop-from.marks) ≡ n = length-take-le n turn.loop-from.marks (omega (arith, start.requires.1)) in
     (start.requires.0, omega arith, omega arith)
 
-add_kept : tie.Need-overflow_add-kept invariant-loop decreases-loop
-add_kept c =
-    let called = mark-block-slice-known2 c in
+overflow_add-kept : tie.Need-overflow_add-kept invariant-loop decreases-loop
+overflow_add-kept c =
+    let called = mark_block_slice_known2 c in
     let turn = called in
     let args = turn.args in
     let to = turn.loop-from.from + called.smaller-n.result in
     omega (arith, counted called, kept_few args.deciding.now args.c args.codes.now to)
 
-loop-less : tie.Need-loop-from-smaller invariant-loop decreases-loop
-loop-less c = search rules
+loop-from-smaller : tie.Need-loop-from-smaller invariant-loop decreases-loop
+loop-from-smaller c = search rules
 
-loop-again : tie.Need-loop-from-preserved invariant-loop decreases-loop
-loop-again c =
-    let called = mark-block-slice-known2 c in
+loop-from-preserved : tie.Need-loop-from-preserved invariant-loop decreases-loop
+loop-from-preserved c =
+    let called = mark_block_slice_known2 c in
     let turn = called in
     let args = turn.args in
     let size = called.smaller-n in (
@@ -107,8 +107,8 @@ loop-again c =
           called.mark_block-kept.new.marks (omega arith) size.ensures called.mark_block-kept.ensures.1 turn.loop-from.invariant.3,
     )
 
-same_length : tie.Need-shape_of-marks invariant-loop decreases-loop
-same_length c = c.loop-from.invariant.1
+shape_of-marks : tie.Need-shape_of-marks invariant-loop decreases-loop
+shape_of-marks c = c.loop-from.invariant.1
 
 returns : tie.Need-returns invariant-loop decreases-loop
 returns c =
@@ -121,4 +121,22 @@ returns c =
 pub count_kept_spec : {M : Type 1} → statement M
 count_kept_spec =
     tie.close
-    (tie.spec invariant-loop decreases-loop loop-holds sub-smaller smaller-requires add-to mul-mark-block sub-mark-block part-mark-block-start part-mark-block-end slice-relend-prefix-mark-block slice-aggregate-mark-block mark-block-requires add_kept loop-less loop-again same_length returns)
+    (tie.spec
+    invariant-loop
+    decreases-loop
+    loop-from-init
+    overflow_sub-codes
+    smaller-n-requires
+    overflow_add-to
+    offset_bounds-codes-from
+    slice_bounds-mark_block-count
+    slice_bounds-mark_block-start
+    slice_bounds-mark_block-end
+    slice_bounds-mark_block-end-in-loop-from
+    slice_bounds-mark_block-end-in-loop-from-2
+    mark_block-kept-requires
+    overflow_add-kept
+    loop-from-smaller
+    loop-from-preserved
+    shape_of-marks
+    returns)

@@ -13,30 +13,30 @@ use Rattle.strike.proofs.blocks.mark_block.Statement.{statement}
 use Rattle.strike.proofs.blocks.mark_block.Tie as tie
 
 -- places, each named for where it leads and from where
-abbrev mark-rare-count-marked-arg : tie.After-slice_known-2-1 → tie.After-mark_rare
-mark-rare-count-marked-arg c = c.before.before
+abbrev mark_rare_count_marked_arg : tie.After-slice_known-2-1 → tie.After-mark_rare
+mark_rare_count_marked_arg c = c.before.before
 
-marks-are : (c : tie.After-mark_rare)
+marks_are : (c : tie.After-mark_rare)
     → c.mark_rare.new.marks ≡ marks_of c.args.deciding.now c.args.c c.args.codes.now
-marks-are c =
+marks_are c =
     let start = c in
     c.mark_rare.ensures.1
     ∙ mark_exact start.args.deciding.now start.args.c start.args.codes.now start.args.marks.now start.requires.0 start.requires.2
 
-mark-rare-requires : tie.Need-mark_rare-requires
-mark-rare-requires c κs = search rules
+mark_rare-requires : tie.Need-mark_rare-requires
+mark_rare-requires c κs = search rules
 
-count-marked-requires : tie.Need-count_marked-requires
-count-marked-requires c κs =
-    let called = mark-rare-count-marked-arg c in
+count_marked-requires : tie.Need-count_marked-requires
+count_marked-requires c κs =
+    let called = mark_rare_count_marked_arg c in
     let args = called.args in
-    rw (marks-are called) (omega (arith, sum_marks_le (λ (x : ℕ). leb (occ x args.deciding.now) args.c) args.codes.now))
+    rw (marks_are called) (omega (arith, sum_marks_le (λ (x : ℕ). leb (occ x args.deciding.now) args.c) args.codes.now))
 
-same_length : tie.Need-shape_of-marks
-same_length c = search rules
+shape_of-marks : tie.Need-shape_of-marks
+shape_of-marks c = search rules
 
 returns : tie.Need-returns
-returns c = let are = marks-are (mark-rare-count-marked-arg c.before) in (c.count_marked.ensures ∙ ap sum are, are)
+returns c = let are = marks_are (mark_rare_count_marked_arg c.before) in (c.count_marked.ensures ∙ ap sum are, are)
 
 pub mark_block_spec : {M : Type 1} → statement M
-mark_block_spec = tie.close (tie.spec mark-rare-requires count-marked-requires same_length returns)
+mark_block_spec = tie.close (tie.spec mark_rare-requires count_marked-requires shape_of-marks returns)

@@ -13,51 +13,49 @@ invariant-loop words marks n out₀ i₀ at₀ out i at = (i ≤ length marks) �
 abbrev decreases-loop : tie.decreases-loop-at
 decreases-loop words marks n out₀ i₀ at₀ out i at = length marks - i
 
--- places, each named for where it leads and from where
--- while a marked word is to come, an index is left
-index-left : (c : tie.In-loop-at invariant-loop decreases-loop) → c.loop-at.i < length c.args.marks.now
-index-left c = copied_index _ _ _ _ _ _ _ c.loop-at.invariant.1 c.loop-at-test.true
+index_left : (c : tie.In-loop-at invariant-loop decreases-loop) → c.loop-at.i < length c.args.marks.now
+index_left c = copied_index _ _ _ _ _ _ _ c.loop-at.invariant.1 c.loop-at-test.true
 
-loop-holds : tie.Need-loop-at-init invariant-loop decreases-loop
-loop-holds c = (omega arith, copied_none _ _ _ _ c.requires.1.1.0)
+loop-at-init : tie.Need-loop-at-init invariant-loop decreases-loop
+loop-at-init c = (omega arith, copied_none _ _ _ _ c.requires.1.1.0)
 
-mul-out : tie.Need-offset_bounds-words-i invariant-loop decreases-loop
-mul-out c = omega (arith, index-left c)
+offset_bounds-words-i : tie.Need-offset_bounds-words-i invariant-loop decreases-loop
+offset_bounds-words-i c = omega (arith, index_left c)
 
-shared-slice-read-out : tie.Need-bounds-words-i invariant-loop decreases-loop
-shared-slice-read-out c = omega (arith, index-left c.before)
+bounds-words-i : tie.Need-bounds-words-i invariant-loop decreases-loop
+bounds-words-i c = omega (arith, index_left c.before)
 
-mul-out-2 : tie.Need-offset_bounds-out-at invariant-loop decreases-loop
-mul-out-2 c = omega arith
+offset_bounds-out-at : tie.Need-offset_bounds-out-at invariant-loop decreases-loop
+offset_bounds-out-at c = omega arith
 
-slice-write-out : tie.Need-bounds-out-at invariant-loop decreases-loop
-slice-write-out c = omega arith
+bounds-out-at : tie.Need-bounds-out-at invariant-loop decreases-loop
+bounds-out-at c = omega arith
 
-shared-slice-read-wide : tie.Need-bounds-marks-i invariant-loop decreases-loop
-shared-slice-read-wide c = index-left c.before.before
+bounds-marks-i : tie.Need-bounds-marks-i invariant-loop decreases-loop
+bounds-marks-i c = index_left c.before.before
 
-wide-requires : tie.Need-wide-at-requires invariant-loop decreases-loop
-wide-requires c κs = search rules
+wide-at-requires : tie.Need-wide-at-requires invariant-loop decreases-loop
+wide-at-requires c κs = search rules
 
-add_at : tie.Need-overflow_add-at invariant-loop decreases-loop
-add_at c = omega (arith, c.requires.1.0 c.loop-at.i)
+overflow_add-at : tie.Need-overflow_add-at invariant-loop decreases-loop
+overflow_add-at c = omega (arith, c.requires.1.0 c.loop-at.i)
 
-add-i : tie.Need-overflow_add-i invariant-loop decreases-loop
-add-i c = omega (arith, index-left c.before.before.before)
+overflow_add-i : tie.Need-overflow_add-i invariant-loop decreases-loop
+overflow_add-i c = omega (arith, index_left c.before.before.before)
 
-loop-less : tie.Need-loop-at-smaller invariant-loop decreases-loop
-loop-less c = omega (arith, index-left c.before.before.before)
+loop-at-smaller : tie.Need-loop-at-smaller invariant-loop decreases-loop
+loop-at-smaller c = omega (arith, index_left c.before.before.before)
 
-loop-again : tie.Need-loop-at-preserved invariant-loop decreases-loop
-loop-again c =
+loop-at-preserved : tie.Need-loop-at-preserved invariant-loop decreases-loop
+loop-at-preserved c =
     let start = c in (
-      omega (arith, index-left c.before.before.before),
+      omega (arith, index_left c.before.before.before),
       copied_more _ _ _ _ _ _ _ _ c.loop-at.invariant.1 c.loop-at-test.true start.requires.0
           (start.requires.1.0 c.loop-at.i) start.requires.1.1.1 c.wide-at.ensures,
     )
 
-same_length : tie.Need-shape_of-out invariant-loop decreases-loop
-same_length c = c.loop-at.invariant.1.long
+shape_of-out : tie.Need-shape_of-out invariant-loop decreases-loop
+shape_of-out c = c.loop-at.invariant.1.long
 
 returns : tie.Need-returns invariant-loop decreases-loop
 returns c = copied_all _ _ _ _ _ _ _ c.loop-at.invariant.1 c.loop-at-test.false c.requires.1.1.1
@@ -65,4 +63,19 @@ returns c = copied_all _ _ _ _ _ _ _ c.loop-at.invariant.1 c.loop-at-test.false 
 pub copy_marked_spec : {M : Type 1} → statement M
 copy_marked_spec =
     tie.close
-    (tie.spec invariant-loop decreases-loop loop-holds mul-out shared-slice-read-out mul-out-2 slice-write-out shared-slice-read-wide wide-requires add_at add-i loop-less loop-again same_length returns)
+    (tie.spec
+    invariant-loop
+    decreases-loop
+    loop-at-init
+    offset_bounds-words-i
+    bounds-words-i
+    offset_bounds-out-at
+    bounds-out-at
+    bounds-marks-i
+    wide-at-requires
+    overflow_add-at
+    overflow_add-i
+    loop-at-smaller
+    loop-at-preserved
+    shape_of-out
+    returns)

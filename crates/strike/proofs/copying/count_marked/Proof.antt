@@ -16,28 +16,27 @@ invariant-loop marks n₀ i₀ n i = (i ≤ length marks) × (n + sum (drop i ma
 abbrev decreases-loop : tie.decreases-loop-i
 decreases-loop marks n₀ i₀ n i = length marks - i
 
--- places, each named for where it leads and from where
-loop-holds : tie.Need-loop-i-init invariant-loop decreases-loop
-loop-holds c = (omega arith, omega arith)
+loop-i-init : tie.Need-loop-i-init invariant-loop decreases-loop
+loop-i-init c = (omega arith, omega arith)
 
-shared-slice-read-wide : tie.Need-bounds-marks-i invariant-loop decreases-loop
-shared-slice-read-wide c = search rules
+bounds-marks-i : tie.Need-bounds-marks-i invariant-loop decreases-loop
+bounds-marks-i c = search rules
 
-wide-requires : tie.Need-wide-n-requires invariant-loop decreases-loop
-wide-requires c κs = search rules
+wide-n-requires : tie.Need-wide-n-requires invariant-loop decreases-loop
+wide-n-requires c κs = search rules
 
-add-n : tie.Need-overflow_add-n invariant-loop decreases-loop
-add-n c = omega
+overflow_add-n : tie.Need-overflow_add-n invariant-loop decreases-loop
+overflow_add-n c = omega
     (arith, sum_drop c.args.marks.now c.loop-i.i c.loop-i-test.true)
 
-add-i : tie.Need-overflow_add-i invariant-loop decreases-loop
-add-i c = search rules
+overflow_add-i : tie.Need-overflow_add-i invariant-loop decreases-loop
+overflow_add-i c = search rules
 
-loop-less : tie.Need-loop-i-smaller invariant-loop decreases-loop
-loop-less c = search rules
+loop-i-smaller : tie.Need-loop-i-smaller invariant-loop decreases-loop
+loop-i-smaller c = search rules
 
-loop-again : tie.Need-loop-i-preserved invariant-loop decreases-loop
-loop-again c = (
+loop-i-preserved : tie.Need-loop-i-preserved invariant-loop decreases-loop
+loop-i-preserved c = (
   omega arith,
   rw add-one (omega (
     arith,
@@ -52,4 +51,14 @@ returns c = omega (arith, ap sum (drop_of_length-le c.args.marks.now c.loop-i-te
 pub count_marked_spec : {M : Type 1} → statement M
 count_marked_spec =
     tie.close
-    (tie.spec invariant-loop decreases-loop loop-holds shared-slice-read-wide wide-requires add-n add-i loop-less loop-again returns)
+    (tie.spec
+    invariant-loop
+    decreases-loop
+    loop-i-init
+    bounds-marks-i
+    wide-n-requires
+    overflow_add-n
+    overflow_add-i
+    loop-i-smaller
+    loop-i-preserved
+    returns)

@@ -22,32 +22,32 @@ invariant-loop ranks₀ i₀ ranks i =
 abbrev decreases-loop : tie.decreases-loop-i
 decreases-loop ranks₀ i₀ ranks i = back_size - i
 
-loop-holds : tie.Need-loop-i-init invariant-loop decreases-loop
-loop-holds c = (search rules, c.requires, λ x h. absurd (not-suc-le-zero h), λ x h. refl)
+loop-i-init : tie.Need-loop-i-init invariant-loop decreases-loop
+loop-i-init c = (search rules, c.requires, λ x h. absurd (not-suc-le-zero h), λ x h. refl)
 
-add-ranks : tie.Need-overflow_add-ranks invariant-loop decreases-loop
-add-ranks c = search rules
+overflow_add-ranks : tie.Need-overflow_add-ranks invariant-loop decreases-loop
+overflow_add-ranks c = search rules
 
-mul-ranks : tie.Need-offset_bounds-ranks-i invariant-loop decreases-loop
-mul-ranks c = search rules
+offset_bounds-ranks-i : tie.Need-offset_bounds-ranks-i invariant-loop decreases-loop
+offset_bounds-ranks-i c = search rules
 
-slice-read-ranks : tie.Need-bounds-ranks-i invariant-loop decreases-loop
-slice-read-ranks c = search rules
+bounds-ranks-i : tie.Need-bounds-ranks-i invariant-loop decreases-loop
+bounds-ranks-i c = search rules
 
-mul-ranks-2 : tie.Need-offset_bounds-ranks-i-in-loop-i invariant-loop decreases-loop
-mul-ranks-2 c = search rules
+offset_bounds-ranks-i-in-loop-i : tie.Need-offset_bounds-ranks-i-in-loop-i invariant-loop decreases-loop
+offset_bounds-ranks-i-in-loop-i c = search rules
 
-slice-write-ranks : tie.Need-bounds-ranks-i-in-loop-i invariant-loop decreases-loop
-slice-write-ranks c = search rules
+bounds-ranks-i-in-loop-i : tie.Need-bounds-ranks-i-in-loop-i invariant-loop decreases-loop
+bounds-ranks-i-in-loop-i c = search rules
 
-add-i : tie.Need-overflow_add-i invariant-loop decreases-loop
-add-i c = search rules
+overflow_add-i : tie.Need-overflow_add-i invariant-loop decreases-loop
+overflow_add-i c = search rules
 
-loop-less : tie.Need-loop-i-smaller invariant-loop decreases-loop
-loop-less c = search rules
+loop-i-smaller : tie.Need-loop-i-smaller invariant-loop decreases-loop
+loop-i-smaller c = search rules
 
-loop-again : tie.Need-loop-i-preserved invariant-loop decreases-loop
-loop-again c =
+loop-i-preserved : tie.Need-loop-i-preserved invariant-loop decreases-loop
+loop-i-preserved c =
     let at = c in
     let first = at.args.ranks.now in
     let i = at.loop-i.i in
@@ -63,8 +63,8 @@ loop-again c =
       λ x h. get_or-set_other old i x v 0 (λ e. omega arith) ∙ is.3 x h,
     )
 
-same_length : tie.Need-shape_of-ranks invariant-loop decreases-loop
-same_length c = search rules
+shape_of-ranks : tie.Need-shape_of-ranks invariant-loop decreases-loop
+shape_of-ranks c = search rules
 
 returns : tie.Need-returns invariant-loop decreases-loop
 returns c =
@@ -74,4 +74,17 @@ returns c =
 pub carry_spec : {M : Type 1} → statement M
 carry_spec =
     tie.close
-    (tie.spec invariant-loop decreases-loop loop-holds add-ranks mul-ranks slice-read-ranks mul-ranks-2 slice-write-ranks add-i loop-less loop-again same_length returns)
+    (tie.spec
+    invariant-loop
+    decreases-loop
+    loop-i-init
+    overflow_add-ranks
+    offset_bounds-ranks-i
+    bounds-ranks-i
+    offset_bounds-ranks-i-in-loop-i
+    bounds-ranks-i-in-loop-i
+    overflow_add-i
+    loop-i-smaller
+    loop-i-preserved
+    shape_of-ranks
+    returns)

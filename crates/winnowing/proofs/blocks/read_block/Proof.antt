@@ -21,11 +21,9 @@ invariant-loop letters values₀ base to i₀ values i =
 abbrev decreases-loop : tie.decreases-loop-i
 decreases-loop letters values₀ base to i₀ values i = to - i
 
--- places, each named for where it leads and from where
--- what is known of the places below n of a block is known of the positions of their letters
-known-below : (letters values : List ℕ) (base n : ℕ) → ((x : ℕ) → x < n → get_or values x 0 ≡ value (get_or letters (base + x) 0))
+known_below : (letters values : List ℕ) (base n : ℕ) → ((x : ℕ) → x < n → get_or values x 0 ≡ value (get_or letters (base + x) 0))
     → (at : ℕ) → base ≤ at → at < base + n → get_or values (at - base) 0 ≡ value (get_or letters at 0)
-known-below letters values base n below at from to =
+known_below letters values base n below at from to =
     let back : base + (at - base) ≡ at = omega arith in
     subst (λ (y : ℕ). get_or values (at - base) 0 ≡ value (get_or letters y 0)) back (below (at - base) (omega arith))
 
@@ -35,43 +33,43 @@ unfolding value
 past_end letters at h = sym (ap value (get_or-eq_default letters 0 h))
 
 -- a block that is known up to the end of the letters is known there too when `foreign` is put
-known-to-end : (letters old : List ℕ) (base to : ℕ) → to < length old → length letters ≡ base + to
+known_to_end : (letters old : List ℕ) (base to : ℕ) → to < length old → length letters ≡ base + to
     → ((x : ℕ) → x < to → get_or old x 0 ≡ value (get_or letters (base + x) 0))
     → (x : ℕ) → x < to + 1 → get_or (set old to foreign) x 0 ≡ value (get_or letters (base + x) 0)
-known-to-end letters old base to room end below =
+known_to_end letters old base to room end below =
     below_more (λ (x : ℕ). get_or (set old to foreign) x 0 ≡ value (get_or letters (base + x) 0)) to
     (λ x h. get_or-set_other old to x foreign 0 (ne_of_lt h) ∙ below x h)
     (get_or-set_same old to foreign 0 room ∙ past_end letters (base + to) (omega arith))
 
-sub-smaller : tie.Need-overflow_sub-letters invariant-loop decreases-loop
-sub-smaller c = search rules
+overflow_sub-letters : tie.Need-overflow_sub-letters invariant-loop decreases-loop
+overflow_sub-letters c = search rules
 
-smaller-requires : tie.Need-smaller-to-requires invariant-loop decreases-loop
-smaller-requires c κs = search rules
+smaller-to-requires : tie.Need-smaller-to-requires invariant-loop decreases-loop
+smaller-to-requires c κs = search rules
 
-loop-holds : tie.Need-loop-i-init invariant-loop decreases-loop
-loop-holds c = (search rules, c.requires.0, λ x h. absurd (not-suc-le-zero h))
+loop-i-init : tie.Need-loop-i-init invariant-loop decreases-loop
+loop-i-init c = (search rules, c.requires.0, λ x h. absurd (not-suc-le-zero h))
 
-add-value : tie.Need-overflow_add-base invariant-loop decreases-loop
-add-value c = search rules
+overflow_add-base : tie.Need-overflow_add-base invariant-loop decreases-loop
+overflow_add-base c = search rules
 
-shared-slice-read-value : tie.Need-bounds-letters-base invariant-loop decreases-loop
-shared-slice-read-value c = search rules
+bounds-letters-base : tie.Need-bounds-letters-base invariant-loop decreases-loop
+bounds-letters-base c = search rules
 
 value-requires : tie.Need-value-requires invariant-loop decreases-loop
 value-requires c κs = search rules
 
-slice-write-values : tie.Need-bounds-values-i invariant-loop decreases-loop
-slice-write-values c = search rules
+bounds-values-i : tie.Need-bounds-values-i invariant-loop decreases-loop
+bounds-values-i c = search rules
 
-add-i : tie.Need-overflow_add-i invariant-loop decreases-loop
-add-i c = search rules
+overflow_add-i : tie.Need-overflow_add-i invariant-loop decreases-loop
+overflow_add-i c = search rules
 
-loop-less : tie.Need-loop-i-smaller invariant-loop decreases-loop
-loop-less c = search rules
+loop-i-smaller : tie.Need-loop-i-smaller invariant-loop decreases-loop
+loop-i-smaller c = search rules
 
-loop-again : tie.Need-loop-i-preserved invariant-loop decreases-loop
-loop-again c =
+loop-i-preserved : tie.Need-loop-i-preserved invariant-loop decreases-loop
+loop-i-preserved c =
     let at = c in
     let args = at.args in
     let i = at.loop-i.i in
@@ -86,16 +84,16 @@ loop-again c =
           (get_or-set_same old i v 0 room ∙ c.value.ensures),
     )
 
-slice-write-values-2 : tie.Need-bounds-values-to invariant-loop decreases-loop
-slice-write-values-2 c = search rules
+bounds-values-to : tie.Need-bounds-values-to invariant-loop decreases-loop
+bounds-values-to c = search rules
 
-same_length : tie.Need-shape_of-values-then-to-lt-BLOCK invariant-loop decreases-loop
-same_length c =
+shape_of-values-then-to-lt-BLOCK : tie.Need-shape_of-values-then-to-lt-BLOCK invariant-loop decreases-loop
+shape_of-values-then-to-lt-BLOCK c =
     let at = c in
     length-set at.loop-i.values at.smaller-to.result foreign ∙ at.loop-i.invariant.1 ∙ sym at.requires.0
 
-returns : tie.Need-returns-then-to-lt-BLOCK invariant-loop decreases-loop
-returns c =
+returns-then-to-lt-BLOCK : tie.Need-returns-then-to-lt-BLOCK invariant-loop decreases-loop
+returns-then-to-lt-BLOCK c =
     let at = c in
     let args = at.args in
     let letters = args.letters.now in
@@ -104,28 +102,45 @@ returns c =
     let is = at.loop-i.invariant in
     let room : to < length old = omega (arith, is.1, c.if-to-lt-BLOCK.true) in
     let end : length letters ≡ args.base + to = omega (arith, at.smaller-to.ensures, c.if-to-lt-BLOCK.true, at.requires.1) in
-    let all = known-to-end letters old args.base to room end (λ x h. is.2 x (omega (arith, c.loop-i-test.false))) in
+    let all = known_to_end letters old args.base to room end (λ x h. is.2 x (omega (arith, c.loop-i-test.false))) in
     record {
       sized = length-set old to foreign ∙ is.1;
-      known = λ q from below within. known-below letters (set old to foreign) args.base (to + 1) all q from (omega arith);
+      known = λ q from below within. known_below letters (set old to foreign) args.base (to + 1) all q from (omega arith);
     }
 
-same-length-2 : tie.Need-shape_of-values-else-to-lt-BLOCK invariant-loop decreases-loop
-same-length-2 c = search rules
+shape_of-values-else-to-lt-BLOCK : tie.Need-shape_of-values-else-to-lt-BLOCK invariant-loop decreases-loop
+shape_of-values-else-to-lt-BLOCK c = search rules
 
-returns-2 : tie.Need-returns-else-to-lt-BLOCK invariant-loop decreases-loop
-returns-2 c =
+returns-else-to-lt-BLOCK : tie.Need-returns-else-to-lt-BLOCK invariant-loop decreases-loop
+returns-else-to-lt-BLOCK c =
     let at = c in
     let args = at.args in
     let is = at.loop-i.invariant in
     record {
       sized = is.1;
       known = λ q from below within.
-          known-below args.letters.now at.loop-i.values args.base at.loop-i.i is.2 q from
+          known_below args.letters.now at.loop-i.values args.base at.loop-i.i is.2 q from
           (omega (arith, c.if-to-lt-BLOCK.false, c.loop-i-test.false));
     }
 
 pub read_block_spec : {M : Type 1} → statement M
 read_block_spec =
     tie.close
-    (tie.spec invariant-loop decreases-loop sub-smaller smaller-requires loop-holds add-value shared-slice-read-value value-requires slice-write-values add-i loop-less loop-again slice-write-values-2 same_length returns same-length-2 returns-2)
+    (tie.spec
+    invariant-loop
+    decreases-loop
+    overflow_sub-letters
+    smaller-to-requires
+    loop-i-init
+    overflow_add-base
+    bounds-letters-base
+    value-requires
+    bounds-values-i
+    overflow_add-i
+    loop-i-smaller
+    loop-i-preserved
+    bounds-values-to
+    shape_of-values-then-to-lt-BLOCK
+    returns-then-to-lt-BLOCK
+    shape_of-values-else-to-lt-BLOCK
+    returns-else-to-lt-BLOCK)

@@ -3,11 +3,11 @@ use borrow.Author.Rules.{rules}
 use Rattle.winnowing.proofs.blocks.value_at.Statement.{statement}
 use Rattle.winnowing.proofs.blocks.value_at.Tie as tie
 
-sub-result : tie.Need-overflow_sub-result
-sub-result c = search rules
+overflow_sub-result : tie.Need-overflow_sub-result
+overflow_sub-result c = search rules
 
-shared-slice-read-result : tie.Need-bounds-values-at
-shared-slice-read-result c = search rules
+bounds-values-at : tie.Need-bounds-values-at
+bounds-values-at c = search rules
 
 returns : tie.Need-returns
 returns c =
@@ -15,4 +15,4 @@ returns c =
     start.requires.0.known start.args.at start.requires.1.0 start.requires.1.1 start.requires.1.2
 
 pub value_at_spec : {M : Type 1} → statement M
-value_at_spec = tie.close (tie.spec sub-result shared-slice-read-result returns)
+value_at_spec = tie.close (tie.spec overflow_sub-result bounds-values-at returns)

@@ -9,23 +9,23 @@ use Rattle.kmers.proofs.Codes.{shifted_four, masked}
 use Rattle.winnowing.proofs.codes.next_code.Statement.{statement}
 use Rattle.winnowing.proofs.codes.next_code.Tie as tie
 
-mul-mask : tie.Need-overflow_mul-mask
-mul-mask c = search rules
+overflow_mul-mask : tie.Need-overflow_mul-mask
+overflow_mul-mask c = search rules
 
-cast-mask : tie.Need-overflow_cast-mask
-cast-mask c = search rules
+overflow_cast-mask : tie.Need-overflow_cast-mask
+overflow_cast-mask c = search rules
 
-shl-mask : tie.Need-overflow_shl-mask
-shl-mask c = search rules
+overflow_shl-mask : tie.Need-overflow_shl-mask
+overflow_shl-mask c = search rules
 
-sub-mask : tie.Need-overflow_sub-mask
-sub-mask c = rw (shifted_four c.args.last c.requires.0) (one-le-pow (suc c.args.last) 4 (lit< tt))
+overflow_sub-mask : tie.Need-overflow_sub-mask
+overflow_sub-mask c = rw (shifted_four c.args.last c.requires.0) (one-le-pow (suc c.args.last) 4 (lit< tt))
 
-mul-result : tie.Need-overflow_mul-result
-mul-result c = search rules
+overflow_mul-result : tie.Need-overflow_mul-result
+overflow_mul-result c = search rules
 
-add-result : tie.Need-overflow_add-result
-add-result c = search rules
+overflow_add-result : tie.Need-overflow_add-result
+overflow_add-result c = search rules
 
 returns : tie.Need-returns
 returns c =
@@ -34,4 +34,11 @@ returns c =
 
 pub next_code_spec : {M : Type 1} → statement M
 next_code_spec =
-    tie.close (tie.spec mul-mask cast-mask shl-mask sub-mask mul-result add-result returns)
+    tie.close (tie.spec
+    overflow_mul-mask
+    overflow_cast-mask
+    overflow_shl-mask
+    overflow_sub-mask
+    overflow_mul-result
+    overflow_add-result
+    returns)

@@ -20,15 +20,15 @@ abbrev decreases-loop : tie.decreases-loop-at
 decreases-loop letters values base from last to at₀ code₀ at code = from + last - at
 
 -- places, each named for where it leads and from where
-abbrev entry-turn : tie.At-loop-at invariant-loop decreases-loop → tie.Start invariant-loop decreases-loop
-entry-turn c = c.before.before.before
+abbrev entry_turn : tie.At-loop-at invariant-loop decreases-loop → tie.Start invariant-loop decreases-loop
+entry_turn c = c.before.before.before
 
-add-to : tie.Need-overflow_add-to invariant-loop decreases-loop
-add-to c = search rules
+overflow_add-to : tie.Need-overflow_add-to invariant-loop decreases-loop
+overflow_add-to c = search rules
 
-loop-holds : tie.Need-loop-at-init invariant-loop decreases-loop
+loop-at-init : tie.Need-loop-at-init invariant-loop decreases-loop
 unfolding code_at code_of
-loop-holds c =
+loop-at-init c =
     let args = c.args in
     let letters = args.letters.now in
     let none : args.from - args.from ≡ 0 = omega arith in (
@@ -38,8 +38,8 @@ loop-holds c =
       sym (ap (λ (n : ℕ). code_at n letters args.from) none),
     )
 
-value-at-requires : tie.Need-value_at-v-requires invariant-loop decreases-loop
-value-at-requires c κs =
+value_at-v-requires : tie.Need-value_at-v-requires invariant-loop decreases-loop
+value_at-v-requires c κs =
     let start = c in
     let at = c.loop-at in
     let there = run_end_within start.args.letters.now start.args.from start.requires.0.in_letters in (
@@ -47,9 +47,9 @@ value-at-requires c κs =
       (omega (arith, start.requires.1.begins, at.invariant.0), omega (arith, start.requires.1.ends, c.loop-at-test.true), omega (arith, at.invariant.2)),
     )
 
-returns : tie.Need-returns-then-v-eq-FOREIGN invariant-loop decreases-loop
-returns c =
-    let start = entry-turn c.before.before.before in
+returns-then-v-eq-FOREIGN : tie.Need-returns-then-v-eq-FOREIGN invariant-loop decreases-loop
+returns-then-v-eq-FOREIGN c =
+    let start = entry_turn c.before.before.before in
     let at = c.loop-at in
     record {
       start = at.invariant.0;
@@ -78,23 +78,23 @@ goes_on c =
           (code_small letters from start.requires.0.in_letters from (at.at - from) (le_refl from) (omega arith) (omega arith)),
     )
 
-mul-code : tie.Need-overflow_mul-code invariant-loop decreases-loop
-mul-code c = omega (arith, goes_on c)
+overflow_mul-code : tie.Need-overflow_mul-code invariant-loop decreases-loop
+overflow_mul-code c = omega (arith, goes_on c)
 
-cast-code : tie.Need-overflow_cast-code invariant-loop decreases-loop
-cast-code c = omega (arith, goes_on c)
+overflow_cast-code : tie.Need-overflow_cast-code invariant-loop decreases-loop
+overflow_cast-code c = omega (arith, goes_on c)
 
-add-code : tie.Need-overflow_add-code invariant-loop decreases-loop
-add-code c = omega (arith, goes_on c)
+overflow_add-code : tie.Need-overflow_add-code invariant-loop decreases-loop
+overflow_add-code c = omega (arith, goes_on c)
 
-add_at : tie.Need-overflow_add-at invariant-loop decreases-loop
-add_at c = search rules
+overflow_add-at : tie.Need-overflow_add-at invariant-loop decreases-loop
+overflow_add-at c = search rules
 
-loop-less : tie.Need-loop-at-smaller invariant-loop decreases-loop
-loop-less c = search rules
+loop-at-smaller : tie.Need-loop-at-smaller invariant-loop decreases-loop
+loop-at-smaller c = search rules
 
-loop-again : tie.Need-loop-at-preserved invariant-loop decreases-loop
-loop-again c =
+loop-at-preserved : tie.Need-loop-at-preserved invariant-loop decreases-loop
+loop-at-preserved c =
     let start = c in
     let letters = start.args.letters.now in
     let from = start.args.from in
@@ -106,12 +106,25 @@ loop-again c =
       rw c.value_at-v.ensures (code_longer letters from start.requires.0.in_letters at.at at.code at.invariant.0 on.0 at.invariant.3),
     )
 
-returns-2 : tie.Need-returns invariant-loop decreases-loop
-returns-2 c =
+returns : tie.Need-returns invariant-loop decreases-loop
+returns c =
     let at = c.loop-at in
     record { start = at.invariant.0; most = at.invariant.1; within = at.invariant.2; ended = λ h. absurd (omega arith); code_there = at.invariant.3 }
 
 pub first_letters_spec : {M : Type 1} → statement M
 first_letters_spec =
     tie.close
-    (tie.spec invariant-loop decreases-loop add-to loop-holds value-at-requires returns mul-code cast-code add-code add_at loop-less loop-again returns-2)
+    (tie.spec
+    invariant-loop
+    decreases-loop
+    overflow_add-to
+    loop-at-init
+    value_at-v-requires
+    returns-then-v-eq-FOREIGN
+    overflow_mul-code
+    overflow_cast-code
+    overflow_add-code
+    overflow_add-at
+    loop-at-smaller
+    loop-at-preserved
+    returns)

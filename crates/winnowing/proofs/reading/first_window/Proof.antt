@@ -30,14 +30,14 @@ Turn = tie.At-loop-at invariant-loop decreases-loop
 abbrev entry : Turn → tie.Start invariant-loop decreases-loop
 entry c = c.before.before.before.before.before
 
-abbrev turn-value-at : tie.After-value_at-v invariant-loop decreases-loop → Turn
-turn-value-at c = c.before.before
+abbrev turn_value_at : tie.After-value_at-v invariant-loop decreases-loop → Turn
+turn_value_at c = c.before.before
 
-abbrev else1-rank : tie.After-rank invariant-loop decreases-loop → tie.Else-v-eq-FOREIGN invariant-loop decreases-loop
-else1-rank c = c.before.before
+abbrev else1_rank : tie.After-rank invariant-loop decreases-loop → tie.Else-v-eq-FOREIGN invariant-loop decreases-loop
+else1_rank c = c.before.before
 
-abbrev turn-rank : tie.After-rank invariant-loop decreases-loop → Turn
-turn-rank c = c.before.before.before.before.before
+abbrev turn_rank : tie.After-rank invariant-loop decreases-loop → Turn
+turn_rank c = c.before.before.before.before.before
 
 -- the place of a turn: in the block and in the run
 inside : (c : Turn)
@@ -55,8 +55,8 @@ inside c =
       start.requires.0.0.few,
     )
 
-add-to : tie.Need-overflow_add-to invariant-loop decreases-loop
-add-to c =
+overflow_add-to : tie.Need-overflow_add-to invariant-loop decreases-loop
+overflow_add-to c =
     let start = c in
     omega (
       arith,
@@ -66,25 +66,25 @@ add-to c =
       start.requires.0.0.few,
     )
 
-loop-holds : tie.Need-loop-at-init invariant-loop decreases-loop
-loop-holds c =
+loop-at-init : tie.Need-loop-at-init invariant-loop decreases-loop
+loop-at-init c =
     let start = c in
     ((le_refl start.args.begun.at, omega arith, start.requires.1.0.1), refl, start.requires.1.1)
 
-add-value-at : tie.Need-overflow_add-at invariant-loop decreases-loop
-add-value-at c = omega (arith, inside c.before)
+overflow_add-at : tie.Need-overflow_add-at invariant-loop decreases-loop
+overflow_add-at c = omega (arith, inside c.before)
 
-value-at-requires : tie.Need-value_at-v-requires invariant-loop decreases-loop
-value-at-requires c κs =
+value_at-v-requires : tie.Need-value_at-v-requires invariant-loop decreases-loop
+value_at-v-requires c κs =
     let there = inside c.before in
     (c.requires.0.0.block, (omega arith, omega (arith, c.loop-at-test.true), omega arith))
 
-same_length : tie.Need-shape_of-ranks-then-v-eq-FOREIGN invariant-loop decreases-loop
-same_length c = search rules
+shape_of-ranks-then-v-eq-FOREIGN : tie.Need-shape_of-ranks-then-v-eq-FOREIGN invariant-loop decreases-loop
+shape_of-ranks-then-v-eq-FOREIGN c = search rules
 
-returns : tie.Need-returns-then-v-eq-FOREIGN invariant-loop decreases-loop
-returns c =
-    let turn = turn-value-at c.before in
+returns-then-v-eq-FOREIGN : tie.Need-returns-then-v-eq-FOREIGN invariant-loop decreases-loop
+returns-then-v-eq-FOREIGN c =
+    let turn = turn_value_at c.before in
     let start = entry turn in
     let at = turn.loop-at in
     record {
@@ -107,8 +107,8 @@ goes_on c =
     run_goes_on args.letters.now args.begun.at (turn.loop-at.at + args.last) (omega (arith, turn.loop-at.invariant.0.0)) turn.loop-at.invariant.0.2
     c.value_at-v.result c.value_at-v.ensures c.if-v-eq-FOREIGN.false
 
-next-code-requires : tie.Need-next_code-code-requires invariant-loop decreases-loop
-next-code-requires c κs = (c.requires.0.0.short, c.loop-at.invariant.2.in_hand.code_below, (goes_on c).1)
+next_code-code-requires : tie.Need-next_code-code-requires invariant-loop decreases-loop
+next_code-code-requires c κs = (c.requires.0.0.short, c.loop-at.invariant.2.in_hand.code_below, (goes_on c).1)
 
 rank-requires : tie.Need-rank-requires invariant-loop decreases-loop
 rank-requires c κs = search rules
@@ -119,41 +119,41 @@ read : (c : tie.After-rank invariant-loop decreases-loop)
     × (code_at (suc c.args.last) c.args.letters.now c.loop-at.at < 4 ^ k_limit)
     × InHand c.args.last c.args.letters.now (c.loop-at.at + 1) c.next_code-code.result
 read c =
-    let turn = turn-rank c in
+    let turn = turn_rank c in
     let start = turn in
     let value = c.value_at-v in
     pushed start.args.letters.now start.args.begun.at start.requires.0.0.in_letters start.args.last turn.loop-at.at
-    turn.loop-at.invariant.0.0 (goes_on (else1-rank c)).0 start.requires.0.0.short
+    turn.loop-at.invariant.0.0 (goes_on (else1_rank c)).0 start.requires.0.0.short
     turn.loop-at.code value.result c.next_code-code.result turn.loop-at.invariant.2.in_hand value.ensures c.next_code-code.ensures
 
 slot-requires : tie.Need-slot-requires invariant-loop decreases-loop
 slot-requires c κs =
-    let there = inside (turn-rank c) in
+    let there = inside (turn_rank c) in
     (omega arith, omega (arith, c.loop-at-test.true), omega arith)
 
-mul-ranks : tie.Need-offset_bounds-ranks-slot invariant-loop decreases-loop
-mul-ranks c = omega (arith, c.slot.ensures.1)
+offset_bounds-ranks-slot : tie.Need-offset_bounds-ranks-slot invariant-loop decreases-loop
+offset_bounds-ranks-slot c = omega (arith, c.slot.ensures.1)
 
-slice-write-ranks : tie.Need-bounds-ranks-slot invariant-loop decreases-loop
-slice-write-ranks c =
-    let turn = turn-rank c.before in
+bounds-ranks-slot : tie.Need-bounds-ranks-slot invariant-loop decreases-loop
+bounds-ranks-slot c =
+    let turn = turn_rank c.before in
     let there = inside turn in
     omega (arith, c.slot.ensures.0, turn.loop-at.invariant.2.sized, c.loop-at-test.true)
 
-add_at : tie.Need-overflow_add-at-in-loop-at invariant-loop decreases-loop
-add_at c = search rules
+overflow_add-at-in-loop-at : tie.Need-overflow_add-at-in-loop-at invariant-loop decreases-loop
+overflow_add-at-in-loop-at c = search rules
 
-loop-less : tie.Need-loop-at-smaller invariant-loop decreases-loop
-loop-less c = search rules
+loop-at-smaller : tie.Need-loop-at-smaller invariant-loop decreases-loop
+loop-at-smaller c = search rules
 
-loop-again : tie.Need-loop-at-preserved invariant-loop decreases-loop
-loop-again c =
-    let turn = turn-rank c.before in
+loop-at-preserved : tie.Need-loop-at-preserved invariant-loop decreases-loop
+loop-at-preserved c =
+    let turn = turn_rank c.before in
     let args = turn.args in
     let letters = args.letters.now in
     let at = turn.loop-at in
     let there = inside turn in
-    let more = (goes_on (else1-rank c.before)).0 in
+    let more = (goes_on (else1_rank c.before)).0 in
     let kmer = read c.before in
     let code = c.next_code-code.result in
     let rank = c.rank in
@@ -166,11 +166,11 @@ loop-again c =
       rw c.slot.ensures.0 scanned,
     )
 
-same-length-2 : tie.Need-shape_of-ranks invariant-loop decreases-loop
-same-length-2 c = search rules
+shape_of-ranks : tie.Need-shape_of-ranks invariant-loop decreases-loop
+shape_of-ranks c = search rules
 
-returns-2 : tie.Need-returns invariant-loop decreases-loop
-returns-2 c =
+returns : tie.Need-returns invariant-loop decreases-loop
+returns c =
     let at = c.loop-at in
     record {
       start = at.invariant.0.0;
@@ -183,4 +183,22 @@ returns-2 c =
 pub first_window_spec : {M : Type 1} → statement M
 first_window_spec =
     tie.close
-    (tie.spec invariant-loop decreases-loop add-to loop-holds add-value-at value-at-requires same_length returns next-code-requires rank-requires slot-requires mul-ranks slice-write-ranks add_at loop-less loop-again same-length-2 returns-2)
+    (tie.spec
+    invariant-loop
+    decreases-loop
+    overflow_add-to
+    loop-at-init
+    overflow_add-at
+    value_at-v-requires
+    shape_of-ranks-then-v-eq-FOREIGN
+    returns-then-v-eq-FOREIGN
+    next_code-code-requires
+    rank-requires
+    slot-requires
+    offset_bounds-ranks-slot
+    bounds-ranks-slot
+    overflow_add-at-in-loop-at
+    loop-at-smaller
+    loop-at-preserved
+    shape_of-ranks
+    returns)

@@ -26,17 +26,17 @@ decreases-loop letters values base ranks₀ last stop low at₀ code₀ ranks at
 abbrev Turn : Type 0
 Turn = tie.At-loop-at invariant-loop decreases-loop
 
-abbrev turn-value-at : tie.After-value_at-v invariant-loop decreases-loop → Turn
-turn-value-at c = c.before.before
+abbrev turn_value_at : tie.After-value_at-v invariant-loop decreases-loop → Turn
+turn_value_at c = c.before.before
 
-abbrev turn-else1 : tie.Else-v-eq-FOREIGN invariant-loop decreases-loop → Turn
-turn-else1 c = c.before.before.before
+abbrev turn_else1 : tie.Else-v-eq-FOREIGN invariant-loop decreases-loop → Turn
+turn_else1 c = c.before.before.before
 
-abbrev else1-rank : tie.After-rank-r invariant-loop decreases-loop → tie.Else-v-eq-FOREIGN invariant-loop decreases-loop
-else1-rank c = c.before.before
+abbrev else1_rank : tie.After-rank-r invariant-loop decreases-loop → tie.Else-v-eq-FOREIGN invariant-loop decreases-loop
+else1_rank c = c.before.before
 
-abbrev turn-rank : tie.After-rank-r invariant-loop decreases-loop → Turn
-turn-rank c = c.before.before.before.before.before
+abbrev turn_rank : tie.After-rank-r invariant-loop decreases-loop → Turn
+turn_rank c = c.before.before.before.before.before
 
 -- the place of a turn: in the block and in the run
 inside : (c : Turn)
@@ -59,8 +59,8 @@ scanned : (c : Turn) → Scanned c.args.last c.args.base c.args.letters.now c.lo
     c.loop-at.at c.loop-at.code
 scanned c = c.loop-at.invariant.3 c.args.reached.at c.requires.1.1
 
-loop-holds : tie.Need-loop-at-init invariant-loop decreases-loop
-loop-holds c =
+loop-at-init : tie.Need-loop-at-init invariant-loop decreases-loop
+loop-at-init c =
     let start = c.before.before.before in (
       record { start = le_refl start.args.reached.at; within = start.requires.1.0.2; above = λ q a b. absurd (omega arith) },
       start.requires.1.0.1,
@@ -68,20 +68,20 @@ loop-holds c =
       λ first is. is,
     )
 
-add-value-at : tie.Need-overflow_add-at invariant-loop decreases-loop
-add-value-at c = omega (arith, inside c.before)
+overflow_add-at : tie.Need-overflow_add-at invariant-loop decreases-loop
+overflow_add-at c = omega (arith, inside c.before)
 
-value-at-requires : tie.Need-value_at-v-requires invariant-loop decreases-loop
-value-at-requires c κs =
+value_at-v-requires : tie.Need-value_at-v-requires invariant-loop decreases-loop
+value_at-v-requires c κs =
     let there = inside c.before in
     (c.requires.0.0.block, (there.0, omega (arith, c.loop-at-test.true), omega arith))
 
-same_length : tie.Need-shape_of-ranks-then-v-eq-FOREIGN invariant-loop decreases-loop
-same_length c = search rules
+shape_of-ranks-then-v-eq-FOREIGN : tie.Need-shape_of-ranks-then-v-eq-FOREIGN invariant-loop decreases-loop
+shape_of-ranks-then-v-eq-FOREIGN c = search rules
 
-returns : tie.Need-returns-then-v-eq-FOREIGN invariant-loop decreases-loop
-returns c =
-    let turn = turn-value-at c.before in
+returns-then-v-eq-FOREIGN : tie.Need-returns-then-v-eq-FOREIGN invariant-loop decreases-loop
+returns-then-v-eq-FOREIGN c =
+    let turn = turn_value_at c.before in
     let start = turn in
     let at = turn.loop-at in
     record {
@@ -106,11 +106,11 @@ goes_on c =
     run_goes_on args.letters.now args.reached.at (turn.loop-at.at + args.last) (omega (arith, turn.loop-at.invariant.0.start))
     turn.loop-at.invariant.0.within c.value_at-v.result c.value_at-v.ensures c.if-v-eq-FOREIGN.false
 
-next-code-requires : tie.Need-next_code-code-requires invariant-loop decreases-loop
-next-code-requires c κs = (c.requires.0.0.short, (scanned (turn-else1 c)).in_hand.code_below, (goes_on c).1)
+next_code-code-requires : tie.Need-next_code-code-requires invariant-loop decreases-loop
+next_code-code-requires c κs = (c.requires.0.0.short, (scanned (turn_else1 c)).in_hand.code_below, (goes_on c).1)
 
-rank-requires : tie.Need-rank-r-requires invariant-loop decreases-loop
-rank-requires c κs = search rules
+rank-r-requires : tie.Need-rank-r-requires invariant-loop decreases-loop
+rank-r-requires c κs = search rules
 
 -- the k-mer that is read: its code and its rank, and the code in hand behind it
 read : (c : tie.After-rank-r invariant-loop decreases-loop)
@@ -118,11 +118,11 @@ read : (c : tie.After-rank-r invariant-loop decreases-loop)
     × (code_at (suc c.args.last) c.args.letters.now c.loop-at.at < 4 ^ k_limit)
     × InHand c.args.last c.args.letters.now (c.loop-at.at + 1) c.next_code-code.result
 read c =
-    let turn = turn-rank c in
+    let turn = turn_rank c in
     let start = turn in
     let value = c.value_at-v in
     pushed start.args.letters.now start.args.reached.at start.requires.0.0.in_letters start.args.last turn.loop-at.at
-    turn.loop-at.invariant.0.start (goes_on (else1-rank c)).0 start.requires.0.0.short
+    turn.loop-at.invariant.0.start (goes_on (else1_rank c)).0 start.requires.0.0.short
     turn.loop-at.code value.result c.next_code-code.result (scanned turn).in_hand value.ensures c.next_code-code.ensures
 
 ranked : (c : tie.After-rank-r invariant-loop decreases-loop)
@@ -134,25 +134,25 @@ ranked c =
 
 slot-requires : tie.Need-slot-requires invariant-loop decreases-loop
 slot-requires c κs =
-    let there = inside (turn-rank c) in
+    let there = inside (turn_rank c) in
     (there.0, omega (arith, c.loop-at-test.true), omega arith)
 
-mul-ranks : tie.Need-offset_bounds-ranks-slot invariant-loop decreases-loop
-mul-ranks c = omega (arith, c.slot.ensures.1)
+offset_bounds-ranks-slot : tie.Need-offset_bounds-ranks-slot invariant-loop decreases-loop
+offset_bounds-ranks-slot c = omega (arith, c.slot.ensures.1)
 
 -- the slot is that of the k-mer
-slot-there : (c : tie.After-slot invariant-loop decreases-loop)
+slot_there : (c : tie.After-slot invariant-loop decreases-loop)
     → c.slot.result ≡ slot_of c.args.last c.args.base c.loop-at.at
-slot-there c = c.slot.ensures.0
+slot_there c = c.slot.ensures.0
 
-slice-write-ranks : tie.Need-bounds-ranks-slot invariant-loop decreases-loop
-slice-write-ranks c =
-    let turn = turn-rank c.before in
+bounds-ranks-slot : tie.Need-bounds-ranks-slot invariant-loop decreases-loop
+bounds-ranks-slot c =
+    let turn = turn_rank c.before in
     let there = inside turn in
-    omega (arith, slot-there c, (scanned turn).sized, c.loop-at-test.true)
+    omega (arith, slot_there c, (scanned turn).sized, c.loop-at-test.true)
 
-same-length-2 : tie.Need-shape_of-ranks-then-r-low invariant-loop decreases-loop
-same-length-2 c = search rules
+shape_of-ranks-then-r-low : tie.Need-shape_of-ranks-then-r-low invariant-loop decreases-loop
+shape_of-ranks-then-r-low c = search rules
 
 -- whatever ranks stood in their slots, that of the k-mer now does too
 one_more : (c : tie.After-slot invariant-loop decreases-loop) (first : ℕ)
@@ -162,18 +162,18 @@ one_more : (c : tie.After-slot invariant-loop decreases-loop) (first : ℕ)
     (set c.loop-at.ranks c.slot.result c.rank-r.result) first (c.loop-at.at + 1)
     c.next_code-code.result
 one_more c first is =
-    let turn = turn-rank c.before in
+    let turn = turn_rank c.before in
     let args = turn.args in
     let there = inside turn in
     let kmer = read c.before in
-    rw (slot-there c)
+    rw (slot_there c)
     (scanned_next args.last args.base args.letters.now turn.loop-at.ranks first turn.loop-at.at turn.loop-at.code c.rank-r.result
     c.next_code-code.result is there.0 (omega (arith, c.loop-at-test.true)) (ranked c.before)
     kmer.1 kmer.2)
 
-returns-2 : tie.Need-returns-then-r-low invariant-loop decreases-loop
-returns-2 c =
-    let read-there = read c.before.before in
+returns-then-r-low : tie.Need-returns-then-r-low invariant-loop decreases-loop
+returns-then-r-low c =
+    let read_there = read c.before.before in
     let turn = c in
     let at = turn.loop-at in
     let below : c.rank-r.result ≤ turn.args.low = c.if-r-low.true in
@@ -182,26 +182,26 @@ returns-2 c =
       most = at.invariant.1;
       found = λ h. (
         c.loop-at-test.true,
-        (goes_on (else1-rank c.before.before)).0,
+        (goes_on (else1_rank c.before.before)).0,
         ranked c.before.before,
-        read-there.0,
+        read_there.0,
         λ first is. one_more c.before first (at.invariant.3 first is),
       );
       none = λ h. absurd (omega arith);
     }
 
-add_at : tie.Need-overflow_add-at-in-loop-at invariant-loop decreases-loop
-add_at c = search rules
+overflow_add-at-in-loop-at : tie.Need-overflow_add-at-in-loop-at invariant-loop decreases-loop
+overflow_add-at-in-loop-at c = search rules
 
-loop-less : tie.Need-loop-at-smaller invariant-loop decreases-loop
-loop-less c = search rules
+loop-at-smaller : tie.Need-loop-at-smaller invariant-loop decreases-loop
+loop-at-smaller c = search rules
 
-loop-again : tie.Need-loop-at-preserved invariant-loop decreases-loop
-loop-again c =
+loop-at-preserved : tie.Need-loop-at-preserved invariant-loop decreases-loop
+loop-at-preserved c =
     let turn = c in
     let args = turn.args in
     let at = turn.loop-at in
-    let more = (goes_on (else1-rank c.before.before)).0 in
+    let more = (goes_on (else1_rank c.before.before)).0 in
     let above : args.low < rank_at (suc args.last) args.letters.now at.at =
     subst (λ (x : ℕ). args.low < x) (ranked c.before.before) c.if-r-low.false in (
       record {
@@ -216,11 +216,11 @@ loop-again c =
       λ first is. one_more c.before first (at.invariant.3 first is),
     )
 
-same-length-3 : tie.Need-shape_of-ranks invariant-loop decreases-loop
-same-length-3 c = search rules
+shape_of-ranks : tie.Need-shape_of-ranks invariant-loop decreases-loop
+shape_of-ranks c = search rules
 
-returns-3 : tie.Need-returns invariant-loop decreases-loop
-returns-3 c =
+returns : tie.Need-returns invariant-loop decreases-loop
+returns c =
     let start = c in
     let at = c.loop-at in
     record {
@@ -233,4 +233,23 @@ returns-3 c =
 pub read_above_spec : {M : Type 1} → statement M
 read_above_spec =
     tie.close
-    (tie.spec invariant-loop decreases-loop loop-holds add-value-at value-at-requires same_length returns next-code-requires rank-requires slot-requires mul-ranks slice-write-ranks same-length-2 returns-2 add_at loop-less loop-again same-length-3 returns-3)
+    (tie.spec
+    invariant-loop
+    decreases-loop
+    loop-at-init
+    overflow_add-at
+    value_at-v-requires
+    shape_of-ranks-then-v-eq-FOREIGN
+    returns-then-v-eq-FOREIGN
+    next_code-code-requires
+    rank-r-requires
+    slot-requires
+    offset_bounds-ranks-slot
+    bounds-ranks-slot
+    shape_of-ranks-then-r-low
+    returns-then-r-low
+    overflow_add-at-in-loop-at
+    loop-at-smaller
+    loop-at-preserved
+    shape_of-ranks
+    returns)

@@ -33,26 +33,26 @@ abbrev decreases-loop : tie.decreases-loop-base
 decreases-loop letters values₀ first measures codes₀ positions₀ last base₀ s₀ values codes positions base s = suc (length letters) - base
 
 -- places, each named for where it leads and from where
-abbrev pass-kmers-slice-known4 : tie.After-slice_known-4-1 invariant-loop decreases-loop → tie.After-pass_kmers-s invariant-loop decreases-loop
-pass-kmers-slice-known4 c = c.before.before
+abbrev pass_kmers_slice_known4 : tie.After-slice_known-4-1 invariant-loop decreases-loop → tie.After-pass_kmers-s invariant-loop decreases-loop
+pass_kmers_slice_known4 c = c.before.before
 
-abbrev pass-kmers-turn : tie.At-loop-base invariant-loop decreases-loop → tie.After-pass_kmers-s invariant-loop decreases-loop
-pass-kmers-turn c = c.before.before.before.before.before
+abbrev pass_kmers_turn : tie.At-loop-base invariant-loop decreases-loop → tie.After-pass_kmers-s invariant-loop decreases-loop
+pass_kmers_turn c = c.before.before.before.before.before
 
-abbrev entry-turn : tie.At-loop-base invariant-loop decreases-loop → tie.Start invariant-loop decreases-loop
-entry-turn c = c.before.before.before.before.before.before.before.before.before.before.before.before
+abbrev entry_turn : tie.At-loop-base invariant-loop decreases-loop → tie.Start invariant-loop decreases-loop
+entry_turn c = c.before.before.before.before.before.before.before.before.before.before.before.before
 
-abbrev turn-struct-known2 : tie.After-struct_known-in-loop-base-1 invariant-loop decreases-loop → tie.At-loop-base invariant-loop decreases-loop
-turn-struct-known2 c = c.before.before.before
+abbrev turn_struct_known2 : tie.After-struct_known-in-loop-base-1 invariant-loop decreases-loop → tie.At-loop-base invariant-loop decreases-loop
+turn_struct_known2 c = c.before.before.before
 
-abbrev turn-read-block : tie.After-read_block invariant-loop decreases-loop → tie.At-loop-base invariant-loop decreases-loop
-turn-read-block c = c.before.before.before.before.before
+abbrev turn_read_block : tie.After-read_block invariant-loop decreases-loop → tie.At-loop-base invariant-loop decreases-loop
+turn_read_block c = c.before.before.before.before.before
 
-abbrev read-block-pass-kmers-arg6 : tie.After-pass_kmers-arg-in-loop-base-2-1 invariant-loop decreases-loop → tie.After-read_block invariant-loop decreases-loop
-read-block-pass-kmers-arg6 c = c.before.before.before.before
+abbrev read_block_pass_kmers_arg6 : tie.After-pass_kmers-arg-in-loop-base-2-1 invariant-loop decreases-loop → tie.After-read_block invariant-loop decreases-loop
+read_block_pass_kmers_arg6 c = c.before.before.before.before
 
-abbrev pass-kmers2-slice-known7 : tie.After-slice_known-in-loop-base-2-1 invariant-loop decreases-loop → tie.After-pass_kmers-s-in-loop-base invariant-loop decreases-loop
-pass-kmers2-slice-known7 c = c.before.before
+abbrev pass_kmers2_slice_known7 : tie.After-slice_known-in-loop-base-2-1 invariant-loop decreases-loop → tie.After-pass_kmers-s-in-loop-base invariant-loop decreases-loop
+pass_kmers2_slice_known7 c = c.before.before
 
 -- the first block ends in the run that it began in
 same_first : (c : tie.After-pass_kmers-s invariant-loop decreases-loop)
@@ -80,18 +80,18 @@ inside c =
       omega (
         arith,
         c.loop-base.invariant.3.within,
-        same_first (pass-kmers-turn c),
+        same_first (pass_kmers_turn c),
         (run_end_within start.args.letters.now start.args.reached.at start.requires.0.in_letters).1,
       ),
       start.requires.0.few,
     )
 
-pass-kmers-requires : tie.Need-pass_kmers-s-requires invariant-loop decreases-loop
-pass-kmers-requires c κs = c.requires
+pass_kmers-s-requires : tie.Need-pass_kmers-s-requires invariant-loop decreases-loop
+pass_kmers-s-requires c κs = c.requires
 
-loop-holds : tie.Need-loop-base-init invariant-loop decreases-loop
-loop-holds c =
-    let first = pass-kmers-slice-known4 c.before.before in
+loop-base-init : tie.Need-loop-base-init invariant-loop decreases-loop
+loop-base-init c =
+    let first = pass_kmers_slice_known4 c.before.before in
     let pre = first.requires in
     let is = first.pass_kmers-s.ensures in (
       pre.0.block,
@@ -109,23 +109,23 @@ loop-holds c =
       λ es. refl,
     )
 
-add-if1 : tie.Need-overflow_add-base invariant-loop decreases-loop
-add-if1 c = omega (arith, inside c, c.loop-base.invariant.1)
+overflow_add-base : tie.Need-overflow_add-base invariant-loop decreases-loop
+overflow_add-base c = omega (arith, inside c, c.loop-base.invariant.1)
 
-add-if1-2 : tie.Need-overflow_add-s invariant-loop decreases-loop
-add-if1-2 c = omega (arith, inside c.before)
+overflow_add-s : tie.Need-overflow_add-s invariant-loop decreases-loop
+overflow_add-s c = omega (arith, inside c.before)
 
-add-base : tie.Need-overflow_add-base-in-loop-base invariant-loop decreases-loop
-add-base c = omega (arith, inside (turn-struct-known2 c))
+overflow_add-base-in-loop-base : tie.Need-overflow_add-base-in-loop-base invariant-loop decreases-loop
+overflow_add-base-in-loop-base c = omega (arith, inside (turn_struct_known2 c))
 
-read-block-requires : tie.Need-read_block-requires invariant-loop decreases-loop
-read-block-requires c κs = (c.loop-base.invariant.0.sized, (inside (turn-struct-known2 c.before)).0)
+read_block-requires : tie.Need-read_block-requires invariant-loop decreases-loop
+read_block-requires c κs = (c.loop-base.invariant.0.sized, (inside (turn_struct_known2 c.before)).0)
 
-pass-kmers-requires-2 : tie.Need-pass_kmers-s-requires-in-loop-base invariant-loop decreases-loop
-pass-kmers-requires-2 c κs =
-    let read = read-block-pass-kmers-arg6 c in
-    let at = turn-read-block read in
-    let start = entry-turn at in
+pass_kmers-s-requires-in-loop-base : tie.Need-pass_kmers-s-requires-in-loop-base invariant-loop decreases-loop
+pass_kmers-s-requires-in-loop-base c κs =
+    let read = read_block_pass_kmers_arg6 c in
+    let at = turn_read_block read in
+    let start = entry_turn at in
     let is = at.loop-base.invariant in (
       record { block = read.read_block.ensures; in_letters = omega (arith, (inside at).0); few = start.requires.0.few; short = start.requires.0.short },
       (
@@ -142,18 +142,18 @@ pass-kmers-requires-2 c κs =
       ),
     )
 
-loop-less : tie.Need-loop-base-smaller invariant-loop decreases-loop
-loop-less c =
-    let read = read-block-pass-kmers-arg6 (pass-kmers2-slice-known7 c.before.before).before in
-    omega (arith, (inside (turn-read-block read)).0, read.loop-base-test.true)
+loop-base-smaller : tie.Need-loop-base-smaller invariant-loop decreases-loop
+loop-base-smaller c =
+    let read = read_block_pass_kmers_arg6 (pass_kmers2_slice_known7 c.before.before).before in
+    omega (arith, (inside (turn_read_block read)).0, read.loop-base-test.true)
 
-loop-again : tie.Need-loop-base-preserved invariant-loop decreases-loop
-loop-again c =
-    let next = pass-kmers2-slice-known7 c.before.before in
+loop-base-preserved : tie.Need-loop-base-preserved invariant-loop decreases-loop
+loop-base-preserved c =
+    let next = pass_kmers2_slice_known7 c.before.before in
     let passed = next.pass_kmers-s-in-loop-base in
     let ens = passed.ensures in
-    let read = read-block-pass-kmers-arg6 next.before in
-    let at = turn-read-block read in
+    let read = read_block_pass_kmers_arg6 next.before in
+    let at = turn_read_block read in
     let args = at.args in
     let first = at.pass_kmers-s in
     let is = at.loop-base.invariant in
@@ -179,17 +179,17 @@ loop-again c =
           (to_pick last 1 letters first.result.at first.result.at first.result.at) ens.3 is.7,
     )
 
-add-t29 : tie.Need-overflow_add-result invariant-loop decreases-loop
-add-t29 c = omega (arith, inside c.before.before.before)
+overflow_add-result : tie.Need-overflow_add-result invariant-loop decreases-loop
+overflow_add-result c = omega (arith, inside c.before.before.before)
 
-same_length : tie.Need-shape_of-values invariant-loop decreases-loop
-same_length c = let at = c in at.loop-base.invariant.0.sized ∙ sym at.requires.0.block.sized
+shape_of-values : tie.Need-shape_of-values invariant-loop decreases-loop
+shape_of-values c = let at = c in at.loop-base.invariant.0.sized ∙ sym at.requires.0.block.sized
 
-same-length-2 : tie.Need-shape_of-codes invariant-loop decreases-loop
-same-length-2 c = let at = c in at.loop-base.invariant.5 ∙ at.pass_kmers-s.auto.codes
+shape_of-codes : tie.Need-shape_of-codes invariant-loop decreases-loop
+shape_of-codes c = let at = c in at.loop-base.invariant.5 ∙ at.pass_kmers-s.auto.codes
 
-same-length-3 : tie.Need-shape_of-positions invariant-loop decreases-loop
-same-length-3 c = let at = c in at.loop-base.invariant.6 ∙ at.pass_kmers-s.auto.positions
+shape_of-positions : tie.Need-shape_of-positions invariant-loop decreases-loop
+shape_of-positions c = let at = c in at.loop-base.invariant.6 ∙ at.pass_kmers-s.auto.positions
 
 returns : tie.Need-returns invariant-loop decreases-loop
 returns c =
@@ -200,7 +200,7 @@ returns c =
     let last = args.measures.last in
     let letters = args.letters.now in
     let from = args.reached.at in
-    let same = same_first (pass-kmers-turn at) in
+    let same = same_first (pass_kmers_turn at) in
     let end : at.loop-base.s.at + last ≡ run_end letters from = is.2.ended c.loop-base-test.false ∙ same in
     let none : to_pick last 1 letters from at.loop-base.s.at at.loop-base.s.at ≡ [] =
     picked_none (suc last) letters 1 (run_end letters from - last) (le_refl 1) at.loop-base.s.at at.loop-base.s.at (omega arith) in
@@ -213,4 +213,20 @@ returns c =
 pub all_kmers_spec : {M : Type 1} → statement M
 all_kmers_spec =
     tie.close
-    (tie.spec invariant-loop decreases-loop pass-kmers-requires loop-holds add-if1 add-if1-2 add-base read-block-requires pass-kmers-requires-2 loop-less loop-again add-t29 same_length same-length-2 same-length-3 returns)
+    (tie.spec
+    invariant-loop
+    decreases-loop
+    pass_kmers-s-requires
+    loop-base-init
+    overflow_add-base
+    overflow_add-s
+    overflow_add-base-in-loop-base
+    read_block-requires
+    pass_kmers-s-requires-in-loop-base
+    loop-base-smaller
+    loop-base-preserved
+    overflow_add-result
+    shape_of-values
+    shape_of-codes
+    shape_of-positions
+    returns)

@@ -38,8 +38,8 @@ Turn = tie.At-loop-base invariant-loop decreases-loop
 abbrev First : Type 0
 First = tie.After-pass_windows-s invariant-loop decreases-loop
 
-abbrev first-known7 : tie.After-slice_known-7-1 invariant-loop decreases-loop → First
-first-known7 c = c.before.before.before.before.before.before
+abbrev first_known7 : tie.After-slice_known-7-1 invariant-loop decreases-loop → First
+first_known7 c = c.before.before.before.before.before.before
 
 abbrev first : Turn → First
 first c = c.before.before.before.before.before.before.before
@@ -47,20 +47,20 @@ first c = c.before.before.before.before.before.before.before
 abbrev entry : Turn → tie.Start invariant-loop decreases-loop
 entry c = c.before.before.before.before.before.before.before.before.before.before.before.before.before.before.before.before
 
-abbrev turn-struct-known2 : tie.After-struct_known-in-loop-base-1 invariant-loop decreases-loop → Turn
-turn-struct-known2 c = c.before.before.before
+abbrev turn_struct_known2 : tie.After-struct_known-in-loop-base-1 invariant-loop decreases-loop → Turn
+turn_struct_known2 c = c.before.before.before
 
-abbrev turn-read-block : tie.After-read_block invariant-loop decreases-loop → Turn
-turn-read-block c = c.before.before.before.before.before
+abbrev turn_read_block : tie.After-read_block invariant-loop decreases-loop → Turn
+turn_read_block c = c.before.before.before.before.before
 
-abbrev read-block-carry : tie.After-carry invariant-loop decreases-loop → tie.After-read_block invariant-loop decreases-loop
-read-block-carry c = c.before.before.before.before
+abbrev read_block_carry : tie.After-carry invariant-loop decreases-loop → tie.After-read_block invariant-loop decreases-loop
+read_block_carry c = c.before.before.before.before
 
-abbrev carry-arg8 : tie.After-pass_windows-arg-in-loop-base-3-1 invariant-loop decreases-loop → tie.After-carry invariant-loop decreases-loop
-carry-arg8 c = c.before.before.before.before.before
+abbrev carry_arg8 : tie.After-pass_windows-arg-in-loop-base-3-1 invariant-loop decreases-loop → tie.After-carry invariant-loop decreases-loop
+carry_arg8 c = c.before.before.before.before.before
 
-abbrev next-known12 : tie.After-slice_known-in-loop-base-5-1 invariant-loop decreases-loop → tie.After-pass_windows-s-in-loop-base invariant-loop decreases-loop
-next-known12 c = c.before.before.before.before.before.before
+abbrev next_known12 : tie.After-slice_known-in-loop-base-5-1 invariant-loop decreases-loop → tie.After-pass_windows-s-in-loop-base invariant-loop decreases-loop
+next_known12 c = c.before.before.before.before.before.before
 
 -- the first block ends in the run that it began in
 same_first : (c : First)
@@ -93,12 +93,12 @@ inside c =
       le_trans start.requires.1.1.0.2 (le_trans c.pass_windows-s.ensures.1.start c.loop-base.invariant.3.start),
     )
 
-pass-windows-requires : tie.Need-pass_windows-s-requires invariant-loop decreases-loop
-pass-windows-requires c κs = c.requires
+pass_windows-s-requires : tie.Need-pass_windows-s-requires invariant-loop decreases-loop
+pass_windows-s-requires c κs = c.requires
 
-loop-holds : tie.Need-loop-base-init invariant-loop decreases-loop
-loop-holds c =
-    let first = first-known7 c in
+loop-base-init : tie.Need-loop-base-init invariant-loop decreases-loop
+loop-base-init c =
+    let first = first_known7 c in
     let pre = first.requires in
     let is = first.pass_windows-s.ensures in (
       pre.0.block,
@@ -115,17 +115,17 @@ loop-holds c =
       λ es. refl,
     )
 
-add-if1 : tie.Need-overflow_add-base invariant-loop decreases-loop
-add-if1 c = block_fits c.loop-base.invariant.1 (inside c).0 (inside c).1
+overflow_add-base : tie.Need-overflow_add-base invariant-loop decreases-loop
+overflow_add-base c = block_fits c.loop-base.invariant.1 (inside c).0 (inside c).1
 
-add-if1-2 : tie.Need-overflow_add-s invariant-loop decreases-loop
-add-if1-2 c = let there = inside c.before in sum_fits there.0 there.1
+overflow_add-s : tie.Need-overflow_add-s invariant-loop decreases-loop
+overflow_add-s c = let there = inside c.before in sum_fits there.0 there.1
 
-add-base : tie.Need-overflow_add-base-in-loop-base invariant-loop decreases-loop
-add-base c = let there = inside (turn-struct-known2 c) in sum_fits there.0 there.1
+overflow_add-base-in-loop-base : tie.Need-overflow_add-base-in-loop-base invariant-loop decreases-loop
+overflow_add-base-in-loop-base c = let there = inside (turn_struct_known2 c) in sum_fits there.0 there.1
 
-read-block-requires : tie.Need-read_block-requires invariant-loop decreases-loop
-read-block-requires c κs = (c.loop-base.invariant.0.sized, (inside (turn-struct-known2 c.before)).0)
+read_block-requires : tie.Need-read_block-requires invariant-loop decreases-loop
+read_block-requires c κs = (c.loop-base.invariant.0.sized, (inside (turn_struct_known2 c.before)).0)
 
 carry-requires : tie.Need-carry-requires invariant-loop decreases-loop
 carry-requires c κs = c.loop-base.invariant.4.scanned.sized
@@ -143,8 +143,8 @@ picking : (c : tie.After-carry invariant-loop decreases-loop)
     c.carry.new.ranks c.loop-base.s.at c.loop-base.s.code
     c.loop-base.s.lowest c.loop-base.s.low
 picking c =
-    let read = read-block-carry c in
-    let at = turn-read-block read in
+    let read = read_block_carry c in
+    let at = turn_read_block read in
     let args = at.args in
     let is = at.loop-base.invariant.4 in
     let few : at.loop-base.s.at ≤ suc at.loop-base.s.lowest + back_size =
@@ -156,11 +156,11 @@ picking c =
       is_rank = is.is_rank;
     }
 
-pass-windows-requires-2 : tie.Need-pass_windows-s-requires-in-loop-base invariant-loop decreases-loop
-pass-windows-requires-2 c κs =
-    let carry = carry-arg8 c in
-    let read = read-block-carry carry in
-    let at = turn-read-block read in
+pass_windows-s-requires-in-loop-base : tie.Need-pass_windows-s-requires-in-loop-base invariant-loop decreases-loop
+pass_windows-s-requires-in-loop-base c κs =
+    let carry = carry_arg8 c in
+    let read = read_block_carry carry in
+    let at = turn_read_block read in
     let start = entry at in
     let is = at.loop-base.invariant in
     let last = start.args.measures.last in
@@ -188,19 +188,19 @@ pass-windows-requires-2 c κs =
       ),
     )
 
-loop-less : tie.Need-loop-base-smaller invariant-loop decreases-loop
-loop-less c =
-    let read = read-block-carry (carry-arg8 (next-known12 c).before) in
-    block_falls read.loop-base.base read.loop-base-test.true (inside (turn-read-block read)).0
+loop-base-smaller : tie.Need-loop-base-smaller invariant-loop decreases-loop
+loop-base-smaller c =
+    let read = read_block_carry (carry_arg8 (next_known12 c).before) in
+    block_falls read.loop-base.base read.loop-base-test.true (inside (turn_read_block read)).0
 
-loop-again : tie.Need-loop-base-preserved invariant-loop decreases-loop
-loop-again c =
-    let next = next-known12 c in
+loop-base-preserved : tie.Need-loop-base-preserved invariant-loop decreases-loop
+loop-base-preserved c =
+    let next = next_known12 c in
     let passed = next.pass_windows-s-in-loop-base in
     let ens = passed.ensures in
-    let carry = carry-arg8 next.before in
-    let read = read-block-carry carry in
-    let at = turn-read-block read in
+    let carry = carry_arg8 next.before in
+    let read = read_block_carry carry in
+    let at = turn_read_block read in
     let args = at.args in
     let first = at.pass_windows-s in
     let is = at.loop-base.invariant in
@@ -231,26 +231,26 @@ loop-again c =
           (to_pick last w letters first.result.at (suc (first.result.at - w)) (suc first.result.lowest)) ens.3 is.6,
     )
 
-add-t36 : tie.Need-overflow_add-result invariant-loop decreases-loop
-add-t36 c = let there = inside c.before.before.before in sum_fits there.0 there.1
+overflow_add-result : tie.Need-overflow_add-result invariant-loop decreases-loop
+overflow_add-result c = let there = inside c.before.before.before in sum_fits there.0 there.1
 
-same_length : tie.Need-shape_of-values invariant-loop decreases-loop
-same_length c = let at = c in at.loop-base.invariant.0.sized ∙ sym at.requires.0.block.sized
+shape_of-values : tie.Need-shape_of-values invariant-loop decreases-loop
+shape_of-values c = let at = c in at.loop-base.invariant.0.sized ∙ sym at.requires.0.block.sized
 
-same-length-2 : tie.Need-shape_of-ranks invariant-loop decreases-loop
-same-length-2 c = let at = c in at.loop-base.invariant.5.0 ∙ at.pass_windows-s.auto.ranks
+shape_of-ranks : tie.Need-shape_of-ranks invariant-loop decreases-loop
+shape_of-ranks c = let at = c in at.loop-base.invariant.5.0 ∙ at.pass_windows-s.auto.ranks
 
-same-length-3 : tie.Need-shape_of-codes invariant-loop decreases-loop
-same-length-3 c = let at = c in at.loop-base.invariant.5.1 ∙ at.pass_windows-s.auto.codes
+shape_of-codes : tie.Need-shape_of-codes invariant-loop decreases-loop
+shape_of-codes c = let at = c in at.loop-base.invariant.5.1 ∙ at.pass_windows-s.auto.codes
 
-same-length-4 : tie.Need-shape_of-positions invariant-loop decreases-loop
-same-length-4 c = let at = c in at.loop-base.invariant.5.2 ∙ at.pass_windows-s.auto.positions
+shape_of-positions : tie.Need-shape_of-positions invariant-loop decreases-loop
+shape_of-positions c = let at = c in at.loop-base.invariant.5.2 ∙ at.pass_windows-s.auto.positions
 
 returns : tie.Need-returns invariant-loop decreases-loop
 returns c =
     let at = c.before.before.before in
     let args = at.args in
-    let First-Block = at.pass_windows-s in
+    let First_Block = at.pass_windows-s in
     let is = at.loop-base.invariant in
     let last = args.measures.last in
     let w = args.measures.w in
@@ -261,11 +261,11 @@ returns c =
     let none : to_pick last w letters from (suc (at.loop-base.s.at - w)) (suc at.loop-base.s.lowest) ≡ [] =
     picked_none (suc last) letters w (run_end letters from - last) at.requires.1.1.0.0 (suc (at.loop-base.s.at - w)) (suc at.loop-base.s.lowest)
     (no_window last (inside at).2 end) in
-    let put = put_on last w args.measures.room letters from First-Block.result.at (suc (First-Block.result.at - w))
-    (suc First-Block.result.lowest) (suc (at.loop-base.s.at - w)) (suc at.loop-base.s.lowest) same
-    First-Block.result.entries at.loop-base.s.entries args.reached.entries First-Block.new.codes
-    First-Block.new.positions at.loop-base.codes at.loop-base.positions args.codes.now args.positions.now
-    (to_pick last w letters from (suc (from - w)) (suc args.reached.lowest)) is.6 First-Block.ensures.3 in
+    let put = put_on last w args.measures.room letters from First_Block.result.at (suc (First_Block.result.at - w))
+    (suc First_Block.result.lowest) (suc (at.loop-base.s.at - w)) (suc at.loop-base.s.lowest) same
+    First_Block.result.entries at.loop-base.s.entries args.reached.entries First_Block.new.codes
+    First_Block.new.positions at.loop-base.codes at.loop-base.positions args.codes.now args.positions.now
+    (to_pick last w letters from (suc (from - w)) (suc args.reached.lowest)) is.6 First_Block.ensures.3 in
     record {
       block = is.0;
       begins = is.1;
@@ -277,4 +277,22 @@ returns c =
 pub all_windows_spec : {M : Type 1} → statement M
 all_windows_spec =
     tie.close
-    (tie.spec invariant-loop decreases-loop pass-windows-requires loop-holds add-if1 add-if1-2 add-base read-block-requires carry-requires pass-windows-requires-2 loop-less loop-again add-t36 same_length same-length-2 same-length-3 same-length-4 returns)
+    (tie.spec
+    invariant-loop
+    decreases-loop
+    pass_windows-s-requires
+    loop-base-init
+    overflow_add-base
+    overflow_add-s
+    overflow_add-base-in-loop-base
+    read_block-requires
+    carry-requires
+    pass_windows-s-requires-in-loop-base
+    loop-base-smaller
+    loop-base-preserved
+    overflow_add-result
+    shape_of-values
+    shape_of-ranks
+    shape_of-codes
+    shape_of-positions
+    returns)

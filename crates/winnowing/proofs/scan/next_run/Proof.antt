@@ -17,27 +17,26 @@ invariant-loop letters from at₀ at =
 abbrev decreases-loop : tie.decreases-loop-at
 decreases-loop letters from at₀ at = suc (length letters) - at
 
--- places, each named for where it leads and from where
-loop-holds : tie.Need-loop-at-init invariant-loop decreases-loop
-loop-holds c = (le_refl c.args.from, c.requires.0, λ k w some wide. refl)
+loop-at-init : tie.Need-loop-at-init invariant-loop decreases-loop
+loop-at-init c = (le_refl c.args.from, c.requires.0, λ k w some wide. refl)
 
-shared-slice-read-value : tie.Need-bounds-letters-at invariant-loop decreases-loop
-shared-slice-read-value c = search rules
+bounds-letters-at : tie.Need-bounds-letters-at invariant-loop decreases-loop
+bounds-letters-at c = search rules
 
 value-requires : tie.Need-value-requires invariant-loop decreases-loop
 value-requires c κs = search rules
 
-returns : tie.Need-returns-then-value-ne-FOREIGN invariant-loop decreases-loop
-returns c = c.loop-at.invariant
+returns-then-value-ne-FOREIGN : tie.Need-returns-then-value-ne-FOREIGN invariant-loop decreases-loop
+returns-then-value-ne-FOREIGN c = c.loop-at.invariant
 
-add_at : tie.Need-overflow_add-at invariant-loop decreases-loop
-add_at c = omega (arith, c.loop-at.invariant.1, c.requires.1)
+overflow_add-at : tie.Need-overflow_add-at invariant-loop decreases-loop
+overflow_add-at c = omega (arith, c.loop-at.invariant.1, c.requires.1)
 
-loop-less : tie.Need-loop-at-smaller invariant-loop decreases-loop
-loop-less c = omega (arith, c.loop-at-test.true)
+loop-at-smaller : tie.Need-loop-at-smaller invariant-loop decreases-loop
+loop-at-smaller c = omega (arith, c.loop-at-test.true)
 
-loop-again : tie.Need-loop-at-preserved invariant-loop decreases-loop
-loop-again c =
+loop-at-preserved : tie.Need-loop-at-preserved invariant-loop decreases-loop
+loop-at-preserved c =
     let turn = c in
     let at = turn.loop-at in
     let letters = turn.args.letters.now in
@@ -47,10 +46,20 @@ loop-again c =
       λ k w some wide. foreign_passed k w at.at letters some wide taken (sym c.value.ensures ∙ c.if-value-ne-FOREIGN.false) ∙ at.invariant.2 k w some wide,
     )
 
-returns-2 : tie.Need-returns invariant-loop decreases-loop
-returns-2 c = c.loop-at.invariant
+returns : tie.Need-returns invariant-loop decreases-loop
+returns c = c.loop-at.invariant
 
 pub next_run_spec : {M : Type 1} → statement M
 next_run_spec =
     tie.close
-    (tie.spec invariant-loop decreases-loop loop-holds shared-slice-read-value value-requires returns add_at loop-less loop-again returns-2)
+    (tie.spec
+    invariant-loop
+    decreases-loop
+    loop-at-init
+    bounds-letters-at
+    value-requires
+    returns-then-value-ne-FOREIGN
+    overflow_add-at
+    loop-at-smaller
+    loop-at-preserved
+    returns)

@@ -20,23 +20,23 @@ use Rattle.winnowing.proofs.scan.run.Tie as tie
 abbrev Read : Type 0
 Read = tie.After-first_letters-begun
 
-abbrev entry-known2 : tie.After-slice_known-2-1 → tie.Start
-entry-known2 c = c.before.before.before
+abbrev entry_known2 : tie.After-slice_known-2-1 → tie.Start
+entry_known2 c = c.before.before.before
 
-abbrev known3-struct : tie.After-struct_known-1 → tie.After-slice_known-3-1
-known3-struct c = c.before.before.before
+abbrev known3_struct : tie.After-struct_known-1 → tie.After-slice_known-3-1
+known3_struct c = c.before.before.before
 
 abbrev entry : Read → tie.Start
 entry c = c.before.before.before.before.before.before.before.before.before.before.before
 
-abbrev read-else1 : tie.Else-begun-from → Read
-read-else1 c = c.before.before
+abbrev read_else1 : tie.Else-begun-from → Read
+read_else1 c = c.before.before
 
-abbrev else1-arg3 : tie.After-all_kmers-arg-then-measures-eq1-2-1 → tie.Else-begun-from
-else1-arg3 c = c.before.before.before.before.before
+abbrev else1_arg3 : tie.After-all_kmers-arg-then-measures-eq1-2-1 → tie.Else-begun-from
+else1_arg3 c = c.before.before.before.before.before
 
-abbrev else1-arg4 : tie.After-run_windows-arg-4-1 → tie.Else-begun-from
-else1-arg4 c = c.before.before.before.before.before.before
+abbrev else1_arg4 : tie.After-run_windows-arg-4-1 → tie.Else-begun-from
+else1_arg4 c = c.before.before.before.before.before.before
 
 -- the block at hand, and the place of the run
 inside : (c : Read)
@@ -50,22 +50,22 @@ inside c =
     let there = run_end_within start.args.letters.now start.args.place.at start.requires.0.0.in_letters in
     (c.covering-base.ensures.1, c.covering-base.ensures.2, there.0, there.1, start.requires.0.0.few)
 
-add-covering : tie.Need-overflow_add-from
-add-covering c = search rules
+overflow_add-from : tie.Need-overflow_add-from
+overflow_add-from c = search rules
 
-add-covering-2 : tie.Need-overflow_add-from-2
-add-covering-2 c = search rules
+overflow_add-from-2 : tie.Need-overflow_add-from-2
+overflow_add-from-2 c = search rules
 
-covering-requires : tie.Need-covering-base-requires
-covering-requires c κs =
-    let start = entry-known2 (known3-struct c).before in
+covering-base-requires : tie.Need-covering-base-requires
+covering-base-requires c κs =
+    let start = entry_known2 (known3_struct c).before in
     let pre = start.requires.0.0 in (
       (pre.block, start.requires.0.1, pre.in_letters),
       (block_reaches start.args.place.at pre.short start.requires.1.0.1, pre.few),
     )
 
-first-letters-requires : tie.Need-first_letters-begun-requires
-first-letters-requires c κs =
+first_letters-begun-requires : tie.Need-first_letters-begun-requires
+first_letters-begun-requires c κs =
     let cover = c.covering-base.ensures in
     let start = c in
     let pre = start.requires.0.0 in (
@@ -76,14 +76,14 @@ first-letters-requires c κs =
       },
     )
 
-add-if1 : tie.Need-overflow_add-from-3
-add-if1 c = search rules
+overflow_add-from-3 : tie.Need-overflow_add-from-3
+overflow_add-from-3 c = search rules
 
-same_length : tie.Need-shape_of-values-then-begun-from
-same_length c = c.covering-base.auto.values
+shape_of-values-then-begun-from : tie.Need-shape_of-values-then-begun-from
+shape_of-values-then-begun-from c = c.covering-base.auto.values
 
-returns : tie.Need-returns-then-begun-from
-returns c =
+returns-then-begun-from : tie.Need-returns-then-begun-from
+returns-then-begun-from c =
     let read = c.before.before in
     let start = read in
     let args = start.args in
@@ -110,7 +110,7 @@ begun : (c : tie.Else-begun-from)
     × InHand c.args.measures.last c.args.letters.now c.args.place.at
     c.first_letters-begun.result.code
 begun c =
-    let read = read-else1 c in
+    let read = read_else1 c in
     let start = read in
     let letters = start.args.letters.now in
     let from = start.args.place.at in
@@ -136,13 +136,13 @@ standing : (c : tie.Else-begun-from)
     c.args.place.at c.args.codes.now c.args.positions.now
     c.args.place.at c.args.place.entries
 standing c =
-    let start = entry (read-else1 c) in
+    let start = entry (read_else1 c) in
     record { start = le_refl start.args.place.at; within = (begun c).0; counted = start.requires.1.0.2; has_room = start.requires.1.1 }
 
-all-kmers-requires : tie.Need-all_kmers-requires
-all-kmers-requires c κs =
-    let test = else1-arg3 c in
-    let read = read-else1 test in
+all_kmers-requires : tie.Need-all_kmers-requires
+all_kmers-requires c κs =
+    let test = else1_arg3 c in
+    let read = read_else1 test in
     let pre = read.requires.0.0 in
     let there = inside read in
     let measures = read.args.measures in
@@ -152,19 +152,19 @@ all-kmers-requires c κs =
       (record { begins = held.0; ends = held.1 }, (standing test, (begun test).1)),
     )
 
-same-length-2 : tie.Need-shape_of-values-then-measures-eq1
-same-length-2 c =
+shape_of-values-then-measures-eq1 : tie.Need-shape_of-values-then-measures-eq1
+shape_of-values-then-measures-eq1 c =
     let all = c in
     all.all_kmers.auto.values ∙ all.covering-base.auto.values
 
-same-length-3 : tie.Need-shape_of-codes-then-measures-eq1
-same-length-3 c = c.all_kmers.auto.codes
+shape_of-codes-then-measures-eq1 : tie.Need-shape_of-codes-then-measures-eq1
+shape_of-codes-then-measures-eq1 c = c.all_kmers.auto.codes
 
-same-length-4 : tie.Need-shape_of-positions-then-measures-eq1
-same-length-4 c = c.all_kmers.auto.positions
+shape_of-positions-then-measures-eq1 : tie.Need-shape_of-positions-then-measures-eq1
+shape_of-positions-then-measures-eq1 c = c.all_kmers.auto.positions
 
-returns-2 : tie.Need-returns-then-measures-eq1
-returns-2 c =
+returns-then-measures-eq1 : tie.Need-returns-then-measures-eq1
+returns-then-measures-eq1 c =
     let all = c in
     let passed = all.all_kmers.ensures in
     let args = all.args in
@@ -180,10 +180,10 @@ returns-2 c =
       put = rw one (rw same at passed.put);
     }
 
-run-windows-requires : tie.Need-run_windows-requires
-run-windows-requires c κs =
-    let test = else1-arg4 c in
-    let read = read-else1 test in
+run_windows-requires : tie.Need-run_windows-requires
+run_windows-requires c κs =
+    let test = else1_arg4 c in
+    let read = read_else1 test in
     let start = read in
     let pre = start.requires.0.0 in
     let there = inside read in (
@@ -194,24 +194,42 @@ run-windows-requires c κs =
       ),
     )
 
-same-length-5 : tie.Need-shape_of-values
-same-length-5 c =
+shape_of-values : tie.Need-shape_of-values
+shape_of-values c =
     let all = c in
     all.run_windows.auto.values ∙ all.covering-base.auto.values
 
-same-length-6 : tie.Need-shape_of-ranks
-same-length-6 c = c.run_windows.auto.ranks
+shape_of-ranks : tie.Need-shape_of-ranks
+shape_of-ranks c = c.run_windows.auto.ranks
 
-same-length-7 : tie.Need-shape_of-codes
-same-length-7 c = c.run_windows.auto.codes
+shape_of-codes : tie.Need-shape_of-codes
+shape_of-codes c = c.run_windows.auto.codes
 
-same-length-8 : tie.Need-shape_of-positions
-same-length-8 c = c.run_windows.auto.positions
+shape_of-positions : tie.Need-shape_of-positions
+shape_of-positions c = c.run_windows.auto.positions
 
-returns-3 : tie.Need-returns
-returns-3 c = c.run_windows.ensures
+returns : tie.Need-returns
+returns c = c.run_windows.ensures
 
 pub run_spec : {M : Type 1} → statement M
 run_spec =
     tie.close
-    (tie.spec add-covering add-covering-2 covering-requires first-letters-requires add-if1 same_length returns all-kmers-requires same-length-2 same-length-3 same-length-4 returns-2 run-windows-requires same-length-5 same-length-6 same-length-7 same-length-8 returns-3)
+    (tie.spec
+    overflow_add-from
+    overflow_add-from-2
+    covering-base-requires
+    first_letters-begun-requires
+    overflow_add-from-3
+    shape_of-values-then-begun-from
+    returns-then-begun-from
+    all_kmers-requires
+    shape_of-values-then-measures-eq1
+    shape_of-codes-then-measures-eq1
+    shape_of-positions-then-measures-eq1
+    returns-then-measures-eq1
+    run_windows-requires
+    shape_of-values
+    shape_of-ranks
+    shape_of-codes
+    shape_of-positions
+    returns)

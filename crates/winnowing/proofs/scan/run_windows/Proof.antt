@@ -25,31 +25,31 @@ Window = tie.After-first_window-full
 abbrev entry : Window → tie.Start
 entry c = c.before.before.before.before.before.before.before
 
-abbrev window-known5 : tie.After-slice_known-5-1 → Window
-window-known5 c = c.before.before
+abbrev window_known5 : tie.After-slice_known-5-1 → Window
+window_known5 c = c.before.before
 
-abbrev window-slot : tie.After-slot-to → Window
-window-slot c = c.before.before.before.before
+abbrev window_slot : tie.After-slot-to → Window
+window_slot c = c.before.before.before.before
 
-abbrev slot-arg3 : tie.After-put_lowest-arg-1 → tie.After-slot-to
-slot-arg3 c = c.before
+abbrev slot_arg3 : tie.After-put_lowest-arg-1 → tie.After-slot-to
+slot_arg3 c = c.before
 
-abbrev window-put : tie.After-put_lowest-found → Window
-window-put c = c.before.before.before.before.before.before.before
+abbrev window_put : tie.After-put_lowest-found → Window
+window_put c = c.before.before.before.before.before.before.before
 
-abbrev put-struct : tie.After-struct_known-1 → tie.After-put_lowest-found
-put-struct c = c.before.before.before.before.before
+abbrev put_struct : tie.After-struct_known-1 → tie.After-put_lowest-found
+put_struct c = c.before.before.before.before.before
 
-abbrev put-arg4 : tie.After-all_windows-arg-4-1 → tie.After-put_lowest-found
-put-arg4 c = c.before.before.before.before.before.before.before.before.before.before
+abbrev put_arg4 : tie.After-all_windows-arg-4-1 → tie.After-put_lowest-found
+put_arg4 c = c.before.before.before.before.before.before.before.before.before.before
 
-abbrev all-known11 : tie.After-slice_known-11-1 → tie.After-all_windows
-all-known11 c = c.before.before.before.before.before.before.before.before
+abbrev all_known11 : tie.After-slice_known-11-1 → tie.After-all_windows
+all_known11 c = c.before.before.before.before.before.before.before.before
 
 -- ---- the first window
 
-first-window-requires : tie.Need-first_window-full-requires
-first-window-requires c κs =
+first_window-full-requires : tie.Need-first_window-full-requires
+first_window-full-requires c κs =
     let start = c in (
       (start.requires.0, start.requires.1.0),
       (
@@ -80,20 +80,20 @@ inside c =
       start.requires.1.0.ends,
     )
 
-add_at : tie.Need-overflow_add-at
-add_at c =
-    let there = inside (window-known5 c) in
+overflow_add-at : tie.Need-overflow_add-at
+overflow_add-at c =
+    let there = inside (window_known5 c) in
     sum_fits (le_trans there.2 there.3) there.4
 
-same_length : tie.Need-shape_of-values-then-p-from
-same_length c = refl
+shape_of-values-then-p-from : tie.Need-shape_of-values-then-p-from
+shape_of-values-then-p-from c = refl
 
-same-length-2 : tie.Need-shape_of-ranks-then-p-from
-same-length-2 c = c.first_window-full.auto.ranks
+shape_of-ranks-then-p-from : tie.Need-shape_of-ranks-then-p-from
+shape_of-ranks-then-p-from c = c.first_window-full.auto.ranks
 
-returns : tie.Need-returns-then-p-from
-returns c =
-    let window = window-known5 c.before in
+returns-then-p-from : tie.Need-returns-then-p-from
+returns-then-p-from c =
+    let window = window_known5 c.before in
     let start = window in
     let args = start.args in
     let letters = args.letters.now in
@@ -112,9 +112,9 @@ returns c =
 
 -- ---- its lowest
 
-slot-requires : tie.Need-slot-to-requires
-slot-requires c κs =
-    let window = window-known5 c.before in
+slot-to-requires : tie.Need-slot-to-requires
+slot-to-requires c κs =
+    let window = window_known5 c.before in
     let there = inside window in
     let measures = window.args.measures in
     let held = in_block measures.last measures.w there.5 there.0 there.1 there.6 in
@@ -127,19 +127,19 @@ slots : (c : tie.After-slot-to)
     × (c.slot-to.result
     ≤ c.slot-to.result - (c.first_window-full.result.at - c.args.begun.at) + c.first_window-full.result.at)
 slots c =
-    let window = window-slot c in
+    let window = window_slot c in
     slots_between window.args.measures.last c.if-p-from.false (inside window).5 c.slot-to.ensures.0
 
-sub-put-lowest : tie.Need-overflow_sub-p
-sub-put-lowest c = (inside (window-slot c)).0
+overflow_sub-p : tie.Need-overflow_sub-p
+overflow_sub-p c = (inside (window_slot c)).0
 
-sub-put-lowest-2 : tie.Need-overflow_sub-to
-sub-put-lowest-2 c = (slots c).0
+overflow_sub-to : tie.Need-overflow_sub-to
+overflow_sub-to c = (slots c).0
 
-put-lowest-requires : tie.Need-put_lowest-found-requires
-put-lowest-requires c κs =
-    let slot = slot-arg3 c.before in
-    let window = window-slot slot in
+put_lowest-found-requires : tie.Need-put_lowest-found-requires
+put_lowest-found-requires c κs =
+    let slot = slot_arg3 c.before in
+    let window = window_slot slot in
     let there = inside window in
     let standing = window.requires.1.1.1.0 in
     let to = slots slot in
@@ -158,7 +158,7 @@ searched : (c : tie.After-put_lowest-found)
     ≡ code_at (suc c.args.measures.last) c.args.letters.now c.put_lowest-found.result.at)
 searched c =
     let slot = c in
-    let window = window-put c in
+    let window = window_put c in
     let args = window.args in
     let from = args.begun.at in
     let result = window.first_window-full.result in
@@ -172,33 +172,33 @@ searched c =
     kmers.1 kmers.2 (rw same at found.near) (rw same at found.lowest) (rw same at found.rank_there) in
     (rw kmers.0 at lowest.0, lowest.1, lowest.2)
 
-add-if2 : tie.Need-overflow_add-from
-add-if2 c =
-    let window = window-put (put-struct c) in
+overflow_add-from : tie.Need-overflow_add-from
+overflow_add-from c =
+    let window = window_put (put_struct c) in
     let there = inside window in
     let letters = in_letters window.args.measures.last there.2 there.3 there.4 in
     window_fits (le_trans there.0 letters) window.requires.1.1.0.1
 
 -- ---- fewer k-mers than a window
 
-same-length-3 : tie.Need-shape_of-values-then-p-from-2
-same-length-3 c = refl
+shape_of-values-then-p-from-2 : tie.Need-shape_of-values-then-p-from-2
+shape_of-values-then-p-from-2 c = refl
 
-same-length-4 : tie.Need-shape_of-ranks-then-p-from-2
-same-length-4 c = c.first_window-full.auto.ranks
+shape_of-ranks-then-p-from-2 : tie.Need-shape_of-ranks-then-p-from-2
+shape_of-ranks-then-p-from-2 c = c.first_window-full.auto.ranks
 
-same-length-5 : tie.Need-shape_of-codes-then-p-from-2
-same-length-5 c = c.put_lowest-found.auto.codes
+shape_of-codes-then-p-from-2 : tie.Need-shape_of-codes-then-p-from-2
+shape_of-codes-then-p-from-2 c = c.put_lowest-found.auto.codes
 
-same-length-6 : tie.Need-shape_of-positions-then-p-from-2
-same-length-6 c = c.put_lowest-found.auto.positions
+shape_of-positions-then-p-from-2 : tie.Need-shape_of-positions-then-p-from-2
+shape_of-positions-then-p-from-2 c = c.put_lowest-found.auto.positions
 
-returns-2 : tie.Need-returns-then-p-from-2
-returns-2 c =
-    let found = put-struct c.before in
+returns-then-p-from-2 : tie.Need-returns-then-p-from-2
+returns-then-p-from-2 c =
+    let found = put_struct c.before in
     let picked = found.put_lowest-found in
     let put = picked.ensures.put in
-    let window = window-put found in
+    let window = window_put found in
     let start = window in
     let args = start.args in
     let letters = args.letters.now in
@@ -227,18 +227,18 @@ returns-2 c =
 full : (c : tie.After-all_windows-arg-4-1)
     → c.first_window-full.result.at
     ≡ c.args.begun.at + c.args.measures.w
-full c = le_antisymm (inside (window-put (put-arg4 c))).1 c.if-p-from-2.false
+full c = le_antisymm (inside (window_put (put_arg4 c))).1 c.if-p-from-2.false
 
 -- and it is of the run
-of-run : (c : Window)
+of_run : (c : Window)
     → c.first_window-full.result.at ≤ run_end c.args.letters.now c.args.begun.at - c.args.measures.last
-of-run c = run_within c.first_window-full.result.at c.args.measures.last (inside c).2
+of_run c = run_within c.first_window-full.result.at c.args.measures.last (inside c).2
 
-all-windows-requires : tie.Need-all_windows-requires
-all-windows-requires c κs =
-    let found = put-arg4 c in
+all_windows-requires : tie.Need-all_windows-requires
+all_windows-requires c κs =
+    let found = put_arg4 c in
     let picked = found.put_lowest-found in
-    let window = window-put found in
+    let window = window_put found in
     let start = entry window in
     let args = start.args in
     let letters = args.letters.now in
@@ -279,31 +279,31 @@ all-windows-requires c κs =
       ),
     )
 
-same-length-7 : tie.Need-shape_of-values
-same-length-7 c = c.all_windows.auto.values
+shape_of-values : tie.Need-shape_of-values
+shape_of-values c = c.all_windows.auto.values
 
-same-length-8 : tie.Need-shape_of-ranks
-same-length-8 c =
+shape_of-ranks : tie.Need-shape_of-ranks
+shape_of-ranks c =
     let all = c in
     all.all_windows.auto.ranks ∙ all.first_window-full.auto.ranks
 
-same-length-9 : tie.Need-shape_of-codes
-same-length-9 c =
+shape_of-codes : tie.Need-shape_of-codes
+shape_of-codes c =
     let all = c in
     all.all_windows.auto.codes ∙ all.put_lowest-found.auto.codes
 
-same-length-10 : tie.Need-shape_of-positions
-same-length-10 c =
+shape_of-positions : tie.Need-shape_of-positions
+shape_of-positions c =
     let all = c in
     all.all_windows.auto.positions ∙ all.put_lowest-found.auto.positions
 
-returns-3 : tie.Need-returns
-returns-3 c =
-    let all = all-known11 c in
+returns : tie.Need-returns
+returns c =
+    let all = all_known11 c in
     let passed = all.all_windows in
-    let found = put-arg4 all.before in
+    let found = put_arg4 all.before in
     let picked = found.put_lowest-found in
-    let window = window-put found in
+    let window = window_put found in
     let start = window in
     let args = start.args in
     let letters = args.letters.now in
@@ -317,7 +317,7 @@ returns-3 c =
     let first = (full_first from w (full all.before)).0 in
     let same = run_end_same letters from result.at there.0 (le_trans (le-add_right result.at last) there.2) in
     let new = window_new last w room (run_end letters from - last) letters start.requires.1.1.0.0 from result.at picked.result.at
-    (sym (full all.before)) (of-run window) lowest.0 from args.begun.entries (unrank picked.result.rank) picked.result.entries
+    (sym (full all.before)) (of_run window) lowest.0 from args.begun.entries (unrank picked.result.rank) picked.result.entries
     args.codes.now args.positions.now picked.new.codes picked.new.positions lowest.0.first lowest.2
     picked.ensures.put in
     let put_all_lem = put_behind room picked.result.entries passed.result.entries args.begun.entries picked.new.codes
@@ -331,10 +331,31 @@ returns-3 c =
       counted = passed.ensures.counted;
       put = run_long last w room letters start.requires.1.1.0.0 from (run_end letters from - last) args.begun.entries args.codes.now
           args.positions.now passed.result.entries passed.new.codes passed.new.positions
-          (rw (sym (full all.before)) (of-run window)) put_all_lem;
+          (rw (sym (full all.before)) (of_run window)) put_all_lem;
     }
 
 pub run_windows_spec : {M : Type 1} → statement M
 run_windows_spec =
     tie.close
-    (tie.spec first-window-requires add_at same_length same-length-2 returns slot-requires sub-put-lowest sub-put-lowest-2 put-lowest-requires add-if2 same-length-3 same-length-4 same-length-5 same-length-6 returns-2 all-windows-requires same-length-7 same-length-8 same-length-9 same-length-10 returns-3)
+    (tie.spec
+    first_window-full-requires
+    overflow_add-at
+    shape_of-values-then-p-from
+    shape_of-ranks-then-p-from
+    returns-then-p-from
+    slot-to-requires
+    overflow_sub-p
+    overflow_sub-to
+    put_lowest-found-requires
+    overflow_add-from
+    shape_of-values-then-p-from-2
+    shape_of-ranks-then-p-from-2
+    shape_of-codes-then-p-from-2
+    shape_of-positions-then-p-from-2
+    returns-then-p-from-2
+    all_windows-requires
+    shape_of-values
+    shape_of-ranks
+    shape_of-codes
+    shape_of-positions
+    returns)

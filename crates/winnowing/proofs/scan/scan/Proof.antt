@@ -31,41 +31,41 @@ decreases-loop letters k w codes₀ positions₀ room values₀ ranks₀ measure
 abbrev Turn : Type 0
 Turn = tie.At-loop-at invariant-loop decreases-loop
 
-abbrev in-loop-arg2 : tie.After-run-arg-in-loop-at-1 invariant-loop decreases-loop → tie.In-loop-at invariant-loop decreases-loop
-in-loop-arg2 c = c.before.before.before.before
+abbrev in_loop_arg2 : tie.After-run-arg-in-loop-at-1 invariant-loop decreases-loop → tie.In-loop-at invariant-loop decreases-loop
+in_loop_arg2 c = c.before.before.before.before
 
-abbrev turn-run : tie.After-run-end invariant-loop decreases-loop → Turn
-turn-run c = c.before.before.before.before.before.before
+abbrev turn_run : tie.After-run-end invariant-loop decreases-loop → Turn
+turn_run c = c.before.before.before.before.before.before
 
-abbrev run-struct : tie.After-struct_known-1 invariant-loop decreases-loop → tie.After-run-end invariant-loop decreases-loop
-run-struct c = c.before.before.before.before.before.before.before
+abbrev run_struct : tie.After-struct_known-1 invariant-loop decreases-loop → tie.After-run-end invariant-loop decreases-loop
+run_struct c = c.before.before.before.before.before.before.before
 
-sub-t16 : tie.Need-overflow_sub-measures invariant-loop decreases-loop
-sub-t16 c = c.requires.0.0
+overflow_sub-measures : tie.Need-overflow_sub-measures invariant-loop decreases-loop
+overflow_sub-measures c = c.requires.0.0
 
-slice-aggregate-read-block : tie.Need-slice_bounds-read_block-end invariant-loop decreases-loop
-slice-aggregate-read-block c = refl
+slice_bounds-read_block-end : tie.Need-slice_bounds-read_block-end invariant-loop decreases-loop
+slice_bounds-read_block-end c = refl
 
-read-block-requires : tie.Need-read_block-requires invariant-loop decreases-loop
-read-block-requires c κs = (refl, zero-le)
+read_block-requires : tie.Need-read_block-requires invariant-loop decreases-loop
+read_block-requires c κs = (refl, zero-le)
 
-next-run-requires : tie.Need-next_run-at-requires invariant-loop decreases-loop
-next-run-requires c κs = (zero-le, c.requires.0.4)
+next_run-at-requires : tie.Need-next_run-at-requires invariant-loop decreases-loop
+next_run-at-requires c κs = (zero-le, c.requires.0.4)
 
-loop-holds : tie.Need-loop-at-init invariant-loop decreases-loop
-loop-holds c =
+loop-at-init : tie.Need-loop-at-init invariant-loop decreases-loop
+loop-at-init c =
     let pre = c.requires in
     ((c.read_block.ensures, zero-le, refl), (zero-le, c.next_run-at.ensures.1), pre.1, (refl, refl), refl)
 
-slice-aggregate-run : tie.Need-slice_bounds-run-end invariant-loop decreases-loop
-slice-aggregate-run c = sym c.loop-at.invariant.0.0.sized
+slice_bounds-run-end : tie.Need-slice_bounds-run-end invariant-loop decreases-loop
+slice_bounds-run-end c = sym c.loop-at.invariant.0.0.sized
 
-slice-aggregate-run-2 : tie.Need-slice_bounds-run-end-in-loop-at invariant-loop decreases-loop
-slice-aggregate-run-2 c = sym c.loop-at.invariant.0.2
+slice_bounds-run-end-in-loop-at : tie.Need-slice_bounds-run-end-in-loop-at invariant-loop decreases-loop
+slice_bounds-run-end-in-loop-at c = sym c.loop-at.invariant.0.2
 
-run-requires : tie.Need-run-end-requires invariant-loop decreases-loop
-run-requires c κs =
-    let turn = (in-loop-arg2 c).before in
+run-end-requires : tie.Need-run-end-requires invariant-loop decreases-loop
+run-end-requires c κs =
+    let turn = (in_loop_arg2 c).before in
     let start = turn in
     let at = turn.loop-at in (
       (
@@ -94,25 +94,25 @@ ended c =
     let passed = run_ended c.run-end.ensures.ended there.0 there.1 in
     (h, passed.0, passed.1, turn.requires.0.4)
 
-add-next-run : tie.Need-overflow_add-end invariant-loop decreases-loop
-add-next-run c = omega (arith, ended (run-struct c))
+overflow_add-end : tie.Need-overflow_add-end invariant-loop decreases-loop
+overflow_add-end c = omega (arith, ended (run_struct c))
 
-next-run-requires-2 : tie.Need-next_run-at-requires-in-loop-at invariant-loop decreases-loop
-next-run-requires-2 c κs = let there = ended (run-struct c) in (next_at there.2, there.3)
+next_run-at-requires-in-loop-at : tie.Need-next_run-at-requires-in-loop-at invariant-loop decreases-loop
+next_run-at-requires-in-loop-at c κs = let there = ended (run_struct c) in (next_at there.2, there.3)
 
-loop-less : tie.Need-loop-at-smaller invariant-loop decreases-loop
-loop-less c =
-    let there = ended (run-struct c.before) in
+loop-at-smaller : tie.Need-loop-at-smaller invariant-loop decreases-loop
+loop-at-smaller c =
+    let there = ended (run_struct c.before) in
     run_falls there.0 there.1 c.next_run-at-in-loop-at.ensures.0
 
-loop-again : tie.Need-loop-at-preserved invariant-loop decreases-loop
-loop-again c =
+loop-at-preserved : tie.Need-loop-at-preserved invariant-loop decreases-loop
+loop-at-preserved c =
     let passed = c.run-end in
-    let turn = turn-run (run-struct c.before) in
+    let turn = turn_run (run_struct c.before) in
     let start = turn in
     let args = start.args in
     let at = turn.loop-at in
-    let there = ended (run-struct c.before) in
+    let there = ended (run_struct c.before) in
     let is = passed.ensures in
     let next = c.next_run-at-in-loop-at.ensures in
     let on = le_trans (le-add_right passed.result.at 1) next.0 in
@@ -131,11 +131,11 @@ loop-again c =
           ∙ at.invariant.4,
     )
 
-same_length : tie.Need-shape_of-codes invariant-loop decreases-loop
-same_length c = c.loop-at.invariant.3.0
+shape_of-codes : tie.Need-shape_of-codes invariant-loop decreases-loop
+shape_of-codes c = c.loop-at.invariant.3.0
 
-same-length-2 : tie.Need-shape_of-positions invariant-loop decreases-loop
-same-length-2 c = c.loop-at.invariant.3.1
+shape_of-positions : tie.Need-shape_of-positions invariant-loop decreases-loop
+shape_of-positions c = c.loop-at.invariant.3.1
 
 returns : tie.Need-returns invariant-loop decreases-loop
 unfolding sketch sketch_from
@@ -152,4 +152,21 @@ returns c =
 pub scan_spec : {M : Type 1} → statement M
 scan_spec =
     tie.close
-    (tie.spec invariant-loop decreases-loop sub-t16 slice-aggregate-read-block read-block-requires next-run-requires loop-holds slice-aggregate-run slice-aggregate-run-2 run-requires add-next-run next-run-requires-2 loop-less loop-again same_length same-length-2 returns)
+    (tie.spec
+    invariant-loop
+    decreases-loop
+    overflow_sub-measures
+    slice_bounds-read_block-end
+    read_block-requires
+    next_run-at-requires
+    loop-at-init
+    slice_bounds-run-end
+    slice_bounds-run-end-in-loop-at
+    run-end-requires
+    overflow_add-end
+    next_run-at-requires-in-loop-at
+    loop-at-smaller
+    loop-at-preserved
+    shape_of-codes
+    shape_of-positions
+    returns)

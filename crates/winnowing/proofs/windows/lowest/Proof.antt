@@ -21,33 +21,32 @@ invariant-loop ranks from to low-at₀ low₀ i₀ low-at low i = (i ≤ to) × 
 abbrev decreases-loop : tie.decreases-loop-i
 decreases-loop ranks from to low-at₀ low₀ i₀ low-at low i = to - i
 
--- places, each named for where it leads and from where
-mul_low : tie.Need-offset_bounds-ranks-from invariant-loop decreases-loop
-mul_low c = search rules
+offset_bounds-ranks-from : tie.Need-offset_bounds-ranks-from invariant-loop decreases-loop
+offset_bounds-ranks-from c = search rules
 
-shared-slice-read-low : tie.Need-bounds-ranks-from invariant-loop decreases-loop
-shared-slice-read-low c = search rules
+bounds-ranks-from : tie.Need-bounds-ranks-from invariant-loop decreases-loop
+bounds-ranks-from c = search rules
 
-add-i : tie.Need-overflow_add-i invariant-loop decreases-loop
-add-i c = search rules
+overflow_add-i : tie.Need-overflow_add-i invariant-loop decreases-loop
+overflow_add-i c = search rules
 
-loop-holds : tie.Need-loop-i-init invariant-loop decreases-loop
-loop-holds c = (omega arith, rw add-one (lowest_one (in_slot c.args.ranks.now) c.args.from), refl)
+loop-i-init : tie.Need-loop-i-init invariant-loop decreases-loop
+loop-i-init c = (omega arith, rw add-one (lowest_one (in_slot c.args.ranks.now) c.args.from), refl)
 
-mul-found : tie.Need-offset_bounds-ranks-i invariant-loop decreases-loop
-mul-found c = search rules
+offset_bounds-ranks-i : tie.Need-offset_bounds-ranks-i invariant-loop decreases-loop
+offset_bounds-ranks-i c = search rules
 
-shared-slice-read-found : tie.Need-bounds-ranks-i invariant-loop decreases-loop
-shared-slice-read-found c = search rules
+bounds-ranks-i : tie.Need-bounds-ranks-i invariant-loop decreases-loop
+bounds-ranks-i c = search rules
 
-add-i-2 : tie.Need-overflow_add-i-in-loop-i invariant-loop decreases-loop
-add-i-2 c = search rules
+overflow_add-i-in-loop-i : tie.Need-overflow_add-i-in-loop-i invariant-loop decreases-loop
+overflow_add-i-in-loop-i c = search rules
 
-loop-less : tie.Need-loop-i-smaller-then-found-low invariant-loop decreases-loop
-loop-less c = search rules
+loop-i-smaller-then-found-low : tie.Need-loop-i-smaller-then-found-low invariant-loop decreases-loop
+loop-i-smaller-then-found-low c = search rules
 
-loop-again : tie.Need-loop-i-preserved-then-found-low invariant-loop decreases-loop
-loop-again c =
+loop-i-preserved-then-found-low : tie.Need-loop-i-preserved-then-found-low invariant-loop decreases-loop
+loop-i-preserved-then-found-low c =
     let args = c.args in
     let at = c.loop-i in (
       omega arith,
@@ -55,11 +54,11 @@ loop-again c =
       refl,
     )
 
-loop-less-2 : tie.Need-loop-i-smaller invariant-loop decreases-loop
-loop-less-2 c = search rules
+loop-i-smaller : tie.Need-loop-i-smaller invariant-loop decreases-loop
+loop-i-smaller c = search rules
 
-loop-again-2 : tie.Need-loop-i-preserved invariant-loop decreases-loop
-loop-again-2 c =
+loop-i-preserved : tie.Need-loop-i-preserved invariant-loop decreases-loop
+loop-i-preserved c =
     let args = c.args in
     let at = c.loop-i in (
       omega arith,
@@ -76,4 +75,18 @@ returns c =
 pub lowest_spec : {M : Type 1} → statement M
 lowest_spec =
     tie.close
-    (tie.spec invariant-loop decreases-loop mul_low shared-slice-read-low add-i loop-holds mul-found shared-slice-read-found add-i-2 loop-less loop-again loop-less-2 loop-again-2 returns)
+    (tie.spec
+    invariant-loop
+    decreases-loop
+    offset_bounds-ranks-from
+    bounds-ranks-from
+    overflow_add-i
+    loop-i-init
+    offset_bounds-ranks-i
+    bounds-ranks-i
+    overflow_add-i-in-loop-i
+    loop-i-smaller-then-found-low
+    loop-i-preserved-then-found-low
+    loop-i-smaller
+    loop-i-preserved
+    returns)

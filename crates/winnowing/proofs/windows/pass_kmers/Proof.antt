@@ -42,17 +42,17 @@ put_one last room letters from p more n code n' n₀ cs ps cs' ps' cs₀ ps₀ a
     (lowest_one (rank_at (suc last) letters) p) p n code n' cs ps cs' ps' (le_refl p) there put es ∙ before es)
 
 -- places, each named for where it leads and from where
-abbrev entry-turn : tie.At-loop-p invariant-loop decreases-loop → tie.Start invariant-loop decreases-loop
-entry-turn c = c.before.before.before.before.before
+abbrev entry_turn : tie.At-loop-p invariant-loop decreases-loop → tie.Start invariant-loop decreases-loop
+entry_turn c = c.before.before.before.before.before
 
-abbrev turn-else1 : tie.Else-v-eq-FOREIGN invariant-loop decreases-loop → tie.At-loop-p invariant-loop decreases-loop
-turn-else1 c = c.before.before.before
+abbrev turn_else1 : tie.Else-v-eq-FOREIGN invariant-loop decreases-loop → tie.At-loop-p invariant-loop decreases-loop
+turn_else1 c = c.before.before.before
 
-abbrev else1-put-arg2 : tie.After-put-arg-in-loop-p-1 invariant-loop decreases-loop → tie.Else-v-eq-FOREIGN invariant-loop decreases-loop
-else1-put-arg2 c = c.before.before.before
+abbrev else1_put_arg2 : tie.After-put-arg-in-loop-p-1 invariant-loop decreases-loop → tie.Else-v-eq-FOREIGN invariant-loop decreases-loop
+else1_put_arg2 c = c.before.before.before
 
-abbrev put-slice-known3 : tie.After-slice_known-in-loop-p-1 invariant-loop decreases-loop → tie.After-put-n invariant-loop decreases-loop
-put-slice-known3 c = c.before.before
+abbrev put_slice_known3 : tie.After-slice_known-in-loop-p-1 invariant-loop decreases-loop → tie.After-put-n invariant-loop decreases-loop
+put_slice_known3 c = c.before.before
 
 -- the place of a turn is within the letters
 inside : (c : tie.At-loop-p invariant-loop decreases-loop)
@@ -63,36 +63,36 @@ inside c =
     let start = c in
     ((run_end_within start.args.letters.now start.args.reached.at start.requires.0.in_letters).1, start.requires.0.few, c.loop-p.invariant.1.within)
 
-add-end : tie.Need-overflow_add-end invariant-loop decreases-loop
-add-end c = search rules
+overflow_add-end : tie.Need-overflow_add-end invariant-loop decreases-loop
+overflow_add-end c = search rules
 
-sub-end : tie.Need-overflow_sub-end invariant-loop decreases-loop
-sub-end c = search rules
+overflow_sub-end : tie.Need-overflow_sub-end invariant-loop decreases-loop
+overflow_sub-end c = search rules
 
-loop-holds : tie.Need-loop-p-init invariant-loop decreases-loop
-loop-holds c =
+loop-p-init : tie.Need-loop-p-init invariant-loop decreases-loop
+loop-p-init c =
     let pre = c.requires in
     (pre.1.0.ends, pre.1.1.0, pre.1.1.1, refl, refl, λ es. refl)
 
-add-value-at : tie.Need-overflow_add-p invariant-loop decreases-loop
-add-value-at c = search rules
+overflow_add-p : tie.Need-overflow_add-p invariant-loop decreases-loop
+overflow_add-p c = search rules
 
-value-at-requires : tie.Need-value_at-v-requires invariant-loop decreases-loop
-value-at-requires c κs =
+value_at-v-requires : tie.Need-value_at-v-requires invariant-loop decreases-loop
+value_at-v-requires c κs =
     let start = c in
     let there = inside c.before in (
       start.requires.0.block,
       (omega (arith, start.requires.1.0.begins, c.loop-p.invariant.1.start), omega (arith, c.loop-p-test.true), omega arith),
     )
 
-same_length : tie.Need-shape_of-codes-then-v-eq-FOREIGN invariant-loop decreases-loop
-same_length c = search rules
+shape_of-codes-then-v-eq-FOREIGN : tie.Need-shape_of-codes-then-v-eq-FOREIGN invariant-loop decreases-loop
+shape_of-codes-then-v-eq-FOREIGN c = search rules
 
-same-length-2 : tie.Need-shape_of-positions-then-v-eq-FOREIGN invariant-loop decreases-loop
-same-length-2 c = search rules
+shape_of-positions-then-v-eq-FOREIGN : tie.Need-shape_of-positions-then-v-eq-FOREIGN invariant-loop decreases-loop
+shape_of-positions-then-v-eq-FOREIGN c = search rules
 
-returns : tie.Need-returns-then-v-eq-FOREIGN invariant-loop decreases-loop
-returns c =
+returns-then-v-eq-FOREIGN : tie.Need-returns-then-v-eq-FOREIGN invariant-loop decreases-loop
+returns-then-v-eq-FOREIGN c =
     let at = c in
     let args = at.args in
     let is = at.loop-p.invariant in (
@@ -117,30 +117,30 @@ goes_on c =
     run_goes_on args.letters.now args.reached.at (at.loop-p.p + args.measures.last) (omega (arith, at.loop-p.invariant.1.start))
     at.loop-p.invariant.1.within c.value_at-v.result c.value_at-v.ensures c.if-v-eq-FOREIGN.false
 
-next-code-requires : tie.Need-next_code-code-requires invariant-loop decreases-loop
-next-code-requires c κs = (c.requires.0.short, c.loop-p.invariant.2.code_below, (goes_on c).1)
+next_code-code-requires : tie.Need-next_code-code-requires invariant-loop decreases-loop
+next_code-code-requires c κs = (c.requires.0.short, c.loop-p.invariant.2.code_below, (goes_on c).1)
 
-put-requires : tie.Need-put-n-requires invariant-loop decreases-loop
-put-requires c κs =
-    let at = turn-else1 (else1-put-arg2 c) in
+put-n-requires : tie.Need-put-n-requires invariant-loop decreases-loop
+put-n-requires c κs =
+    let at = turn_else1 (else1_put_arg2 c) in
     let there = inside at in
-    let on = (goes_on (else1-put-arg2 c)).0 in
+    let on = (goes_on (else1_put_arg2 c)).0 in
     (at.loop-p.invariant.1.has_room, omega (arith, at.loop-p.invariant.1.counted), omega arith)
 
-add-p : tie.Need-overflow_add-p-in-loop-p invariant-loop decreases-loop
-add-p c = search rules
+overflow_add-p-in-loop-p : tie.Need-overflow_add-p-in-loop-p invariant-loop decreases-loop
+overflow_add-p-in-loop-p c = search rules
 
-loop-less : tie.Need-loop-p-smaller invariant-loop decreases-loop
-loop-less c = search rules
+loop-p-smaller : tie.Need-loop-p-smaller invariant-loop decreases-loop
+loop-p-smaller c = search rules
 
-loop-again : tie.Need-loop-p-preserved invariant-loop decreases-loop
-loop-again c =
-    let after = put-slice-known3 c.before.before in
+loop-p-preserved : tie.Need-loop-p-preserved invariant-loop decreases-loop
+loop-p-preserved c =
+    let after = put_slice_known3 c.before.before in
     let put = after.put-n in
-    let past = else1-put-arg2 after.before in
+    let past = else1_put_arg2 after.before in
     let code = after.next_code-code in
-    let at = turn-else1 past in
-    let start = entry-turn at in
+    let at = turn_else1 past in
+    let start = entry_turn at in
     let args = start.args in
     let letters = args.letters.now in
     let from = args.reached.at in
@@ -165,18 +165,36 @@ loop-again c =
           put.new.codes put.new.positions args.codes.now args.positions.now (to_pick last 1 letters from from from) step.0 put.ensures is.5,
     )
 
-same-length-3 : tie.Need-shape_of-codes invariant-loop decreases-loop
-same-length-3 c = search rules
+shape_of-codes : tie.Need-shape_of-codes invariant-loop decreases-loop
+shape_of-codes c = search rules
 
-same-length-4 : tie.Need-shape_of-positions invariant-loop decreases-loop
-same-length-4 c = search rules
+shape_of-positions : tie.Need-shape_of-positions invariant-loop decreases-loop
+shape_of-positions c = search rules
 
-returns-2 : tie.Need-returns invariant-loop decreases-loop
-returns-2 c =
+returns : tie.Need-returns invariant-loop decreases-loop
+returns c =
     let is = c.loop-p.invariant in
     (record { most = is.0; ended = λ h. absurd (omega (arith, c.loop-p-test.false)) }, is.1, is.2, is.5)
 
 pub pass_kmers_spec : {M : Type 1} → statement M
 pass_kmers_spec =
     tie.close
-    (tie.spec invariant-loop decreases-loop add-end sub-end loop-holds add-value-at value-at-requires same_length same-length-2 returns next-code-requires put-requires add-p loop-less loop-again same-length-3 same-length-4 returns-2)
+    (tie.spec
+    invariant-loop
+    decreases-loop
+    overflow_add-end
+    overflow_sub-end
+    loop-p-init
+    overflow_add-p
+    value_at-v-requires
+    shape_of-codes-then-v-eq-FOREIGN
+    shape_of-positions-then-v-eq-FOREIGN
+    returns-then-v-eq-FOREIGN
+    next_code-code-requires
+    put-n-requires
+    overflow_add-p-in-loop-p
+    loop-p-smaller
+    loop-p-preserved
+    shape_of-codes
+    shape_of-positions
+    returns)

@@ -21,16 +21,16 @@ use Rattle.winnowing.proofs.windows.pass_windows.Statement.{statement}
 use Rattle.winnowing.proofs.windows.pass_windows.Tie as tie
 
 abbrev invariant-loop : tie.invariant-loop-low
-invariant-loop letters values base ranks₀ measures codes₀ positions₀ last end p₀ code₀ low-at₀ low₀ n₀ ranks codes positions p code low-at low n =
+invariant-loop letters values base ranks₀ measures codes₀ positions₀ last end p₀ code₀ low-at₀ low₀ n₀ ranks codes positions p code low_at low n =
     (p + last ≤ base + block_size)
     × Standing last measures.room letters p₀ codes positions p n
-    × Picking last base measures.w letters ranks p code low-at low
+    × Picking last base measures.w letters ranks p code low_at low
     × ((length ranks ≡ length ranks₀) × (length codes ≡ length codes₀) × (length positions ≡ length positions₀))
-    × SameEnd measures.room n codes positions (to_pick last measures.w letters p₀ (suc (p - measures.w)) (suc low-at))
+    × SameEnd measures.room n codes positions (to_pick last measures.w letters p₀ (suc (p - measures.w)) (suc low_at))
     n₀ codes₀ positions₀ (to_pick last measures.w letters p₀ (suc (p₀ - measures.w)) (suc low-at₀))
 
 abbrev decreases-loop : tie.decreases-loop-low
-decreases-loop letters values base ranks₀ measures codes₀ positions₀ last end p₀ code₀ low-at₀ low₀ n₀ ranks codes positions p code low-at low n =
+decreases-loop letters values base ranks₀ measures codes₀ positions₀ last end p₀ code₀ low-at₀ low₀ n₀ ranks codes positions p code low_at low n =
     suc (run_end letters p₀) - p
 
 -- places, each named for where it leads and from where
@@ -43,32 +43,32 @@ Read = tie.After-read_above-read invariant-loop decreases-loop
 abbrev entry : Turn → tie.Start invariant-loop decreases-loop
 entry c = c.before.before.before.before.before.before
 
-abbrev turn-smaller : tie.After-smaller invariant-loop decreases-loop → Turn
-turn-smaller c = c.before.before.before
+abbrev turn_smaller : tie.After-smaller invariant-loop decreases-loop → Turn
+turn_smaller c = c.before.before.before
 
 abbrev turn : Read → Turn
 turn c = c.before.before.before.before
 
-abbrev read-then1 : tie.Then-read-low invariant-loop decreases-loop → Read
-read-then1 c = c.before.before.before.before
+abbrev read_then1 : tie.Then-read-low invariant-loop decreases-loop → Read
+read_then1 c = c.before.before.before.before
 
-abbrev read-else1 : tie.Else-read-low invariant-loop decreases-loop → Read
-read-else1 c = c.before.before.before.before
+abbrev read_else1 : tie.Else-read-low invariant-loop decreases-loop → Read
+read_else1 c = c.before.before.before.before
 
-abbrev put-known6 : tie.After-slice_known-then-read-low-2-1 invariant-loop decreases-loop → tie.After-put-n invariant-loop decreases-loop
-put-known6 c = c.before.before.before.before
+abbrev put_known6 : tie.After-slice_known-then-read-low-2-1 invariant-loop decreases-loop → tie.After-put-n invariant-loop decreases-loop
+put_known6 c = c.before.before.before.before
 
-abbrev then1-put : tie.After-put-n invariant-loop decreases-loop → tie.Then-read-low invariant-loop decreases-loop
-then1-put c = c.before.before.before
+abbrev then1_put : tie.After-put-n invariant-loop decreases-loop → tie.Then-read-low invariant-loop decreases-loop
+then1_put c = c.before.before.before
 
-abbrev put-lowest-known8 : tie.After-slice_known-in-loop-low-3-1 invariant-loop decreases-loop → tie.After-put_lowest-found invariant-loop decreases-loop
-put-lowest-known8 c = c.before.before.before.before
+abbrev put_lowest_known8 : tie.After-slice_known-in-loop-low-3-1 invariant-loop decreases-loop → tie.After-put_lowest-found invariant-loop decreases-loop
+put_lowest_known8 c = c.before.before.before.before
 
-abbrev slot-arg3 : tie.After-put_lowest-arg-1 invariant-loop decreases-loop → tie.After-slot-to invariant-loop decreases-loop
-slot-arg3 c = c.before.before
+abbrev slot_arg3 : tie.After-put_lowest-arg-1 invariant-loop decreases-loop → tie.After-slot-to invariant-loop decreases-loop
+slot_arg3 c = c.before.before
 
-abbrev slot-lowest-there : tie.After-put_lowest-found invariant-loop decreases-loop → tie.After-slot-to invariant-loop decreases-loop
-slot-lowest-there c = c.before.before.before.before
+abbrev slot_lowest_there : tie.After-put_lowest-found invariant-loop decreases-loop → tie.After-slot-to invariant-loop decreases-loop
+slot_lowest_there c = c.before.before.before.before
 
 -- ---- the place of a turn
 
@@ -92,13 +92,13 @@ inside c =
       c.loop-low.invariant.2.is_lowest.last,
     )
 
-same-run : (c : Turn) → run_end c.args.letters.now c.loop-low.p ≡ run_end c.args.letters.now c.args.reached.at
-same-run c =
+same_run : (c : Turn) → run_end c.args.letters.now c.loop-low.p ≡ run_end c.args.letters.now c.args.reached.at
+same_run c =
     let start = c in
     run_end_same start.args.letters.now start.args.reached.at c.loop-low.p c.loop-low.invariant.1.start (omega (arith, inside c))
 
-add-end : tie.Need-overflow_add-end invariant-loop decreases-loop
-add-end c =
+overflow_add-end : tie.Need-overflow_add-end invariant-loop decreases-loop
+overflow_add-end c =
     let start = c in
     omega (
       arith,
@@ -108,19 +108,19 @@ add-end c =
       start.requires.0.few,
     )
 
-sub-end : tie.Need-overflow_sub-end invariant-loop decreases-loop
-sub-end c = omega (arith, c.requires.0.short)
+overflow_sub-end : tie.Need-overflow_sub-end invariant-loop decreases-loop
+overflow_sub-end c = omega (arith, c.requires.0.short)
 
-loop-holds : tie.Need-loop-low-init invariant-loop decreases-loop
-loop-holds c =
+loop-low-init : tie.Need-loop-low-init invariant-loop decreases-loop
+loop-low-init c =
     let start = c in
     (start.requires.1.0.ends, start.requires.1.1.1.0, start.requires.1.1.1.1, (refl, refl, refl), λ es. refl)
 
-add-leaves : tie.Need-overflow_add-leaves invariant-loop decreases-loop
-add-leaves c = omega (arith, inside c.before, c.requires.1.1.0)
+overflow_add-leaves : tie.Need-overflow_add-leaves invariant-loop decreases-loop
+overflow_add-leaves c = omega (arith, inside c.before, c.requires.1.1.0)
 
-add-leaves-2 : tie.Need-overflow_add-leaves-in-loop-low invariant-loop decreases-loop
-add-leaves-2 c = omega (arith, inside c.before, c.requires.1.1.0)
+overflow_add-leaves-in-loop-low : tie.Need-overflow_add-leaves-in-loop-low invariant-loop decreases-loop
+overflow_add-leaves-in-loop-low c = omega (arith, inside c.before, c.requires.1.1.0)
 
 smaller-requires : tie.Need-smaller-requires invariant-loop decreases-loop
 smaller-requires c κs = tt
@@ -128,24 +128,24 @@ smaller-requires c κs = tt
 -- ---- what is read
 
 -- up to where k-mers are read
-stop-there : (c : tie.After-smaller invariant-loop decreases-loop)
+stop_there : (c : tie.After-smaller invariant-loop decreases-loop)
     → (c.loop-low.p ≤ c.smaller.result)
     × (c.smaller.result ≤ c.loop-low.low_at + c.args.measures.w + 1)
     × (c.smaller.result + c.args.measures.last ≤ c.args.base + block_size)
     × (c.smaller.result < c.loop-low.low_at + c.args.measures.w + 1
     → c.smaller.result + c.args.measures.last ≡ c.args.base + block_size)
-stop-there c =
-    let turn = turn-smaller c in
+stop_there c =
+    let turn = turn_smaller c in
     let args = turn.args in
     stop_at args.base args.measures.last (inside turn).5 turn.loop-low.invariant.0 c.smaller.ensures
 
-read-above-requires : tie.Need-read_above-read-requires invariant-loop decreases-loop
-read-above-requires c κs =
-    let turn = turn-smaller c in
+read_above-read-requires : tie.Need-read_above-read-requires invariant-loop decreases-loop
+read_above-read-requires c κs =
+    let turn = turn_smaller c in
     let start = turn in
     let args = start.args in
     let there = inside turn in
-    let stop = stop-there c in
+    let stop = stop_there c in
     let picking = turn.loop-low.invariant.2 in
     let small = rank_small (suc args.measures.last) turn.loop-low.low_at args.letters.now in (
       (
@@ -158,7 +158,7 @@ read-above-requires c κs =
         record { begins = there.0; ends = stop.2 },
       ),
       (
-        (rank_word picking.is_rank small, stop.0, rw (same-run turn) there.1),
+        (rank_word picking.is_rank small, stop.0, rw (same_run turn) there.1),
         scanned_later args.measures.last args.base args.letters.now turn.loop-low.ranks (suc turn.loop-low.low_at) turn.loop-low.p turn.loop-low.p
             turn.loop-low.code picking.scanned there.6,
       ),
@@ -171,17 +171,17 @@ reached : (c : Read)
     × (c.read_above-read.result.at ≤ c.smaller.result)
 reached c =
     let read = c.read_above-read.ensures in
-    (read.passed.start, rw (same-run (turn c)) at read.passed.within, read.most)
+    (read.passed.start, rw (same_run (turn c)) at read.passed.within, read.most)
 
 -- windows that end before the lowest leaves keep it
-kept-to : (c : Read) (x : ℕ) → c.loop-low.p ≤ x → x ≤ c.read_above-read.result.at → x ≤ c.loop-low.low_at + c.args.measures.w
+kept_to : (c : Read) (x : ℕ) → c.loop-low.p ≤ x → x ≤ c.read_above-read.result.at → x ≤ c.loop-low.low_at + c.args.measures.w
     → IsLowest (rank_at (suc c.args.measures.last) c.args.letters.now) (x - c.args.measures.w) x
     c.loop-low.low_at
     × (to_pick c.args.measures.last c.args.measures.w c.args.letters.now
     c.args.reached.at (suc (c.loop-low.p - c.args.measures.w)) (suc c.loop-low.low_at)
     ≡ to_pick c.args.measures.last c.args.measures.w c.args.letters.now
     c.args.reached.at (suc (x - c.args.measures.w)) (suc c.loop-low.low_at))
-kept-to c x from to stays =
+kept_to c x from to stays =
     let turn = turn c in
     let args = turn.args in
     let picking = turn.loop-low.invariant.2 in
@@ -192,33 +192,33 @@ kept-to c x from to stays =
 
 -- ---- a new rank that is not above the lowest
 
-put-requires : tie.Need-put-n-requires invariant-loop decreases-loop
-put-requires c κs =
+put-n-requires : tie.Need-put-n-requires invariant-loop decreases-loop
+put-n-requires c κs =
     let test = c.before.before in
-    let read = read-then1 test in
+    let read = read_then1 test in
     let turn = turn read in
     let place = inside turn in
-    let more = rw (same-run turn) at (read.read_above-read.ensures.found test.if-read-low.true).1 in
+    let more = rw (same_run turn) at (read.read_above-read.ensures.found test.if-read-low.true).1 in
     let small = below_letters turn.args.measures.last more place.2 place.3 in
     (turn.loop-low.invariant.1.has_room, lt_of_le_of_lt (le_trans turn.loop-low.invariant.1.counted (reached read).0) small, small)
 
-add-p : tie.Need-overflow_add-p invariant-loop decreases-loop
-add-p c =
-    let read = read-then1 (then1-put (put-known6 c)) in
+overflow_add-p : tie.Need-overflow_add-p invariant-loop decreases-loop
+overflow_add-p c =
+    let read = read_then1 (then1_put (put_known6 c)) in
     let turn = turn read in
     let place = inside turn in
     next_fits read.read_above-read.result.at (in_letters turn.args.measures.last (reached read).1 place.2 place.3)
 
-loop-less : tie.Need-loop-low-smaller-then-read-low invariant-loop decreases-loop
-loop-less c =
-    let read = read-then1 (then1-put (put-known6 c)) in
+loop-low-smaller-then-read-low : tie.Need-loop-low-smaller-then-read-low invariant-loop decreases-loop
+loop-low-smaller-then-read-low c =
+    let read = read_then1 (then1_put (put_known6 c)) in
     falls_next read.args.measures.last (reached read).0 (reached read).1
 
-loop-again : tie.Need-loop-low-preserved-then-read-low invariant-loop decreases-loop
-loop-again c =
+loop-low-preserved-then-read-low : tie.Need-loop-low-preserved-then-read-low invariant-loop decreases-loop
+loop-low-preserved-then-read-low c =
     let put = c.put-n in
-    let test = then1-put (put-known6 c) in
-    let read = read-then1 test in
+    let test = then1_put (put_known6 c) in
+    let read = read_then1 test in
     let turn = turn read in
     let args = turn.args in
     let last = args.measures.last in
@@ -228,12 +228,12 @@ loop-again c =
     let result = read.read_above-read.result in
     let there = reached read in
     let place = inside turn in
-    let stop = stop-there read.before in
+    let stop = stop_there read.before in
     let found = read.read_above-read.ensures.found test.if-read-low.true in
     let ranks = read.read_above-read.new.ranks in
-    let more : result.at + last < run_end letters from = rw (same-run turn) at found.1 in
+    let more : result.at + last < run_end letters from = rw (same_run turn) at found.1 in
     let stays : result.at ≤ turn.loop-low.low_at + w = stays_to found.0 stop.1 in
-    let same = kept-to read result.at there.0 (le_refl result.at) stays in
+    let same = kept_to read result.at there.0 (le_refl result.at) stays in
     let picking = turn.loop-low.invariant.2 in
     let below : rank_at (suc last) letters result.at ≤ rank_at (suc last) letters turn.loop-low.low_at =
     subst₂ (λ (x y : ℕ). x ≤ y) found.2 picking.is_rank test.if-read-low.true in
@@ -262,33 +262,33 @@ loop-again c =
 
 -- ---- the block ends, or the run
 
-same_length : tie.Need-shape_of-ranks-then-p-leaves invariant-loop decreases-loop
-same_length c =
+shape_of-ranks-then-p-leaves : tie.Need-shape_of-ranks-then-p-leaves invariant-loop decreases-loop
+shape_of-ranks-then-p-leaves c =
     let read = c in
     read.read_above-read.auto.ranks ∙ read.loop-low.invariant.3.0
 
-same-length-2 : tie.Need-shape_of-codes-then-p-leaves invariant-loop decreases-loop
-same-length-2 c = c.loop-low.invariant.3.1
+shape_of-codes-then-p-leaves : tie.Need-shape_of-codes-then-p-leaves invariant-loop decreases-loop
+shape_of-codes-then-p-leaves c = c.loop-low.invariant.3.1
 
-same-length-3 : tie.Need-shape_of-positions-then-p-leaves invariant-loop decreases-loop
-same-length-3 c = c.loop-low.invariant.3.2
+shape_of-positions-then-p-leaves : tie.Need-shape_of-positions-then-p-leaves invariant-loop decreases-loop
+shape_of-positions-then-p-leaves c = c.loop-low.invariant.3.2
 
-returns : tie.Need-returns-then-p-leaves invariant-loop decreases-loop
-returns c =
-    let read = read-else1 c.before in
+returns-then-p-leaves : tie.Need-returns-then-p-leaves invariant-loop decreases-loop
+returns-then-p-leaves c =
+    let read = read_else1 c.before in
     let turn = turn read in
     let result = read.read_above-read.result in
     let there = reached read in
-    let stop = stop-there read.before in
+    let stop = stop_there read.before in
     let none = read.read_above-read.ensures.none c.if-read-low.false in
     let picking = turn.loop-low.invariant.2 in
     let standing = turn.loop-low.invariant.1 in
     let last = turn.args.measures.last in
     let leaves = turn.loop-low.low_at + turn.args.measures.w + 1 in
-    let same = kept-to read result.at there.0 (le_refl result.at) (stays_to c.if-p-leaves.true (le_refl leaves)) in (
+    let same = kept_to read result.at there.0 (le_refl result.at) (stays_to c.if-p-leaves.true (le_refl leaves)) in (
       record {
         most = shorter last there.2 stop.2;
-        ended = λ h. rw (same-run turn) at (none.0 (before_stop last stop.1 stop.3 c.if-p-leaves.true h));
+        ended = λ h. rw (same_run turn) at (none.0 (before_stop last stop.1 stop.3 c.if-p-leaves.true h));
       },
       record {
         start = le_trans standing.start there.0;
@@ -307,20 +307,20 @@ left : (c : tie.Else-p-leaves invariant-loop decreases-loop)
     → c.read_above-read.result.at
     ≡ c.loop-low.low_at + c.args.measures.w + 1
 left c =
-    let read = read-else1 c.before in
-    left_at c.if-p-leaves.false (reached read).2 (stop-there read.before).1
+    let read = read_else1 c.before in
+    left_at c.if-p-leaves.false (reached read).2 (stop_there read.before).1
 
-slot-requires : tie.Need-slot-to-requires invariant-loop decreases-loop
-slot-requires c κs =
-    let read = read-else1 c.before in
+slot-to-requires : tie.Need-slot-to-requires invariant-loop decreases-loop
+slot-to-requires c κs =
+    let read = read_else1 c.before in
     let there = reached read in
     let turn = turn read in
     let place = inside turn in
     let last = turn.args.measures.last in
-    (further last place.0 there.0, shorter last there.2 (stop-there read.before).2, le_trans there.1 (le_trans place.2 place.3))
+    (further last place.0 there.0, shorter last there.2 (stop_there read.before).2, le_trans there.1 (le_trans place.2 place.3))
 
-abbrev read-slot : tie.After-slot-to invariant-loop decreases-loop → Read
-read-slot c = c.before.before.before.before.before.before
+abbrev read_slot : tie.After-slot-to invariant-loop decreases-loop → Read
+read_slot c = c.before.before.before.before.before.before
 
 -- the ranks behind it stand in their slots
 scanned : (c : tie.After-slot-to invariant-loop decreases-loop)
@@ -328,12 +328,12 @@ scanned : (c : tie.After-slot-to invariant-loop decreases-loop)
     c.read_above-read.new.ranks (suc c.loop-low.low_at) c.read_above-read.result.at
     c.read_above-read.result.code
 scanned c =
-    let turn = turn (read-slot c) in
+    let turn = turn (read_slot c) in
     (c.read_above-read.ensures.none c.if-read-low.false).1 (suc turn.loop-low.low_at) turn.loop-low.invariant.2.scanned
 
 -- the window at hand ends further on
 passed : (c : tie.After-slot-to invariant-loop decreases-loop) → c.loop-low.p < c.read_above-read.result.at
-passed c = behind_left (inside (turn (read-slot c))).5 (left c.before)
+passed c = behind_left (inside (turn (read_slot c))).5 (left c.before)
 
 -- the slots of the window
 slots : (c : tie.After-slot-to invariant-loop decreases-loop)
@@ -341,18 +341,18 @@ slots : (c : tie.After-slot-to invariant-loop decreases-loop)
     × (c.slot-to.result
     ≡ slot_of c.args.measures.last c.args.base c.read_above-read.result.at)
 slots c =
-    let turn = turn (read-slot c) in
+    let turn = turn (read_slot c) in
     let last = turn.args.measures.last in
     let there = c.slot-to.ensures.0 in
-    (wide_slot c.read_above-read.result.at last (further last (inside turn).0 (reached (read-slot c)).0) turn.requires.1.1.0.1 there, there)
+    (wide_slot c.read_above-read.result.at last (further last (inside turn).0 (reached (read_slot c)).0) turn.requires.1.1.0.1 there, there)
 
-sub-put-lowest : tie.Need-overflow_sub-to invariant-loop decreases-loop
-sub-put-lowest c = (slots c.before).0
+overflow_sub-to : tie.Need-overflow_sub-to invariant-loop decreases-loop
+overflow_sub-to c = (slots c.before).0
 
-put-lowest-requires : tie.Need-put_lowest-found-requires invariant-loop decreases-loop
-put-lowest-requires c κs =
-    let slot = slot-arg3 c.before in
-    let read = read-slot slot in
+put_lowest-found-requires : tie.Need-put_lowest-found-requires invariant-loop decreases-loop
+put_lowest-found-requires c κs =
+    let slot = slot_arg3 c.before in
+    let read = read_slot slot in
     let turn = turn read in
     let place = inside turn in
     let there = reached read in
@@ -367,18 +367,18 @@ put-lowest-requires c κs =
 -- what is put is the lowest of the window
 searched : (c : tie.After-put_lowest-found invariant-loop decreases-loop)
     → IsLowest
-    (rank_at (suc (entry (turn (read-slot (slot-lowest-there c)))).args.measures.last) (entry (turn (read-slot (slot-lowest-there c)))).args.letters.now)
-    (c.read_above-read.result.at - (entry (turn (read-slot (slot-lowest-there c)))).args.measures.w)
+    (rank_at (suc (entry (turn (read_slot (slot_lowest_there c)))).args.measures.last) (entry (turn (read_slot (slot_lowest_there c)))).args.letters.now)
+    (c.read_above-read.result.at - (entry (turn (read_slot (slot_lowest_there c)))).args.measures.w)
     c.read_above-read.result.at c.put_lowest-found.result.at
     × (c.put_lowest-found.result.rank
-    ≡ rank_at (suc (entry (turn (read-slot (slot-lowest-there c)))).args.measures.last) (entry (turn (read-slot (slot-lowest-there c)))).args.letters.now
+    ≡ rank_at (suc (entry (turn (read_slot (slot_lowest_there c)))).args.measures.last) (entry (turn (read_slot (slot_lowest_there c)))).args.letters.now
     c.put_lowest-found.result.at)
     × (unrank c.put_lowest-found.result.rank
-    ≡ code_at (suc (entry (turn (read-slot (slot-lowest-there c)))).args.measures.last) (entry (turn (read-slot (slot-lowest-there c)))).args.letters.now
+    ≡ code_at (suc (entry (turn (read_slot (slot_lowest_there c)))).args.measures.last) (entry (turn (read_slot (slot_lowest_there c)))).args.letters.now
     c.put_lowest-found.result.at)
 searched c =
-    let slot = slot-lowest-there c in
-    let read = read-slot slot in
+    let slot = slot_lowest_there c in
+    let read = read_slot slot in
     let args = read.args in
     let result = read.read_above-read.result in
     let same = (slots slot).1 in
@@ -391,14 +391,14 @@ searched c =
     (scanned slot) (further last place.0 there.0) args.measures.w c.put_lowest-found.result.at c.put_lowest-found.result.rank
     read.requires.1.1.0.1 gone.3 (rw same at found.near) (rw same at found.lowest) (rw same at found.rank_there)
 
-loop-less-2 : tie.Need-loop-low-smaller invariant-loop decreases-loop
-loop-less-2 c =
-    let slot = slot-lowest-there (put-lowest-known8 c) in
-    let read = read-slot slot in
+loop-low-smaller : tie.Need-loop-low-smaller invariant-loop decreases-loop
+loop-low-smaller c =
+    let slot = slot_lowest_there (put_lowest_known8 c) in
+    let read = read_slot slot in
     falls read.args.measures.last (passed slot) (reached read).1
 
 -- what was to pick is what the window at hand and those behind it pick
-to-pick : (c : tie.Else-p-leaves invariant-loop decreases-loop)
+left_to_pick : (c : tie.Else-p-leaves invariant-loop decreases-loop)
     → to_pick c.args.measures.last c.args.measures.w
     c.args.letters.now c.args.reached.at
     (suc (c.loop-low.p - c.args.measures.w))
@@ -407,30 +407,30 @@ to-pick : (c : tie.Else-p-leaves invariant-loop decreases-loop)
     c.args.letters.now c.args.reached.at
     (c.read_above-read.result.at - c.args.measures.w)
     (c.read_above-read.result.at - c.args.measures.w)
-to-pick c =
-    let read = read-else1 c.before in
-    let low-at = read.loop-low.low_at in
+left_to_pick c =
+    let read = read_else1 c.before in
+    let low_at = read.loop-low.low_at in
     let w = read.args.measures.w in
-    let gone = behind low-at w (left c) in
-    (kept-to read (low-at + w) (inside (turn read)).5 gone.2 (le_refl (low-at + w))).1 ∙ rw (gone.0, gone.1)
+    let gone = behind low_at w (left c) in
+    (kept_to read (low_at + w) (inside (turn read)).5 gone.2 (le_refl (low_at + w))).1 ∙ rw (gone.0, gone.1)
 
 -- the window at hand is of the run
-window-there : (c : Read)
+window_there : (c : Read)
     → (c.read_above-read.result.at - c.args.measures.w + c.args.measures.w ≡ c.read_above-read.result.at)
     × (c.read_above-read.result.at
     ≤ run_end c.args.letters.now c.args.reached.at - c.args.measures.last)
-window-there c =
+window_there c =
     let there = reached c in
     let args = c.args in
     window_of args.measures.w args.measures.last (le_trans (inside (turn c)).4 there.0) there.1
 
-loop-again-2 : tie.Need-loop-low-preserved invariant-loop decreases-loop
-loop-again-2 c =
-    let found = put-lowest-known8 c in
+loop-low-preserved : tie.Need-loop-low-preserved invariant-loop decreases-loop
+loop-low-preserved c =
+    let found = put_lowest_known8 c in
     let picked = found.put_lowest-found in
     let put = picked.ensures.put in
-    let slot = slot-lowest-there found in
-    let read = read-slot slot in
+    let slot = slot_lowest_there found in
+    let read = read_slot slot in
     let turn = turn read in
     let args = turn.args in
     let last = args.measures.last in
@@ -439,11 +439,11 @@ loop-again-2 c =
     let result = read.read_above-read.result in
     let ranks = read.read_above-read.new.ranks in
     let there = reached read in
-    let stop = stop-there read.before in
+    let stop = stop_there read.before in
     let gone = behind turn.loop-low.low_at w (left slot.before) in
     let lowest = searched found in
     let new = window_new last w args.measures.room (run_end letters args.reached.at - last) letters turn.requires.1.1.0.0 (result.at - w)
-    result.at picked.result.at (window-there read).0 (window-there read).1 lowest.0 (result.at - w) turn.loop-low.n
+    result.at picked.result.at (window_there read).0 (window_there read).1 lowest.0 (result.at - w) turn.loop-low.n
     (unrank picked.result.rank) picked.result.entries turn.loop-low.codes turn.loop-low.positions picked.new.codes
     picked.new.positions lowest.0.first lowest.2 put in (
       shorter last there.2 stop.2,
@@ -467,10 +467,32 @@ loop-again-2 c =
         picked.auto.codes ∙ turn.loop-low.invariant.3.1,
         picked.auto.positions ∙ turn.loop-low.invariant.3.2,
       ),
-      λ es. new es ∙ rw (sym (to-pick slot.before)) (turn.loop-low.invariant.4 es),
+      λ es. new es ∙ rw (sym (left_to_pick slot.before)) (turn.loop-low.invariant.4 es),
     )
 
 pub pass_windows_spec : {M : Type 1} → statement M
 pass_windows_spec =
     tie.close
-    (tie.spec invariant-loop decreases-loop add-end sub-end loop-holds add-leaves add-leaves-2 smaller-requires read-above-requires put-requires add-p loop-less loop-again same_length same-length-2 same-length-3 returns slot-requires sub-put-lowest put-lowest-requires loop-less-2 loop-again-2)
+    (tie.spec
+    invariant-loop
+    decreases-loop
+    overflow_add-end
+    overflow_sub-end
+    loop-low-init
+    overflow_add-leaves
+    overflow_add-leaves-in-loop-low
+    smaller-requires
+    read_above-read-requires
+    put-n-requires
+    overflow_add-p
+    loop-low-smaller-then-read-low
+    loop-low-preserved-then-read-low
+    shape_of-ranks-then-p-leaves
+    shape_of-codes-then-p-leaves
+    shape_of-positions-then-p-leaves
+    returns-then-p-leaves
+    slot-to-requires
+    overflow_sub-to
+    put_lowest-found-requires
+    loop-low-smaller
+    loop-low-preserved)

@@ -9,42 +9,42 @@ use Rattle.winnowing.proofs.windows.put_lowest.Statement.{statement}
 use Rattle.winnowing.proofs.windows.put_lowest.Tie as tie
 
 -- places, each named for where it leads and from where
-abbrev put-known4 : tie.After-slice_known-4-1 → tie.After-put-entries
-put-known4 c = c.before.before.before.before
+abbrev put_known4 : tie.After-slice_known-4-1 → tie.After-put-entries
+put_known4 c = c.before.before.before.before
 
-lowest-requires : tie.Need-lowest-found-requires
-lowest-requires c κs = search rules
+lowest-found-requires : tie.Need-lowest-found-requires
+lowest-found-requires c κs = search rules
 
-sub_at : tie.Need-overflow_sub-at
-sub_at c = omega (arith, c.lowest-found.ensures.last)
+overflow_sub-at : tie.Need-overflow_sub-at
+overflow_sub-at c = omega (arith, c.lowest-found.ensures.last)
 
-sub-at-2 : tie.Need-overflow_sub-at-2
-sub-at-2 c = omega (arith, c.lowest-found.ensures.first, c.requires.0)
+overflow_sub-at-2 : tie.Need-overflow_sub-at-2
+overflow_sub-at-2 c = omega (arith, c.lowest-found.ensures.first, c.requires.0)
 
-mul-rank : tie.Need-offset_bounds-ranks-found
-mul-rank c = omega (arith, c.lowest-found.ensures.last, c.requires.0)
+offset_bounds-ranks-found : tie.Need-offset_bounds-ranks-found
+offset_bounds-ranks-found c = omega (arith, c.lowest-found.ensures.last, c.requires.0)
 
-shared-slice-read-rank : tie.Need-bounds-ranks-found
-shared-slice-read-rank c = omega (arith, c.lowest-found.ensures.last, c.requires.0)
+bounds-ranks-found : tie.Need-bounds-ranks-found
+bounds-ranks-found c = omega (arith, c.lowest-found.ensures.last, c.requires.0)
 
 unrank-requires : tie.Need-unrank-requires
 unrank-requires c κs = search rules
 
-put-requires : tie.Need-put-entries-requires
-put-requires c κs =
+put-entries-requires : tie.Need-put-entries-requires
+put-entries-requires c κs =
     let found = c in
     let pre = found.requires.1 in
     (pre.0, pre.1, omega (arith, found.lowest-found.ensures.last, found.lowest-found.ensures.first, found.requires.0))
 
-same_length : tie.Need-shape_of-codes
-same_length c = c.put-entries.auto.codes
+shape_of-codes : tie.Need-shape_of-codes
+shape_of-codes c = c.put-entries.auto.codes
 
-same-length-2 : tie.Need-shape_of-positions
-same-length-2 c = c.put-entries.auto.positions
+shape_of-positions : tie.Need-shape_of-positions
+shape_of-positions c = c.put-entries.auto.positions
 
 returns : tie.Need-returns
 returns c =
-    let put = put-known4 c in
+    let put = put_known4 c in
     let found = put in
     let args = found.args in
     let ranks = args.ranks.now in
@@ -62,4 +62,14 @@ returns c =
 pub put_lowest_spec : {M : Type 1} → statement M
 put_lowest_spec =
     tie.close
-    (tie.spec lowest-requires sub_at sub-at-2 mul-rank shared-slice-read-rank unrank-requires put-requires same_length same-length-2 returns)
+    (tie.spec
+    lowest-found-requires
+    overflow_sub-at
+    overflow_sub-at-2
+    offset_bounds-ranks-found
+    bounds-ranks-found
+    unrank-requires
+    put-entries-requires
+    shape_of-codes
+    shape_of-positions
+    returns)
