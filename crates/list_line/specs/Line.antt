@@ -1,5 +1,5 @@
 -- The printed line: four numbers in decimal, the score and the strand; the part of the buffer that the line writer returns, and the buffer afterwards.
-use Rattle.std.specs.Prelude.{ℕ, zero, suc, ◌+◌, ◌/◌, ◌%◌, ◌≡◌, cond, List, [], ◌∷◌, ◌++◌, leb, ltb, length, ℤ, pos, negsuc}
+use Rattle.std.specs.Prelude.{ℕ, zero, suc, ◌/◌, ◌%◌, ◌≡◌, cond, List, [], ◌∷◌, ◌++◌, leb, ltb, length, ℤ, pos, negsuc}
 use Rattle.base.specs.Replies.{over}
 use Rattle.base.specs.Bytes.{space, line_feed, minus, plus, slash, digit}
 use Rattle.mappings.specs.declared.Score.{Score}

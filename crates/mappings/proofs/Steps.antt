@@ -11,7 +11,7 @@ use lib.ListN.{length, take, drop}
 use lib.Seq.{take-add, drop-drop}
 use borrow.Author.Tests.{lt-ltb, le-ltb, ltb-true, ltb-false, not-true}
 use Rattle.base.specs.Lists.{add_if, keep}
-use Rattle.base.proofs.Lists.{decided, clash, and_left, and_right, keep_append, map_append}
+use Rattle.base.proofs.Lists.{decided, and_left, and_right, keep_append, map_append}
 use Rattle.base.specs.Limits.{work_words}
 use Rattle.mappings.specs.Score.{Task}
 use Rattle.mappings.specs.Cells.{Cell, mapping_of, cells_of}

@@ -2,8 +2,6 @@
 use borrow.Author.Tests.{lt-ltb, le-ltb}
 use Rattle.session_start.proofs.bad_weight.Statement.{statement}
 use Rattle.session_start.proofs.bad_weight.Tie as tie
-use Rattle.session_start.proofs.bad_weight.Reads as reads
-use Rattle.session_start.proofs.bad_weight.Lts as lts
 
 returns-then-w-lt1 : tie.Need-returns-then-w-lt1
 returns-then-w-lt1 c = rw (lt-ltb c.args.w 1 c.if-w-lt1.true)

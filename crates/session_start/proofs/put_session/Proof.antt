@@ -11,11 +11,6 @@ use native.Mathlib.Omega.{arith}
 use Prim.Native.Nat.{ℕ, ◌≤◌, ◌<◌}
 use Rattle.session_start.proofs.put_session.Statement.{statement}
 use Rattle.session_start.proofs.put_session.Tie as tie
-use Rattle.session_start.proofs.put_session.Reads as reads
-use Rattle.session_start.proofs.put_session.Lts as lts
-use Rattle.session_start.proofs.word_tables.hit_zeros.Reads as hit-zeros-reads
-use Rattle.session_start.proofs.per_hit.put_back.Reads as put-back-reads
-use Rattle.session_start.proofs.put_words.Reads as put-words-reads
 
 abbrev slots : tie.After-hit_zeros-backs → List ℕ
 slots c = c.args.slots.now

@@ -5,14 +5,6 @@ use Rattle.session_start.proofs.Tables.{hit_codes_in}
 use Rattle.mappings.specs.HitCodes.{hit_codes}
 use Rattle.session_start.proofs.put_words.Statement.{statement}
 use Rattle.session_start.proofs.put_words.Tie as tie
-use Rattle.session_start.proofs.put_words.Reads as reads
-use Rattle.session_start.proofs.put_words.Lts as lts
-use Rattle.session_start.proofs.per_hit.put_reach.Reads as put-reach-reads
-use Rattle.session_start.proofs.starts.block_count.Reads as block-count-reads
-use Rattle.session_start.proofs.starts.put_starts.Reads as put-starts-reads
-use Rattle.session_start.proofs.word_tables.fill.Reads as fill-reads
-use Rattle.session_start.proofs.word_tables.put_heading.Reads as put-heading-reads
-use Rattle.session_start.proofs.word_tables.put_table.Reads as put-table-reads
 
 -- where each table was put, from the call for the next one; and the entry of the function
 abbrev tops_put : tie.After-put_heading-arg-1 → tie.After-fill-2

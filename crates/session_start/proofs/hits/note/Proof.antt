@@ -4,8 +4,6 @@ use mathlib.Core.Path.{sym}
 use lib.Seq.{set_out}
 use Rattle.session_start.proofs.hits.note.Statement.{statement}
 use Rattle.session_start.proofs.hits.note.Tie as tie
-use Rattle.session_start.proofs.hits.note.Reads as reads
-use Rattle.session_start.proofs.hits.note.Lts as lts
 
 offset_bounds-notes-h : tie.Need-offset_bounds-notes-h
 offset_bounds-notes-h c = search rules

@@ -7,8 +7,6 @@ use lib.ListN.{length}
 use borrow.Author.Tests.{lt-ltb, le-ltb, eq-eqb}
 use Rattle.session_start.proofs.hits.one_at.Statement.{statement}
 use Rattle.session_start.proofs.hits.one_at.Tie as tie
-use Rattle.session_start.proofs.hits.one_at.Reads as reads
-use Rattle.session_start.proofs.hits.one_at.Lts as lts
 
 returns-then-words-at : tie.Need-returns-then-words-at
 returns-then-words-at c = (rw (le-ltb c.args.at (length c.args.words.now) c.if-words-at.true), zero-le)

@@ -15,10 +15,6 @@ use native.Mathlib.Omega.{arith}
 use Prim.Native.Nat.{◌-◌, ◌≤◌, zero-le}
 use Rattle.session_start.proofs.per_hit.link.Statement.{statement}
 use Rattle.session_start.proofs.per_hit.link.Tie as tie
-use Rattle.session_start.proofs.per_hit.link.Reads as reads
-use Rattle.session_start.proofs.per_hit.link.Lts as lts
-use Rattle.session_start.proofs.hits.one_at.Reads as one-at-reads
-use Rattle.session_words.proofs.wide.Reads as wide-reads
 
 abbrev invariant-loop : tie.invariant-loop-j
 invariant-loop sorted slots turns₀ ring₀ backs₀ j₀ turns ring backs j =

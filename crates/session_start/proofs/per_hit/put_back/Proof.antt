@@ -10,10 +10,6 @@ use native.Mathlib.Omega.{arith}
 use Prim.Native.Nat.{ℕ}
 use Rattle.session_start.proofs.per_hit.put_back.Statement.{statement}
 use Rattle.session_start.proofs.per_hit.put_back.Tie as tie
-use Rattle.session_start.proofs.per_hit.put_back.Reads as reads
-use Rattle.session_start.proofs.per_hit.put_back.Lts as lts
-use Rattle.session_start.proofs.word_tables.pattern_zeros.Reads as pattern-zeros-reads
-use Rattle.session_start.proofs.per_hit.link.Reads as link-reads
 
 pattern_zeros-turns-requires : tie.Need-pattern_zeros-turns-requires
 pattern_zeros-turns-requires c κs = search rules

@@ -3,8 +3,6 @@ use borrow.Author.Rules.{rules}
 use Rattle.session_start.proofs.Reaching.{pair_some, pair_none}
 use Rattle.session_start.proofs.per_hit.put_pair.Statement.{statement}
 use Rattle.session_start.proofs.per_hit.put_pair.Tie as tie
-use Rattle.session_start.proofs.per_hit.put_pair.Reads as reads
-use Rattle.session_start.proofs.per_hit.put_pair.Lts as lts
 
 overflow_sub-reach : tie.Need-overflow_sub-reach
 overflow_sub-reach c = search rules

@@ -10,11 +10,6 @@ use native.Mathlib.Omega.{arith}
 use Prim.Native.Nat.{ℕ, ◌-◌, ◌≤◌, ◌<◌, zero-le}
 use Rattle.session_start.proofs.per_hit.put_pairs.Statement.{statement}
 use Rattle.session_start.proofs.per_hit.put_pairs.Tie as tie
-use Rattle.session_start.proofs.per_hit.put_pairs.Reads as reads
-use Rattle.session_start.proofs.per_hit.put_pairs.Lts as lts
-use Rattle.session_start.proofs.word_tables.fill.Reads as fill-reads
-use Rattle.session_start.proofs.per_hit.put_pair.Reads as put-pair-reads
-use Rattle.session_words.proofs.wide.Reads as wide-reads
 
 abbrev invariant-loop : tie.invariant-loop-j
 invariant-loop backs reach₀ j₀ reach j =

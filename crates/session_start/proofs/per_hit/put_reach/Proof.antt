@@ -11,9 +11,6 @@ use native.Mathlib.Omega.{arith}
 use Prim.Native.Nat.{◌+◌, ◌-◌}
 use Rattle.session_start.proofs.per_hit.put_reach.Statement.{statement}
 use Rattle.session_start.proofs.per_hit.put_reach.Tie as tie
-use Rattle.session_start.proofs.per_hit.put_reach.Reads as reads
-use Rattle.session_start.proofs.per_hit.put_reach.Lts as lts
-use Rattle.session_start.proofs.per_hit.put_pairs.Reads as put-pairs-reads
 
 overflow_add-backs : tie.Need-overflow_add-backs
 overflow_add-backs c = search rules

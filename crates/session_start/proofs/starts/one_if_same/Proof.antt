@@ -4,8 +4,6 @@ use Prim.Native.Nat.{zero-le}
 use borrow.Author.Tests.{eq-eqb, ne_eqb}
 use Rattle.session_start.proofs.starts.one_if_same.Statement.{statement}
 use Rattle.session_start.proofs.starts.one_if_same.Tie as tie
-use Rattle.session_start.proofs.starts.one_if_same.Reads as reads
-use Rattle.session_start.proofs.starts.one_if_same.Lts as lts
 
 returns-then-x-y : tie.Need-returns-then-x-y
 returns-then-x-y c = (rw (eq-eqb c.args.x c.args.y c.if-x-y.true), le_refl 1)

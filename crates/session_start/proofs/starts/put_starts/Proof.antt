@@ -9,10 +9,6 @@ use native.Mathlib.Omega.{arith}
 use Prim.Native.Nat.{ℕ, suc, ◌+◌, ◌-◌, ◌≤◌}
 use Rattle.session_start.proofs.starts.put_starts.Statement.{statement}
 use Rattle.session_start.proofs.starts.put_starts.Tie as tie
-use Rattle.session_start.proofs.starts.put_starts.Reads as reads
-use Rattle.session_start.proofs.starts.put_starts.Lts as lts
-use Rattle.session_start.proofs.starts.block_count.Reads as block-count-reads
-use Rattle.session_start.proofs.starts.one_if_same.Reads as one-if-same-reads
 
 abbrev invariant-loop : tie.invariant-loop-i
 invariant-loop h work₀ m₀ i₀ work m i =

@@ -7,8 +7,6 @@ use native.Mathlib.Omega.{arith}
 use Prim.Native.Nat.{◌-◌, ◌≤◌, ◌<◌, zero-le}
 use Rattle.session_start.proofs.word_tables.fill.Statement.{statement}
 use Rattle.session_start.proofs.word_tables.fill.Tie as tie
-use Rattle.session_start.proofs.word_tables.fill.Reads as reads
-use Rattle.session_start.proofs.word_tables.fill.Lts as lts
 
 abbrev invariant-loop : tie.invariant-loop-i
 invariant-loop word n at work₀ i₀ work i = (i ≤ n) × (length work ≡ length work₀) × Stored at (replicate n word) work₀ i work

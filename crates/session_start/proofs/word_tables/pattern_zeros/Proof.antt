@@ -6,8 +6,6 @@ use mathlib.Core.Path.{refl, sym}
 use Prim.Native.Nat.{ℕ}
 use Rattle.session_start.proofs.word_tables.pattern_zeros.Statement.{statement}
 use Rattle.session_start.proofs.word_tables.pattern_zeros.Tie as tie
-use Rattle.session_start.proofs.word_tables.pattern_zeros.Reads as reads
-use Rattle.session_start.proofs.word_tables.pattern_zeros.Lts as lts
 
 returns : tie.Need-returns
 unfolding zeros

@@ -7,8 +7,6 @@ use native.Mathlib.Omega.{arith}
 use Prim.Native.Nat.{◌-◌, ◌≤◌, zero-le}
 use Rattle.session_start.proofs.word_tables.put_table.Statement.{statement}
 use Rattle.session_start.proofs.word_tables.put_table.Tie as tie
-use Rattle.session_start.proofs.word_tables.put_table.Reads as reads
-use Rattle.session_start.proofs.word_tables.put_table.Lts as lts
 
 abbrev invariant-loop : tie.invariant-loop-i
 invariant-loop words at work₀ i₀ work i = (i ≤ length words) × (length work ≡ length work₀) × Stored at words work₀ i work
