@@ -77,6 +77,7 @@ pub(crate) fn matters_fraction(line: Line, seen: u32, m: u32, x: u32) -> bool
 }
 
 // `rows::enter` for fractions.
+#[tactic(auto, unfolding(crate::specs::Passing::entered))]
 fn enter_fraction(part: &mut [u32], row: usize, s: u32, seen: u32)
     requires { (length part.old ≡ part_length) × (row < hit_limit) }
     ensures { part.new ≡ entered true part.old row s seen }

@@ -2,6 +2,7 @@
 use borrow.Author.Rules.{rules}
 use mathlib.Core.Path.{◌≡◌, sym, ◌∙◌}
 use mathlib.Core.Bool.{false}
+use lib.Dec.{ltb}
 use borrow.Author.Tests.{lt-ltb, le-ltb}
 use Rattle.base.specs.Limits.{k_limit, w_limit, letter_limit, outside}
 use Rattle.winnowing.specs.Winnowed.{is_beyond}
@@ -35,6 +36,9 @@ returns-then-letters-gt-LETTER_LIMIT c =
     let args = c.args in
     rw (k_within c.before, w_within c.before, lt-ltb letter_limit args.letters c.if-letters-gt-LETTER_LIMIT.true)
 
+letters_within : (c : tie.Else-letters-gt-LETTER_LIMIT) → ltb letter_limit c.args.letters ≡ false
+letters_within c = le-ltb letter_limit c.args.letters c.if-letters-gt-LETTER_LIMIT.false
+
 returns-then-codes-room : tie.Need-returns-then-codes-room
 unfolding is_beyond
 returns-then-codes-room c =
@@ -42,7 +46,7 @@ returns-then-codes-room c =
     rw (
       k_within c.before.before,
       w_within c.before.before,
-      le-ltb letter_limit args.letters c.if-letters-gt-LETTER_LIMIT.false,
+      letters_within c.before,
       lt-ltb args.codes args.room c.if-codes-room.true,
     )
 
@@ -53,7 +57,7 @@ returns-else-codes-room c =
     rw (
       k_within c.before.before,
       w_within c.before.before,
-      le-ltb letter_limit args.letters c.if-letters-gt-LETTER_LIMIT.false,
+      letters_within c.before,
       le-ltb args.codes args.room c.if-codes-room.false,
     )
 

@@ -65,6 +65,14 @@ returns-then-h-gt-HIT_LIMIT c =
     many c.args.work.now c.if-work-lt-WORK_WORDS.false
     (omega (arith, c.wide-h.ensures.0, c.if-h-gt-HIT_LIMIT.true))
 
+-- there are few enough hits, and so many cells
+few_hits : (c : tie.Else-h-gt-HIT_LIMIT) → get_or c.args.work.now hits_at 0 ≤ hit_limit
+few_hits c = omega (arith, c.wide-h.ensures.0, c.if-h-gt-HIT_LIMIT.false)
+
+cells_are : (c : tie.Else-h-gt-HIT_LIMIT) → c.wide-h.result * (c.wide-h.result + 1) / 2 ≡ cell_count (get_or c.args.work.now hits_at 0)
+cells_are c = let few : c.wide-h.result ≤ hit_limit = omega (arith, few_hits c, c.wide-h.ensures.0) in
+    count_is c.wide-h.result (get_or c.args.work.now hits_at 0) c.wide-h.ensures.0 few
+
 overflow_add-cells : tie.Need-overflow_add-cells
 overflow_add-cells c = search rules
 
@@ -81,9 +89,8 @@ returns-then-cells-passed : tie.Need-returns-then-cells-passed
 returns-then-cells-passed c =
     let at_wide = c in
     let work = at_wide.args.work.now in
-    let few : get_or work hits_at 0 ≤ hit_limit = omega (arith, at_wide.wide-h.ensures.0, c.if-h-gt-HIT_LIMIT.false) in
-    let cells : at_wide.wide-h.result * (at_wide.wide-h.result + 1) / 2 ≡ cell_count (get_or work hits_at 0) =
-    count_is at_wide.wide-h.result (get_or work hits_at 0) at_wide.wide-h.ensures.0 c.if-h-gt-HIT_LIMIT.false in
+    let few = few_hits c.before.before.before in
+    let cells = cells_are c.before.before.before in
     let passed : c.wide-passed.result ≡ get_or work passed_at 0 = c.wide-passed.ensures.0 in
     over work at_wide.if-work-lt-WORK_WORDS.false few (omega (arith, c.if-cells-passed.true))
 
@@ -91,9 +98,8 @@ overflow_add-result : tie.Need-overflow_add-result
 overflow_add-result c =
     let at_wide = c in
     let work = at_wide.args.work.now in
-    let few : get_or work hits_at 0 ≤ hit_limit = omega (arith, at_wide.wide-h.ensures.0, c.if-h-gt-HIT_LIMIT.false) in
-    let cells : at_wide.wide-h.result * (at_wide.wide-h.result + 1) / 2 ≡ cell_count (get_or work hits_at 0) =
-    count_is at_wide.wide-h.result (get_or work hits_at 0) at_wide.wide-h.ensures.0 c.if-h-gt-HIT_LIMIT.false in
+    let few = few_hits c.before.before.before in
+    let cells = cells_are c.before.before.before in
     let passed : c.wide-passed.result ≡ get_or work passed_at 0 = c.wide-passed.ensures.0 in
     let most : cell_count (get_or work hits_at 0) ≤ cell_limit = few_cells (get_or work hits_at 0) few in omega arith
 
@@ -101,9 +107,8 @@ overflow_cast-result : tie.Need-overflow_cast-result
 overflow_cast-result c =
     let at_wide = c in
     let work = at_wide.args.work.now in
-    let few : get_or work hits_at 0 ≤ hit_limit = omega (arith, at_wide.wide-h.ensures.0, c.if-h-gt-HIT_LIMIT.false) in
-    let cells : at_wide.wide-h.result * (at_wide.wide-h.result + 1) / 2 ≡ cell_count (get_or work hits_at 0) =
-    count_is at_wide.wide-h.result (get_or work hits_at 0) at_wide.wide-h.ensures.0 c.if-h-gt-HIT_LIMIT.false in
+    let few = few_hits c.before.before.before in
+    let cells = cells_are c.before.before.before in
     let passed : c.wide-passed.result ≡ get_or work passed_at 0 = c.wide-passed.ensures.0 in
     let most : cell_count (get_or work hits_at 0) ≤ cell_limit = few_cells (get_or work hits_at 0) few in omega arith
 
@@ -111,9 +116,8 @@ returns : tie.Need-returns
 returns c =
     let at_wide = c in
     let work = at_wide.args.work.now in
-    let few : get_or work hits_at 0 ≤ hit_limit = omega (arith, at_wide.wide-h.ensures.0, c.if-h-gt-HIT_LIMIT.false) in
-    let cells : at_wide.wide-h.result * (at_wide.wide-h.result + 1) / 2 ≡ cell_count (get_or work hits_at 0) =
-    count_is at_wide.wide-h.result (get_or work hits_at 0) at_wide.wide-h.ensures.0 c.if-h-gt-HIT_LIMIT.false in
+    let few = few_hits c.before.before.before in
+    let cells = cells_are c.before.before.before in
     let passed : c.wide-passed.result ≡ get_or work passed_at 0 = c.wide-passed.ensures.0 in
     (let n : at_wide.wide-h.result * (at_wide.wide-h.result + 1) / 2 - c.wide-passed.result + 1
     ≡ suc (cell_count (get_or work hits_at 0) - get_or work passed_at 0) = omega arith in n)

@@ -3,6 +3,9 @@ use Prim.Native.Nat.{suc, ◌≤◌, ◌<◌}
 use native.Mathlib.Nat.{add-zero}
 use native.Mathlib.Numerals.{add-one}
 use native.Mathlib.Omega.{arith}
+use mathlib.Core.Path.{◌≡◌}
+use mathlib.Core.Bool.{true}
+use lib.Dec.{eqb}
 use lib.ListN.{length, drop_of_length-le}
 use lib.Seq.{drop-cons}
 use borrow.Author.Rules.{rules}
@@ -27,6 +30,10 @@ returns-then-content-n : tie.Need-returns-then-content-n
 unfolding last_word
 returns-then-content-n c = simp (← c.content.ensures, ne_eqb _ _ c.if-content-n.true)
 
+-- the number of entries is the one that the last word says
+counted : (c : tie.Else-content-n) → eqb c.content.result c.args.n ≡ true
+counted c = eq-eqb _ _ c.if-content-n.false
+
 overflow_add-next : tie.Need-overflow_add-next
 overflow_add-next c = search rules
 
@@ -38,7 +45,7 @@ returns-then-next-words c =
     let h : suc a.index < length a.words.now = omega arith in
     simp (
       ← d.content.ensures,
-      eq-eqb _ _ d.if-content-n.false,
+      counted c.before,
       drop-cons a.words.now (suc a.index) 0 h,
       add-one,
     )
@@ -51,7 +58,7 @@ returns c =
     let h : length a.words.now ≤ suc a.index = omega arith in
     simp (
       ← d.content.ensures,
-      eq-eqb _ _ d.if-content-n.false,
+      counted c.before,
       drop_of_length-le a.words.now h,
       add-zero,
     )
