@@ -3,9 +3,9 @@
 #![tactic(auto)]
 
 ghost use Rattle.std.specs.Prelude.{◌≡◌};
-ghost use Rattle.sketch.specs.Answers.{reply_of as sketchedReply};
+ghost use Rattle.sketch.specs.Answers.{reply_of as sketched_reply};
 ghost use Rattle.strike.specs.Answers.{reply_of as struck_reply};
-ghost use Rattle.strands.specs.Answers.{reply_of as complementedReply};
+ghost use Rattle.strands.specs.Answers.{reply_of as complemented_reply};
 ghost use Rattle.store.specs.Answers.{saved_reply, loaded_reply};
 ghost use Rattle.session_start.specs.Answers.{started_reply};
 ghost use Rattle.answers.specs.Numbers.{number_of, value_of, k_after, w_after};
@@ -21,7 +21,7 @@ use strike::Struck;
 pub struct Numbers(pub u32, pub usize);
 
 pub fn of_sketch(answer: Sketched) -> Numbers
-    ensures { (result.0 ≡ number_of (sketchedReply answer)) × (result.1 ≡ value_of (sketchedReply answer)) }
+    ensures { (result.0 ≡ number_of (sketched_reply answer)) × (result.1 ≡ value_of (sketched_reply answer)) }
 {
     match answer {
         Sketched::Entries(n) => Numbers(0, n),
@@ -45,7 +45,7 @@ pub fn of_strike(answer: Struck) -> Numbers
 }
 
 pub fn of_complement(answer: Complemented) -> Numbers
-    ensures { (result.0 ≡ number_of (complementedReply answer)) × (result.1 ≡ value_of (complementedReply answer)) }
+    ensures { (result.0 ≡ number_of (complemented_reply answer)) × (result.1 ≡ value_of (complemented_reply answer)) }
 {
     match answer {
         Complemented::Bytes(n) => Numbers(0, n),

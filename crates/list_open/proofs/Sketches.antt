@@ -135,30 +135,30 @@ module _ (cs ps rcs rps : List ℕ) (s : Settings) (places work places' : List �
   abbrev next_reply : Reply
   next_reply = strike_reply cs rcs rps s.c line_limit line_limit
 
-  abbrev struck_task_lem : Task
-  struck_task_lem = struck_task cs ps rcs rps s
+  abbrev task_struck : Task
+  task_struck = struck_task cs ps rcs rps s
 
   abbrev pattern_size : ℕ
   pattern_size = length (strike cs s.c (entries rcs rps))
 
   -- what is left once the answer of both strikes is known
   opens_both : (both : Reply) → and_then text_reply next_reply ≡ both → (r : Opened) (work' : List ℕ)
-      → r ≡ opened_by (and_then both (start_reply struck_task_lem (length work))) pattern_size
-      → work' ≡ where_accepted both (start_words struck_task_lem work) work
+      → r ≡ opened_by (and_then both (start_reply task_struck (length work))) pattern_size
+      → work' ≡ where_accepted both (start_words task_struck work) work
       → OpensSketches cs ps rcs rps s places work r places' work'
   opens_both both e r work' f g =
       record {
-        answer = f ∙ sym (ap (λ (a : Reply). opened_by (and_then a (start_reply struck_task_lem (length work))) pattern_size) e);
+        answer = f ∙ sym (ap (λ (a : Reply). opened_by (and_then a (start_reply task_struck (length work))) pattern_size) e);
         positions_after = left;
-        work_after = g ∙ sym (ap (λ (a : Reply). where_accepted a (start_words struck_task_lem work) work) e);
+        work_after = g ∙ sym (ap (λ (a : Reply). where_accepted a (start_words task_struck work) work) e);
       }
 
   pub text_struck_refused : (n : ℕ) → n ≡ number_of text_reply → n ≢ 0 → OpensSketches cs ps rcs rps s places work (Refused n) places' work
   text_struck_refused n e h =
       let not_zero : number_of text_reply ≢ 0 = λ z. h (e ∙ z) in
       opens_both text_reply (and_refused text_reply next_reply not_zero) (Refused n) work
-      (ap Refused e ∙ refused_opened text_reply (start_reply struck_task_lem (length work)) pattern_size not_zero)
-      (refused_where text_reply (start_words struck_task_lem work) work not_zero)
+      (ap Refused e ∙ refused_opened text_reply (start_reply task_struck (length work)) pattern_size not_zero)
+      (refused_where text_reply (start_words task_struck work) work not_zero)
 
   pub text_struck : (m : ℕ) → text_reply ≡ accepted (m ∷ []) → (text : List ℕ) → text ≡ codes (strike cs s.c (entries cs ps))
       → (r : Opened) (work' : List ℕ) → OpensPattern cs text rcs rps s work r work'

@@ -96,7 +96,7 @@ module _ (task : Task) (small : hit_count task ≤ hit_limit) (before : List ℕ
         second_word = out v_at (inl (omega arith)) ∙ h.second_word;
         kind_word = out kind_at (inl (omega arith)) ∙ h.kind_word;
         size_word = out size_at (inl (omega arith)) ∙ h.size_word;
-        threshold_word_lem = out threshold_at (inl (omega arith)) ∙ h.threshold_word_lem;
+        threshold_word = out threshold_at (inl (omega arith)) ∙ h.threshold_word;
         back_word = λ i l. out (back_from + i) (inl (omega arith)) ∙ h.back_word i l;
         index_word = λ i l. inner_word index_from part_length work part part_fits p.number i (omega arith) ∙ p.index_word i l;
         reach_word = λ i l. inner (reach_at 0) i (omega arith) ∙ p.reach_word i l;
@@ -182,7 +182,7 @@ module _ (task : Task) (small : hit_count task ≤ hit_limit) (before : List ℕ
         second_word = outside v_at (inl (omega arith)) ∙ h.second_word;
         kind_word = outside kind_at (inl (omega arith)) ∙ h.kind_word;
         size_word = outside size_at (inl (omega arith)) ∙ h.size_word;
-        threshold_word_lem = outside threshold_at (inl (omega arith)) ∙ h.threshold_word_lem;
+        threshold_word = outside threshold_at (inl (omega arith)) ∙ h.threshold_word;
         back_word = λ i k. outside (back_from + i) (inl (omega arith)) ∙ h.back_word i k;
         index_word = λ i k. outside (index_from + i) (inl (omega arith)) ∙ h.index_word i k;
         reach_word = λ i k. outside (reach_from + i) (inl (omega arith)) ∙ h.reach_word i k;
@@ -238,7 +238,7 @@ module _ (task : Task) (small : hit_count task ≤ hit_limit) (before : List ℕ
       second_word = saved_low 2 (inl (omega arith)) ∙ held.second_word;
       kind_word = saved_low 4 (inr (omega arith)) ∙ held.kind_word;
       size_word = saved_low 5 (inr (omega arith)) ∙ held.size_word;
-      threshold_word_lem = saved_low 6 (inr (omega arith)) ∙ held.threshold_word_lem;
+      threshold_word = saved_low 6 (inr (omega arith)) ∙ held.threshold_word;
       back_word = λ i l. saved_behind work place cells (back_from + i) (omega arith) ∙ held.back_word i l;
       index_word = λ i l. saved_behind work place cells (index_from + i) (omega arith) ∙ held.index_word i l;
       reach_word = λ i l. saved_behind work place cells (reach_from + i) (omega arith) ∙ held.reach_word i l;

@@ -118,7 +118,7 @@ terms_read : (task : Task) (before : List ℕ) (q : ℕ) (work : List ℕ) → H
     → ThresholdFits task.scoring → terms_in work ≡ terms_of task
 unfolding terms_in
 terms_read task before q work held fits =
-    rw (held.first_word, held.second_word, held.kind_word, held.size_word, held.threshold_word_lem, scoring_read task.scoring fits)
+    rw (held.first_word, held.second_word, held.kind_word, held.size_word, held.threshold_word, scoring_read task.scoring fits)
 
 -- ---- the ways
 

@@ -181,7 +181,7 @@ module _ (task : Task) (limited : Limited task) (threshold_fits : ThresholdFits 
           (record {
             at =
                 next_column q j (get_or (left_words words (suc j)) starts_from 0) (get_or (left_words words (suc j)) threshold_at 0) l
-                (ap (λ (k : ℕ). place (hit_count task) k j) (sym last) ∙ e) (left.starts_word 0 zero-le) left.threshold_word_lem;
+                (ap (λ (k : ℕ). place (hit_count task) k j) (sym last) ∙ e) (left.starts_word 0 zero-le) left.threshold_word;
             tables = left;
           })
 

@@ -1,6 +1,6 @@
 // The deciding test at a candidate: its score, from the scoring and the counts, against the threshold of the session.
 ghost use Rattle.std.specs.Prelude.{◌≡◌, true, ◌&&◌, leb};
-ghost use Rattle.mapper.specs.Deciding.{is_small, is_scorable, decided as decidedAnswer};
+ghost use Rattle.mapper.specs.Deciding.{is_small, is_scorable, decided as decided_answer};
 
 use crate::answer::Stepped;
 use crate::score::score;
@@ -59,7 +59,7 @@ fn decided_linear(
     cells: u32,
 ) -> Stepped
     requires { is_scorable (record { scoring = Scoring.Linear u v threshold; size = size }) a b m ≡ true }
-    ensures { result ≡ decidedAnswer (record { scoring = Scoring.Linear u v threshold; size = size }) a b m cells }
+    ensures { result ≡ decided_answer (record { scoring = Scoring.Linear u v threshold; size = size }) a b m cells }
 {
     let score = score(u, v, size, m, b - a + 1);
     if threshold <= score {
@@ -77,7 +77,7 @@ fn decided_linear(
 // The same by the weighted Jaccard: fractions are compared by cross products, which fit 32 bits.
 fn decided_jaccard(f: u32, g: u32, size: u32, a: u32, b: u32, m: u32, cells: u32) -> Stepped
     requires { is_scorable (record { scoring = Scoring.Jaccard f g; size = size }) a b m ≡ true }
-    ensures { result ≡ decidedAnswer (record { scoring = Scoring.Jaccard f g; size = size }) a b m cells }
+    ensures { result ≡ decided_answer (record { scoring = Scoring.Jaccard f g; size = size }) a b m cells }
 {
     let divisor = b - a + 1 + size - m;
     if f * divisor <= m * g {
@@ -95,7 +95,7 @@ fn decided_jaccard(f: u32, g: u32, size: u32, a: u32, b: u32, m: u32, cells: u32
 // What is answered at the candidate [a, b] with this m: found, where its score is at least the threshold. In a session it always is,
 // since score words order as scores do.
 pub fn decided(terms: Terms, a: u32, b: u32, m: u32, cells: u32) -> Stepped
-    ensures { result ≡ decidedAnswer terms a b m cells }
+    ensures { result ≡ decided_answer terms a b m cells }
 {
     if !is_scorable(terms, a, b, m) {
         return Stepped::Spent(cells);

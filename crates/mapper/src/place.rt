@@ -2,7 +2,7 @@
 // the rows before it.
 ghost use Rattle.std.specs.Prelude.{◌≡◌, ◌≤◌, ◌<◌, length};
 ghost use Rattle.base.specs.Limits.{hit_limit, work_words, word_limit};
-ghost use Rattle.mapper.specs.Walking.{left_words, settled as settledPlace, settled_words, saved};
+ghost use Rattle.mapper.specs.Walking.{left_words, settled as settled_place, settled_words, saved};
 
 use base::WORD_LIMIT;
 use session_cells::cells::Passed;
@@ -31,7 +31,7 @@ fn leave_column(work: &mut [u32], columns: usize)
 // The place behind what was passed of the last of these columns: in that column, or at the top of the next, where it is passed and left.
 pub fn settle(work: &mut [u32], columns: usize, p: Passed) -> Place
     requires { (work_words ≤ length work.old) × (columns ≤ hit_limit) × (1 ≤ columns) }
-    ensures value { result ≡ settledPlace work.old columns p }
+    ensures value { result ≡ settled_place work.old columns p }
     ensures work_after { work.new ≡ settled_words work.old columns p }
 {
     if p.row < columns {

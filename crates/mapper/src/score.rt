@@ -2,7 +2,7 @@
 ghost use Rattle.std.specs.Prelude.{◌≡◌, ◌+◌, ◌%◌, ◌≤◌};
 ghost use Rattle.base.specs.Limits.{text_limit, pattern_limit, weight_limit, word_limit};
 ghost use Rattle.mappings.specs.Score.{linear};
-ghost use Rattle.mappings.specs.Unbiased.{unbiased as unbiasedOf};
+ghost use Rattle.mappings.specs.Unbiased.{unbiased as unbiased_of};
 
 use base::WORD_LIMIT;
 use session_words::{BIAS, MINUS_ONE};
@@ -18,7 +18,7 @@ pub fn score(u: u32, v: u32, size: u32, m: u32, len: u32) -> i32
 
 // A word less 2^31, as a signed number.
 pub fn unbiased(word: u32) -> i32
-    ensures { result ≡ unbiasedOf word }
+    ensures { result ≡ unbiased_of word }
 {
     if BIAS <= word {
         (word - BIAS) as i32

@@ -4,7 +4,7 @@
 ghost use Rattle.std.specs.Prelude.{◌≡◌, ◌+◌, ◌-◌, ◌≤◌, ◌<◌, length};
 ghost use Rattle.base.specs.Limits.{hit_limit};
 ghost use Rattle.session_words.specs.Layout.{part_length};
-ghost use Rattle.session_cells.specs.Passing.{none_passed, rest_end, skips, skipped, pass_rest, pass_blocks, fits as fitsPart, column_pass, cell_pass};
+ghost use Rattle.session_cells.specs.Passing.{none_passed, rest_end, skips, skipped, pass_rest, pass_blocks, fits as fits_part, column_pass, cell_pass};
 
 use crate::fractions::{matters_fraction, pass_row_fraction, pass_rows_fractions};
 use crate::rows::{pass_row, pass_rows};
@@ -137,7 +137,7 @@ fn pass_blocks(
 
 // The part has all its tables, and the rows from `from` up to `to` lie in them, none of them behind the line's column.
 fn fits(line: Line, part: &[u32], from: usize, to: usize) -> bool
-    ensures { result ≡ fitsPart line part.now from to }
+    ensures { result ≡ fits_part line part.now from to }
 {
     if part.len() != PART_LENGTH {
         return false;

@@ -176,7 +176,7 @@ module _ (task : Task) where
         second_word = head_at 2 (omega arith);
         kind_word = head_at 4 (omega arith);
         size_word = head_at 5 (omega arith);
-        threshold_word_lem = head_at 6 (omega arith);
+        threshold_word = head_at 6 (omega arith);
         back_word = back_at;
         index_word = index_at;
         reach_word = reach_at_lem;

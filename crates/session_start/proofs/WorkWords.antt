@@ -52,7 +52,7 @@ pub record HoldsTables (task : Task) (before : List ℕ) (q n : ℕ) (work : Lis
   pub second_word : get_or work v_at 0 ≡ second_number task.scoring
   pub kind_word : get_or work kind_at 0 ≡ kind_number task.scoring
   pub size_word : get_or work size_at 0 ≡ length task.pattern
-  pub threshold_word_lem : get_or work threshold_at 0 ≡ threshold_word task.scoring
+  pub threshold_word : get_or work threshold_at 0 ≡ threshold_word task.scoring
   pub back_word : (i : ℕ) → i < hit_count task → get_or work (back_from + i) 0 ≡ back task.pattern (hit_codes task) i
   pub index_word : (i : ℕ) → i < hit_count task → get_or work (index_from + i) 0 ≡ get_or (hits task) i 0
   pub reach_word : (i : ℕ) → i < hit_count task → get_or work (reach_from + i) 0 ≡ reach task.pattern (hit_codes task) i
@@ -316,7 +316,7 @@ module _ (task : Task) (before : List ℕ) (q : ℕ) (small : hit_count task ≤
       second_word = head_word 2 (omega arith);
       kind_word = head_word 4 (omega arith);
       size_word = head_word 5 (omega arith);
-      threshold_word_lem = head_word 6 (omega arith);
+      threshold_word = head_word 6 (omega arith);
       back_word = λ i l. word_at (back_from + i) (omega arith) ∙ at_back task q (get_or before (back_from + i) 0) small i l;
       index_word = λ i l. word_at (index_from + i) (omega arith) ∙ at_index task q (get_or before (index_from + i) 0) small i l;
       reach_word = λ i l. word_at (reach_from + i) (omega arith) ∙ at_reach task q (get_or before (reach_from + i) 0) small i l;
@@ -341,7 +341,7 @@ module _ (task : Task) (before : List ℕ) (q : ℕ) (small : hit_count task ≤
     same_heading (suc (suc (suc zero))) l = held.passed_word
     same_heading (suc (suc (suc (suc zero)))) l = held.held.kind_word
     same_heading (suc (suc (suc (suc (suc zero))))) l = held.held.size_word
-    same_heading (suc (suc (suc (suc (suc (suc zero)))))) l = held.held.threshold_word_lem
+    same_heading (suc (suc (suc (suc (suc (suc zero)))))) l = held.held.threshold_word
     same_heading (suc (suc (suc (suc (suc (suc (suc zero))))))) l = held.columns_word
     same_heading (suc (suc (suc (suc (suc (suc (suc (suc zero)))))))) l = held.row_word
     same_heading (suc (suc (suc (suc (suc (suc (suc (suc (suc zero))))))))) l = held.shared_word

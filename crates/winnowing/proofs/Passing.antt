@@ -139,7 +139,7 @@ module _ (last w room : ℕ) (letters : List ℕ) (from : ℕ) (some : 1 ≤ w) 
 -- ---- windows with a new lowest
 
 module _ (last w room : ℕ) (letters : List ℕ) (from : ℕ) (some : 1 ≤ w) (low-at p at n n' code : ℕ) (cs ps cs' ps' : List ℕ) (wide : w ≤ at)
-    (to-pick : to_pick last w letters from (suc (p - w)) (suc low-at) ≡ to_pick last w letters from (suc (at - w)) (suc low-at)) where
+    (picks_alike : to_pick last w letters from (suc (p - w)) (suc low-at) ≡ to_pick last w letters from (suc (at - w)) (suc low-at)) where
   -- the k-mer at the position is the lowest, and is put
   pub put_new : IsLowest (rank_at (suc last) letters) (at - w) at low-at → at + last < run_end letters from
       → rank_at (suc last) letters at ≤ rank_at (suc last) letters low-at → code ≡ code_at (suc last) letters at
@@ -151,7 +151,7 @@ module _ (last w room : ℕ) (letters : List ℕ) (from : ℕ) (some : 1 ≤ w) 
       let lowest : IsLowest (rank_at (suc last) letters) (suc (at - w)) (suc at) at =
       lowest_moved (rank_at (suc last) letters) (at - w) (suc at) at (lowest_new (rank_at (suc last) letters) (at - w) at low-at is below) (omega arith) in (
         rw (next, add-one at) lowest,
-        λ es. rw (next, to-pick)
+        λ es. rw (next, picks_alike)
             (window_new last w room (run_end letters from - last) letters some (suc (at - w)) (suc at) at (omega arith) (omega arith) lowest
             (suc low-at) n code n' cs ps cs' ps' is.last there put es),
       )
