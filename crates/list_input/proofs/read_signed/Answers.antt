@@ -18,8 +18,7 @@ use Rattle.list_input.specs.declared.Threshold.TheVariants.{Malformed as no_sign
 use Rattle.list_line.proofs.Buffers.{part_to_end}
 use Rattle.list_input.proofs.Numbers.{number_le, as_negative, as_positive, threshold_none, threshold_minus, threshold_plain}
 use borrow.Author.Rules.{rules, sfits_of}
-use Rattle.list_input.proofs.read_signed.Statement.{statement}
-use Rattle.list_input.proofs.read_signed.Tie as tie
+use Rattle.list_input.proofs.read_signed.Goals as goal
 
 module _ (l : List ℕ) (some : length l ≡ 0 → ⊥) (first : get_or l 0 0 ≡ minus) {read : Number}
     (is : read ≡ number_of (2 ^ 31) (take (length l - 1) (drop 1 l))) where
@@ -47,77 +46,44 @@ module _ (l : List ℕ) (some : length l ≡ 0 → ⊥) (first : get_or l 0 0 �
   plain_lt : {v : ℕ} → read ≡ number v → v < 2 ^ 31
   plain_lt {v} e = let h : v ≤ signed_limit - 1 = number_le (signed_limit - 1) v l (sym is ∙ e) in omega arith
 
-returns-then-bytes-eq0 : tie.Need-returns-then-bytes-eq0
+pub returns-then-bytes-eq0 : goal.returns-then-bytes-eq0
 returns-then-bytes-eq0 c = sym (threshold_none _ c.if-bytes-eq0.true)
 
-bounds-bytes-0 : tie.Need-bounds-bytes-0
-bounds-bytes-0 c = search rules
-
-slice_bounds-read_number-count : tie.Need-slice_bounds-read_number-count
-slice_bounds-read_number-count c = search rules
-
-slice_bounds-read_number-start : tie.Need-slice_bounds-read_number-start
-slice_bounds-read_number-start c = search rules
-
-slice_bounds-read_number-end : tie.Need-slice_bounds-read_number-end
-slice_bounds-read_number-end c = search rules
-
-overflow_add-read_number : tie.Need-overflow_add-read_number
-overflow_add-read_number c = search rules
-
-read_number-requires : tie.Need-read_number-requires
-read_number-requires c κs = search rules
-
-enum_told-1 : tie.Need-enum_told-1
-enum_told-1 c = search rules
-
-returns-in-Malformed : tie.Need-returns-in-Malformed
+pub returns-in-Malformed : goal.returns-in-Malformed
 returns-in-Malformed c =
     behind c.args.bytes.now c.if-bytes-eq0.false
     c.if-bytes-eq-MINUS.true c.read_number.ensures c.in-Malformed.is
 
-enum_known-value : tie.Need-enum_known-value
-enum_known-value c = search rules
-
-returns-then-value-eq0 : tie.Need-returns-then-value-eq0
+pub returns-then-value-eq0 : goal.returns-then-value-eq0
 returns-then-value-eq0 c =
     behind_zero c.args.bytes.now c.if-bytes-eq0.false
     c.if-bytes-eq-MINUS.true c.read_number.ensures
     c.in-Value.is c.if-value-eq0.true
 
-negative-requires : tie.Need-negative-requires
-negative-requires c κs =
+pub negative-requires : goal.negative-requires
+negative-requires c =
     behind_le c.args.bytes.now c.if-bytes-eq0.false
     c.if-bytes-eq-MINUS.true c.read_number.ensures
     c.in-Value.is
 
-returns-in-Value : tie.Need-returns-in-Value
+pub returns-in-Value : goal.returns-in-Value
 returns-in-Value c = ap signed_number (to_z-of_z {w = w32} (sfits_of c.negative.type_inv) ∙ c.negative.ensures)
     ∙ behind_some c.args.bytes.now c.if-bytes-eq0.false
     c.if-bytes-eq-MINUS.true c.read_number.ensures
     c.in-Value.is c.if-value-eq0.false
 
-read_number-requires-2 : tie.Need-read_number-requires-2
-read_number-requires-2 c κs = search rules
-
-enum_told-in-Malformed-read_number : tie.Need-enum_told-in-Malformed-read_number
-enum_told-in-Malformed-read_number c = search rules
-
-enum_known-value-in-Value-read_number-2 : tie.Need-enum_known-value-in-Value-read_number-2
-enum_known-value-in-Value-read_number-2 c = search rules
-
-overflow_cast-result : tie.Need-overflow_cast-result
+pub overflow_cast-result : goal.overflow_cast-result
 overflow_cast-result c =
     sfits_of (plain_lt c.args.bytes.now
     c.if-bytes-eq0.false c.if-bytes-eq-MINUS.false
     c.read_number-2.ensures c.in-Value-read_number.is)
 
-returns-in-Malformed-read_number : tie.Need-returns-in-Malformed-read_number
+pub returns-in-Malformed-read_number : goal.returns-in-Malformed-read_number
 returns-in-Malformed-read_number c =
     plain c.args.bytes.now c.if-bytes-eq0.false
     c.if-bytes-eq-MINUS.false c.read_number-2.ensures c.in-Malformed-read_number.is
 
-returns-in-Value-read_number : tie.Need-returns-in-Value-read_number
+pub returns-in-Value-read_number : goal.returns-in-Value-read_number
 returns-in-Value-read_number c =
     ap signed_number
     (to_z_pos w32
@@ -128,27 +94,3 @@ returns-in-Value-read_number c =
     c.if-bytes-eq0.false
     c.if-bytes-eq-MINUS.false c.read_number-2.ensures
     c.in-Value-read_number.is
-
-pub read_signed_spec : {M : Type 1} → statement M
-read_signed_spec =
-    tie.close
-    (tie.spec
-    returns-then-bytes-eq0
-    bounds-bytes-0
-    slice_bounds-read_number-count
-    slice_bounds-read_number-start
-    slice_bounds-read_number-end
-    overflow_add-read_number
-    read_number-requires
-    enum_told-1
-    returns-in-Malformed
-    enum_known-value
-    returns-then-value-eq0
-    negative-requires
-    returns-in-Value
-    read_number-requires-2
-    enum_told-in-Malformed-read_number
-    enum_known-value-in-Value-read_number-2
-    overflow_cast-result
-    returns-in-Malformed-read_number
-    returns-in-Value-read_number)

@@ -5,8 +5,7 @@ use mathlib.Core.Path.{◌≡◌}
 use borrow.Author.Rules.{rules}
 use borrow.Author.Tests.{lt-ltb, le-ltb, eq-eqb, ne_eqb}
 use Rattle.per_mille.specs.Rounding.{even_of, rounded, nearest}
-use Rattle.per_mille.proofs.nearest.Statement.{statement}
-use Rattle.per_mille.proofs.nearest.Tie as tie
+use Rattle.per_mille.proofs.nearest.Goals as goal
 
 module _ (dividend divisor : ℕ) where
   less : 2 * (dividend % divisor) < divisor → dividend / divisor ≡ nearest dividend divisor
@@ -27,41 +26,23 @@ module _ (dividend divisor : ℕ) where
   unfolding nearest rounded even_of
   half_odd l m o = simp (le-ltb _ _ l, le-ltb _ _ m, ne_eqb _ _ o)
 
-nonzero_div-quotient : tie.Need-nonzero_div-quotient
-nonzero_div-quotient c = search rules
-
-nonzero_rem-twice : tie.Need-nonzero_rem-twice
-nonzero_rem-twice c = search rules
-
-overflow_mul-twice : tie.Need-overflow_mul-twice
+pub overflow_mul-twice : goal.overflow_mul-twice
 overflow_mul-twice c = search (rules, mod-lt c.args.dividend c.requires.0)
 
-returns-then-twice-divisor : tie.Need-returns-then-twice-divisor
+pub returns-then-twice-divisor : goal.returns-then-twice-divisor
 returns-then-twice-divisor c = less _ _ c.if-twice-divisor.true
 
-overflow_add-result : tie.Need-overflow_add-result
+pub overflow_add-result : goal.overflow_add-result
 overflow_add-result c = let entry = c.args in search (rules, div-le_self entry.dividend entry.divisor)
 
-returns-then-divisor-twice : tie.Need-returns-then-divisor-twice
+pub returns-then-divisor-twice : goal.returns-then-divisor-twice
 returns-then-divisor-twice c = more _ _ c.if-twice-divisor.false c.if-divisor-twice.true
 
-returns-then-quotient-eq0 : tie.Need-returns-then-quotient-eq0
+pub returns-then-quotient-eq0 : goal.returns-then-quotient-eq0
 returns-then-quotient-eq0 c = half_even _ _ c.if-twice-divisor.false c.if-divisor-twice.false c.if-quotient-eq0.true
 
-overflow_add-result-2 : tie.Need-overflow_add-result-2
+pub overflow_add-result-2 : goal.overflow_add-result-2
 overflow_add-result-2 c = let entry = c.args in search (rules, div-le_self entry.dividend entry.divisor)
 
-returns : tie.Need-returns
+pub returns : goal.returns
 returns c = half_odd _ _ c.if-twice-divisor.false c.if-divisor-twice.false c.if-quotient-eq0.false
-
-pub nearest_spec : {M : Type 1} → statement M
-nearest_spec = tie.close (tie.spec
-    nonzero_div-quotient
-    nonzero_rem-twice
-    overflow_mul-twice
-    returns-then-twice-divisor
-    overflow_add-result
-    returns-then-divisor-twice
-    returns-then-quotient-eq0
-    overflow_add-result-2
-    returns)

@@ -15,8 +15,7 @@ use Rattle.mapper.specs.declared.update.Terms.{Terms}
 use Rattle.mapper.specs.declared.answer.Stepped.TheVariants.{Found}
 use Rattle.mapper.specs.Deciding.{candidate_score, decides}
 use Rattle.mapper.proofs.Deciding.{Scorable, both_say, scorable_says, decided_found, decided_spent}
-use Rattle.mapper.proofs.decide.decided_jaccard.Statement.{statement}
-use Rattle.mapper.proofs.decide.decided_jaccard.Tie as tie
+use Rattle.mapper.proofs.decide.decided_jaccard.Goals as goal
 
 -- a number of the threshold times m or a divisor
 product : (x y : ℕ) → x ≤ divisor_limit → y ≤ text_limit + pattern_limit → Fits w32 (x * y)
@@ -24,7 +23,7 @@ product x y h k =
     let most : x * y ≤ divisor_limit * (text_limit + pattern_limit) = mul-le-mul {m₂ = text_limit + pattern_limit} h k in
     record { fits = omega (arith, most) }
 
-module _ (entry : tie.Start) where
+module _ (entry : goal.Start) where
   abbrev terms : Terms
   terms = record { scoring = Jaccard entry.args.f entry.args.g; size = entry.args.size }
 
@@ -47,27 +46,27 @@ module _ (entry : tie.Start) where
   unfolding decides candidate_score
   last = rw (entry.requires, divisor_is)
 
-overflow_sub-divisor : tie.Need-overflow_sub-divisor
+pub overflow_sub-divisor : goal.overflow_sub-divisor
 overflow_sub-divisor c = (counts c).ordered
 
-overflow_add-divisor : tie.Need-overflow_add-divisor
+pub overflow_add-divisor : goal.overflow_add-divisor
 overflow_add-divisor c = omega (arith, (counts c).short)
 
-overflow_add-divisor-2 : tie.Need-overflow_add-divisor-2
+pub overflow_add-divisor-2 : goal.overflow_add-divisor-2
 overflow_add-divisor-2 c = omega (arith, (counts c).short, (counts c).short_pattern)
 
-overflow_sub-divisor-2 : tie.Need-overflow_sub-divisor-2
+pub overflow_sub-divisor-2 : goal.overflow_sub-divisor-2
 overflow_sub-divisor-2 c = omega (arith, (counts c).at_most_size)
 
-overflow_mul-f : tie.Need-overflow_mul-f
+pub overflow_mul-f : goal.overflow_mul-f
 overflow_mul-f c = product _ _ (omega (arith, (small c).0, (small c).1)) (omega (arith, (counts c).short, (counts c).short_pattern))
 
-overflow_mul-m : tie.Need-overflow_mul-m
+pub overflow_mul-m : goal.overflow_mul-m
 overflow_mul-m c =
     rw (mul_comm _ _) (product _ _ (omega (arith, (small c).0, (small c).1)) (omega (arith, (counts c).at_most_size, (counts c).short_pattern)))
 
 -- below the threshold
-returns : tie.Need-returns
+pub returns : goal.returns
 returns c =
     let entry = c.before in
     let args = entry.args in
@@ -75,23 +74,10 @@ returns c =
     sym (decided_spent (terms entry) _ _ _ _ (last entry ∙ lt-leb (args.f * computed entry) (args.m * args.g) low))
 
 -- not below it
-returns-then-f-divisor : tie.Need-returns-then-f-divisor
+pub returns-then-f-divisor : goal.returns-then-f-divisor
 unfolding candidate_score
 returns-then-f-divisor c =
     let entry = c.before in
     let args = entry.args in
     ap (λ (d : ℕ). Found args.a args.b (Fraction args.m d) args.m args.cells) (divisor_is entry)
     ∙ sym (decided_found (terms entry) _ _ _ _ (last entry ∙ le-leb (args.f * computed entry) (args.m * args.g) (omega (arith, c.if-f-divisor.true))))
-
-pub decided_jaccard_spec : {M : Type 1} → statement M
-decided_jaccard_spec =
-    tie.close
-    (tie.spec
-    overflow_sub-divisor
-    overflow_add-divisor
-    overflow_add-divisor-2
-    overflow_sub-divisor-2
-    overflow_mul-f
-    overflow_mul-m
-    returns-then-f-divisor
-    returns)

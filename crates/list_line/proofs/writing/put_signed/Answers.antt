@@ -16,8 +16,7 @@ use Rattle.base.specs.Bytes.{minus}
 use Rattle.list_line.specs.Line.{decimal, signed}
 use Rattle.list_line.proofs.Buffers.{same_bytes, part_to_end, drop_set}
 use borrow.Author.Rules.{rules}
-use Rattle.list_line.proofs.writing.put_signed.Statement.{statement}
-use Rattle.list_line.proofs.writing.put_signed.Tie as tie
+use Rattle.list_line.proofs.writing.put_signed.Goals as goal
 
 module _ (z : ℤ) (fits : SFits w32 z) (above : le_z (pos 0) (to_z w32 (of_z w32 z)) ≡ true) where
   not_negative : (y : ℤ) → le_z (pos 0) y ≡ true → T (non_neg y)
@@ -59,55 +58,19 @@ module _ (z : ℤ) (fits : SFits w32 z) (below : le_z (pos 0) (to_z w32 (of_z w3
 sized : (d : List ℕ) (from b : ℕ) → length d ≡ 10 → 11 ≤ length (set (0 ∷ (d ++ [])) from b)
 sized d from b long = let longer : length (d ++ []) ≡ 10 = ap length (append-nil d) ∙ long in simp length-set (omega arith)
 
-overflow_cast-z : tie.Need-overflow_cast-z
+pub overflow_cast-z : goal.overflow_cast-z
 overflow_cast-z c = let at_start = c in cast_fits at_start.args.z at_start.ranges.z c.if-z-ge0.true
 
-put_decimal-requires : tie.Need-put_decimal-requires
-put_decimal-requires c κs = search rules
-
-shape_of-out-then-z-ge0 : tie.Need-shape_of-out-then-z-ge0
-shape_of-out-then-z-ge0 c = search rules
-
-returns-then-z-ge0 : tie.Need-returns-then-z-ge0
+pub returns-then-z-ge0 : goal.returns-then-z-ge0
 returns-then-z-ge0 c =
     let at_start = c in
     same_bytes (digits_are at_start.args.z at_start.ranges.z c.if-z-ge0.true)
     c.put_decimal.ensures
 
-slice_bounds-write_digits-count : tie.Need-slice_bounds-write_digits-count
-slice_bounds-write_digits-count c = search rules
-
-slice_bounds-digits-start : tie.Need-slice_bounds-digits-start
-slice_bounds-digits-start c = search rules
-
-slice_bounds-digits-end : tie.Need-slice_bounds-digits-end
-slice_bounds-digits-end c = search rules
-
-magnitude-requires : tie.Need-magnitude-requires
-magnitude-requires c κs = search rules
-
-write_digits-from-requires : tie.Need-write_digits-from-requires
-write_digits-from-requires c κs = search rules
-
-bounds-digits-from : tie.Need-bounds-digits-from
-bounds-digits-from c = search rules
-
-slice_bounds-put_bytes-count : tie.Need-slice_bounds-put_bytes-count
-slice_bounds-put_bytes-count c = search rules
-
-slice_bounds-put_bytes-start : tie.Need-slice_bounds-put_bytes-start
-slice_bounds-put_bytes-start c = search rules
-
-slice_bounds-put_bytes-end : tie.Need-slice_bounds-put_bytes-end
+pub slice_bounds-put_bytes-end : goal.slice_bounds-put_bytes-end
 slice_bounds-put_bytes-end c = let at_digits = c in sized at_digits.write_digits-from.new.digits at_digits.write_digits-from.result _ at_digits.write_digits-from.auto.digits
 
-put_bytes-requires : tie.Need-put_bytes-requires
-put_bytes-requires c κs = search rules
-
-shape_of-out : tie.Need-shape_of-out
-shape_of-out c = search rules
-
-returns : tie.Need-returns
+pub returns : goal.returns
 returns c =
     same_bytes
     (all_are
@@ -120,24 +83,3 @@ returns c =
     c.write_digits-from.ensures.0
     (c.write_digits-from.ensures.1 ∙ ap decimal c.magnitude.ensures))
     c.put_bytes.ensures
-
-pub put_signed_spec : {M : Type 1} → statement M
-put_signed_spec =
-    tie.close
-    (tie.spec
-    overflow_cast-z
-    put_decimal-requires
-    shape_of-out-then-z-ge0
-    returns-then-z-ge0
-    slice_bounds-write_digits-count
-    slice_bounds-digits-start
-    slice_bounds-digits-end
-    magnitude-requires
-    write_digits-from-requires
-    bounds-digits-from
-    slice_bounds-put_bytes-count
-    slice_bounds-put_bytes-start
-    slice_bounds-put_bytes-end
-    put_bytes-requires
-    shape_of-out
-    returns)
