@@ -116,7 +116,8 @@ module _ (line : List ℕ) (from : ℕ) where
     where
       go : (b : Bool) → test ≡ b → test ≡ false
       go true t =
-          let read : field (decimal_value 0 (first_part space (drop from line))) (from + length (first_part space (drop from line)) + 1) ≡ no_field = rw t at e in
+          let read : field (decimal_value 0 (first_part space (drop from line))) (from + length (first_part space (drop from line)) + 1) ≡ no_field =
+          rw t at e in
           let clash : ◌≡◌ {A = ℕ} 0 1 = cc in
           absurd (omega arith)
       go false t = t

@@ -1,5 +1,6 @@
 -- The pieces in which the lines of a session's mappings are printed, and what each leaves to be printed.
-use Rattle.std.specs.Prelude.{ℕ, zero, suc, ◌+◌, ◌-◌, ◌*◌, ◌/◌, ◌≤◌, ◌<◌, ◌≡◌, ◌⊎◌, Bool, true, false, cond, ◌&&◌, ◌||◌, List, [], ◌∷◌, ◌++◌, map, leb, ltb, length, get_or, take, drop}
+use Rattle.std.specs.Prelude.{ℕ, zero, suc, ◌+◌, ◌-◌, ◌*◌, ◌/◌, ◌≤◌, ◌<◌, ◌≡◌, ◌⊎◌, Bool, true, false, cond, ◌&&◌}
+use Rattle.std.specs.Prelude.{◌||◌, List, [], ◌∷◌, ◌++◌, map, leb, ltb, length, get_or, take, drop}
 use Rattle.base.specs.Lists.{keep}
 use Rattle.base.specs.Limits.{hit_limit, work_words, text_limit, pattern_limit, word_limit}
 use Rattle.mappings.specs.declared.Score.{Score}

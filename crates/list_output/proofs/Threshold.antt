@@ -52,7 +52,8 @@ last_field_lem : (fs : List (List ℕ)) → is_first_line fs ≡ true → is_las
 unfolding is_first_line
 last_field_lem fs e =
     and_right
-    (eqb (length fs) 6 && is_unsigned (get_or fs 0 []) && is_unsigned (get_or fs 1 []) && is_unsigned (get_or fs 2 []) && is_unsigned (get_or fs 3 []) && is_unsigned
+    (eqb (length fs) 6 && is_unsigned (get_or fs 0 []) && is_unsigned (get_or fs 1 []) && is_unsigned (get_or fs 2 []) && is_unsigned (get_or fs 3 [])
+    && is_unsigned
     (get_or fs 4 []))
     (is_last_field (get_or fs 5 []))
     e
@@ -77,5 +78,6 @@ threshold_fits bytes s text read e = go (is_well_formed (lines bytes)) refl
         let fs : List (List ℕ) = fields (get_or (lines bytes) 0 []) in
         let settings : settings_of fs ≡ s = cc in
         subst (λ (a : Settings). ThresholdFits a.scoring) settings
-        (scoring_fits (decimal_value 0 (get_or fs 3 [])) (decimal_value 0 (get_or fs 4 [])) (get_or fs 5 []) (last_field_lem fs (first_line_lem (lines bytes) t)))
+        (scoring_fits (decimal_value 0 (get_or fs 3 [])) (decimal_value 0 (get_or fs 4 [])) (get_or fs 5 [])
+        (last_field_lem fs (first_line_lem (lines bytes) t)))
     go false t = let same : malformed ≡ given s text read = rw t at e in absurd (let z : ◌≡◌ {A = ℕ} 0 1 = cc in omega arith)

@@ -146,7 +146,8 @@ module _ (work : List ℕ) (budget : ℕ) where
 
     module _ (good : bad_words work ≡ false) where
       -- a place that lies in no column is no session's
-      pub lost_promise : (get_or work hits_at 0 < get_or work columns_at 0) ⊎ (get_or work columns_at 0 < get_or work row_at 0) → StepPromise work budget (Spent 0) work
+      pub lost_promise : (get_or work hits_at 0 < get_or work columns_at 0) ⊎ (get_or work columns_at 0 < get_or work row_at 0)
+          → StepPromise work budget (Spent 0) work
       unfolding too_few_words
       lost_promise out = record {
         few = λ e. clash e (le-ltb (length work) work_words l);

@@ -199,7 +199,8 @@ module _ (terms : Terms) (columns row m highest : ℕ) (work : List ℕ) (line :
       let last : row + n ≤ line.column + 1 = omega (arith, column_is) in
       let g : row + n - row ≡ n = omega arith in
       let e : n ≡ min left (suc (columns - 1) - row) = omega arith in
-      pass_fits line row (row + n) m highest (part_of work) (fits_all line (part_of work) row (row + n) (part_length_lem work long) (omega arith) (omega arith) last)
+      pass_fits line row (row + n) m highest (part_of work)
+      (fits_all line (part_of work) row (row + n) (part_length_lem work long) (omega arith) (omega arith) last)
       ∙ rw (g, l, e)
 
   pub cell_is : row < columns → cell_pass line row m highest (part_of work) ≡ cell_update terms (columns - 1) row m highest work

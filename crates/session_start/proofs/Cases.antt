@@ -124,5 +124,6 @@ pub record JaccardWords : Type 0 where
       ≡ (0 ∷ 0 ∷ []) ∷ (2097149 ∷ 0 ∷ []) ∷ (2097149 ∷ 2097150 ∷ []) ∷ (2097150 ∷ 2097150 ∷ []) ∷ []
 
 pub jaccard_words : JaccardWords
-unfolding mappings_compute greater highest_before with_record fraction_word numerator denominator at_most score_word_of with_cell best_after highest_after heading
+unfolding mappings_compute greater highest_before with_record fraction_word numerator denominator at_most score_word_of with_cell best_after highest_after
+    heading
 jaccard_words = record { fresh = refl; fresh_zero = refl; best = refl }

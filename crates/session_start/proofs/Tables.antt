@@ -244,7 +244,8 @@ module _ (p g : List ℕ) where
         go : (b : Bool) → leb (back p g j) j ≡ b → back p g j ≤ j
         go true e = leb-true (back p g j) j e
         go false e =
-            let q : before g (get_or g j 0) j + occ (get_or g j 0) p < before g (get_or g j 0) (suc j) = back_low j j (leb-false (back p g j) j e) (le_refl j) in
+            let q : before g (get_or g j 0) j + occ (get_or g j 0) p < before g (get_or g j 0) (suc j) =
+            back_low j j (leb-false (back p g j) j e) (le_refl j) in
             absurd (omega (arith, before_own g j h, all j h))
 
     -- hit j is reasonable as the right end of (i, j) exactly for i from its back on
@@ -308,7 +309,8 @@ module _ (p g : List ℕ) where
 
     pub reach_pair : (i j : ℕ) → i < length g → reach p g i ≡ j → j < length g → Pair i j
     reach_pair i j h e l =
-        let low : before g (get_or g i 0) j ≤ before g (get_or g i 0) i + occ (get_or g i 0) p = reach_low i j (omega (arith, reach_after i h)) (omega arith) h in
+        let low : before g (get_or g i 0) j ≤ before g (get_or g i 0) i + occ (get_or g i 0) p =
+        reach_low i j (omega (arith, reach_after i h)) (omega arith) h in
         let high : before g (get_or g i 0) i + occ (get_or g i 0) p < before g (get_or g i 0) (suc j) = rw e at (reach_high i h (omega arith)) in
         let s = grows (get_or g i 0) j l (omega arith) in
         record {

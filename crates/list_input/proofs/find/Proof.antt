@@ -41,9 +41,8 @@ bounds-bytes-i c = omega arith
 
 returns-then-bytes-i : tie.Need-returns-then-bytes-i invariant-loop decreases-loop
 returns-then-bytes-i c =
-    let at_loop = c in
-    let args = at_loop.args in
-    omega (arith, left_at args.b args.bytes.now at_loop.loop-i.i c.loop-i-test.true c.if-bytes-i.true)
+    let args = c.args in
+    omega (arith, left_at args.b args.bytes.now c.loop-i.i c.loop-i-test.true c.if-bytes-i.true)
 
 overflow_add-i : tie.Need-overflow_add-i invariant-loop decreases-loop
 overflow_add-i c = omega arith
@@ -53,9 +52,8 @@ loop-i-smaller c = omega arith
 
 loop-i-preserved : tie.Need-loop-i-preserved invariant-loop decreases-loop
 loop-i-preserved c =
-    let at_loop = c in
-    let args = at_loop.args in
-    omega (arith, left_more args.b args.bytes.now at_loop.loop-i.i c.loop-i-test.true c.if-bytes-i.false)
+    let args = c.args in
+    omega (arith, left_more args.b args.bytes.now c.loop-i.i c.loop-i-test.true c.if-bytes-i.false)
 
 returns : tie.Need-returns invariant-loop decreases-loop
 returns c =

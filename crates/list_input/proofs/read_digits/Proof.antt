@@ -42,17 +42,15 @@ bounds-bytes-i c = omega arith
 
 returns-then-b-lt-ZERO : tie.Need-returns-then-b-lt-ZERO invariant-loop decreases-loop
 returns-then-b-lt-ZERO c =
-    let at_loop = c in
-    let args = at_loop.args in
-    sym (bad args.limit at_loop.loop-i.value args.bytes.now at_loop.loop-i.i c.loop-i-test.true
-    (below_digit _ c.if-b-lt-ZERO.true)) ∙ at_loop.loop-i.invariant.2
+    let args = c.args in
+    sym (bad args.limit c.loop-i.value args.bytes.now c.loop-i.i c.loop-i-test.true
+    (below_digit _ c.if-b-lt-ZERO.true)) ∙ c.loop-i.invariant.2
 
 returns-then-b-gt-NINE : tie.Need-returns-then-b-gt-NINE invariant-loop decreases-loop
 returns-then-b-gt-NINE c =
-    let at_loop = c in
-    let args = at_loop.args in
-    sym (bad args.limit at_loop.loop-i.value args.bytes.now at_loop.loop-i.i c.loop-i-test.true
-    (above_digit _ c.if-b-gt-NINE.true)) ∙ at_loop.loop-i.invariant.2
+    let args = c.args in
+    sym (bad args.limit c.loop-i.value args.bytes.now c.loop-i.i c.loop-i-test.true
+    (above_digit _ c.if-b-gt-NINE.true)) ∙ c.loop-i.invariant.2
 
 overflow_cast-more : tie.Need-overflow_cast-more invariant-loop decreases-loop
 overflow_cast-more c = omega arith
@@ -68,13 +66,12 @@ overflow_add-more c = omega arith
 
 returns-then-limit-more : tie.Need-returns-then-limit-more invariant-loop decreases-loop
 returns-then-limit-more c =
-    let at_loop = c in
-    let args = at_loop.args in
+    let args = c.args in
     sym
-    (next args.limit at_loop.loop-i.value args.bytes.now at_loop.loop-i.i c.loop-i-test.true
+    (next args.limit c.loop-i.value args.bytes.now c.loop-i.i c.loop-i-test.true
     c.if-b-lt-ZERO.false c.if-b-gt-NINE.false
     ∙ digits_over args.limit _ _ c.if-limit-more.true)
-    ∙ at_loop.loop-i.invariant.2
+    ∙ c.loop-i.invariant.2
 
 overflow_cast-value : tie.Need-overflow_cast-value invariant-loop decreases-loop
 overflow_cast-value c = omega arith
@@ -87,20 +84,18 @@ loop-i-smaller c = omega arith
 
 loop-i-preserved : tie.Need-loop-i-preserved invariant-loop decreases-loop
 loop-i-preserved c =
-    let at_loop = c in
-    let args = at_loop.args in (
+    let args = c.args in (
       omega arith,
       c.if-limit-more.false,
-      sym (next args.limit at_loop.loop-i.value args.bytes.now at_loop.loop-i.i c.loop-i-test.true
-          c.if-b-lt-ZERO.false c.if-b-gt-NINE.false) ∙ at_loop.loop-i.invariant.2,
+      sym (next args.limit c.loop-i.value args.bytes.now c.loop-i.i c.loop-i-test.true
+          c.if-b-lt-ZERO.false c.if-b-gt-NINE.false) ∙ c.loop-i.invariant.2,
     )
 
 returns : tie.Need-returns invariant-loop decreases-loop
 returns c =
-    let at_loop = c in
-    let args = at_loop.args in
-    sym (none args.limit at_loop.loop-i.value args.bytes.now at_loop.loop-i.i c.loop-i-test.false at_loop.loop-i.invariant.1)
-    ∙ at_loop.loop-i.invariant.2
+    let args = c.args in
+    sym (none args.limit c.loop-i.value args.bytes.now c.loop-i.i c.loop-i-test.false c.loop-i.invariant.1)
+    ∙ c.loop-i.invariant.2
 
 pub read_digits_spec : {M : Type 1} → statement M
 read_digits_spec =

@@ -217,10 +217,12 @@ returns-then-read_end-end : tie.Need-returns-then-read_end-end
 returns-then-read_end-end c = refused _ (three_lines c.before c.if-read_end-end.true) (few_lines _ (omega arith))
 
 returns-then-text_length-gt-PATTERN_LIMIT : tie.Need-returns-then-text_length-gt-PATTERN_LIMIT
-returns-then-text_length-gt-PATTERN_LIMIT c = refused _ (lines₃ c.before) (long_text _ (omega (arith, length_text c.before, c.if-text_length-gt-PATTERN_LIMIT.true)))
+returns-then-text_length-gt-PATTERN_LIMIT c =
+    refused _ (lines₃ c.before) (long_text _ (omega (arith, length_text c.before, c.if-text_length-gt-PATTERN_LIMIT.true)))
 
 returns-then-read_length-gt-PATTERN_LIMIT : tie.Need-returns-then-read_length-gt-PATTERN_LIMIT
-returns-then-read_length-gt-PATTERN_LIMIT c = refused _ (lines₃ c.before.before) (long_read _ (omega (arith, length_read c.before.before, c.if-read_length-gt-PATTERN_LIMIT.true)))
+returns-then-read_length-gt-PATTERN_LIMIT c =
+    refused _ (lines₃ c.before.before) (long_read _ (omega (arith, length_read c.before.before, c.if-read_length-gt-PATTERN_LIMIT.true)))
 
 slice_bounds-read_first_line-end : tie.Need-slice_bounds-read_first_line-end
 slice_bounds-read_first_line-end c = sym (length-take-le _ _ (inside₁ (found₁ (found₂ c.before.before.before))))

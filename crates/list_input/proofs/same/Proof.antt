@@ -87,9 +87,8 @@ loop-i-preserved c =
 
 returns : tie.Need-returns invariant-loop decreases-loop
 returns c =
-    let at_loop = c in
-    let args = at_loop.args in
-    sym (none_left args.a.now args.b.now at_loop.loop-i.i c.loop-i-test.false at_loop.loop-i.invariant.1) ∙ at_loop.loop-i.invariant.2
+    let args = c.args in
+    sym (none_left args.a.now args.b.now c.loop-i.i c.loop-i-test.false c.loop-i.invariant.1) ∙ c.loop-i.invariant.2
 
 pub same_spec : {M : Type 1} → statement M
 same_spec =

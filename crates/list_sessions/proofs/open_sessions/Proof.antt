@@ -60,9 +60,8 @@ open_both-requires c κs = part_short _ _ _ _ (lines_lie (told (at_lines c))).re
 
 returns-in-Malformed : tie.Need-returns-in-Malformed
 returns-in-Malformed c =
-    let read = c in
-    let args = read.args in
-    opens_malformed args.bytes.now read.read_input.result read.read_input.ensures c.in-Malformed.is args.positions.now
+    let args = c.args in
+    opens_malformed args.bytes.now c.read_input.result c.read_input.ensures c.in-Malformed.is args.positions.now
     args.forward.now args.reverse.now
 
 shape_of-positions : tie.Need-shape_of-positions

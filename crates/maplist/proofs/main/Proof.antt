@@ -149,9 +149,8 @@ returns-then-not-write_all-2 c = search rules
 
 loop-left-smaller : tie.Need-loop-left-smaller invariant-loop decreases-loop
 loop-left-smaller c =
-    let at_fill_lem = c in
-    (next_prints _ _ _ _ _ _ _ _ _ _ at_fill_lem.loop-left.invariant.4.2 at_fill_lem.loop-left-test.true _ at_fill_lem.fill-filled.result _ _ _
-    (omega (arith, at_fill_lem.loop-left.invariant.3)) at_fill_lem.fill-filled.ensures).0
+    (next_prints _ _ _ _ _ _ _ _ _ _ c.loop-left.invariant.4.2 c.loop-left-test.true _ c.fill-filled.result _ _ _
+    (omega (arith, c.loop-left.invariant.3)) c.fill-filled.ensures).0
 
 loop-left-preserved : tie.Need-loop-left-preserved invariant-loop decreases-loop
 loop-left-preserved c =

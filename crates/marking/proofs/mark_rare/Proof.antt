@@ -27,8 +27,7 @@ shape_of-marks c = search rules
 
 returns : tie.Need-returns
 returns c =
-    let marked = c in
-    mark_enough _ _ _ _ _ marked.if-deciding-gt-TEXT_LIMIT.false marked.if-marks-n.false marked.mark_words.ensures
+    mark_enough _ _ _ _ _ c.if-deciding-gt-TEXT_LIMIT.false c.if-marks-n.false c.mark_words.ensures
 
 pub mark_rare_spec : {M : Type 1} → statement M
 mark_rare_spec =

@@ -32,12 +32,11 @@ returns-then-len-gt-TEXT_LIMIT c = simp (le-ltb _ _ c.if-len-m.false, le-ltb _ _
 returns-then-size-gt-PATTERN_LIMIT : tie.Need-returns-then-size-gt-PATTERN_LIMIT
 unfolding per_mille_number is_refused
 returns-then-size-gt-PATTERN_LIMIT c =
-    let first = c in
     simp (
-      le-ltb _ _ first.if-len-m.false,
+      le-ltb _ _ c.if-len-m.false,
       le-ltb _ _ c.if-size-m.false,
       le-ltb _ _ c.if-len-gt-TEXT_LIMIT.false,
-      lt-ltb pattern_limit first.args.size (omega arith),
+      lt-ltb pattern_limit c.args.size (omega arith),
     )
 
 overflow_add-len : tie.Need-overflow_add-len
@@ -66,8 +65,7 @@ module _ (m len size : ℕ) (in_len : m ≤ len) (in_size : m ≤ size) (len-fit
 
 returns-then-len-size-eq0 : tie.Need-returns-then-len-size-eq0
 returns-then-len-size-eq0 c =
-    let third = c in
-    both_zero _ _ _ third.if-len-m.false third.if-size-m.false third.if-len-gt-TEXT_LIMIT.false c.if-size-gt-PATTERN_LIMIT.false c.if-len-size-eq0.true
+    both_zero _ _ _ c.if-len-m.false c.if-size-m.false c.if-len-gt-TEXT_LIMIT.false c.if-size-gt-PATTERN_LIMIT.false c.if-len-size-eq0.true
 
 overflow_mul-m : tie.Need-overflow_mul-m
 overflow_mul-m c = search rules

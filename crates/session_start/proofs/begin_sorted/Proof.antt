@@ -38,12 +38,11 @@ collect-h-requires c κs = search rules
 
 returns-then-h-gt-HIT_LIMIT : tie.Need-returns-then-h-gt-HIT_LIMIT
 returns-then-h-gt-HIT_LIMIT c =
-    let start = c in
     let collect = c.collect-h in (
       λ pattern copy.
-          let task = task_with start.args.text.now pattern start.args.scoring in
+          let task = task_with c.args.text.now pattern c.args.scoring in
           reply_many task collect.result
-          (number_is task start.args.sorted.now collect.new.index collect.new.slots collect.result copy collect.ensures)
+          (number_is task c.args.sorted.now collect.new.index collect.new.slots collect.result copy collect.ensures)
           c.if-h-gt-HIT_LIMIT.true,
       λ pattern copy. refl,
     )

@@ -48,8 +48,7 @@ slice_bounds-put_back-end c = sym (part_long c.before)
 
 put_back-requires : tie.Need-put_back-requires
 put_back-requires c κs =
-    let start = c in
-    (start.requires.0, (start.requires.1.0, omega (arith, start.requires.1), part_long c.before))
+    (c.requires.0, (c.requires.1.0, omega (arith, c.requires.1), part_long c.before))
 
 slice_bounds-backs-end-2 : tie.Need-slice_bounds-backs-end-2
 slice_bounds-backs-end-2 c =

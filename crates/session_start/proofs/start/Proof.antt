@@ -21,9 +21,8 @@ shape_of-work c = search rules
 returns : tie.Need-returns
 returns c =
     let scored = c.start_scored in
-    let start = c in
-    let args = start.args in
-    let same = to_z-of_z w32 args.threshold start.ranges.threshold in (
+    let args = c.args in
+    let same = to_z-of_z w32 args.threshold c.ranges.threshold in (
       subst (λ (z : ℤ). started_reply scored.result
           ≡ start_reply (task_with args.text.now args.pattern.now (Linear args.u args.v z)) (length args.work.now)) same scored.ensures.0,
       subst (λ (z : ℤ). scored.new.work

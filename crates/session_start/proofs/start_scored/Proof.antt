@@ -63,7 +63,8 @@ returns-then-pattern-gt-PATTERN_LIMIT : tie.Need-returns-then-pattern-gt-PATTERN
 returns-then-pattern-gt-PATTERN_LIMIT c =
     let judged = (else1 c.before).before in
     let e =
-    long_pattern (task judged) (length (work judged)) (good (else1 c.before)) c.if-text-gt-TEXT_LIMIT.false c.if-pattern-lt1.false c.if-pattern-gt-PATTERN_LIMIT.true in
+    long_pattern (task judged) (length (work judged)) (good (else1 c.before)) c.if-text-gt-TEXT_LIMIT.false c.if-pattern-lt1.false
+    c.if-pattern-gt-PATTERN_LIMIT.true in
     (e, words_of (task judged) (work judged) (refused 9 []) e)
 
 returns-then-work-lt-WORK_WORDS : tie.Need-returns-then-work-lt-WORK_WORDS
@@ -71,7 +72,8 @@ returns-then-work-lt-WORK_WORDS c =
     let third = c.before.before in
     let judged = (else1 third).before in
     let e =
-    few_words (task judged) (length (work judged)) (good (else1 third)) third.if-text-gt-TEXT_LIMIT.false third.if-pattern-lt1.false c.if-pattern-gt-PATTERN_LIMIT.false
+    few_words (task judged) (length (work judged)) (good (else1 third)) third.if-text-gt-TEXT_LIMIT.false third.if-pattern-lt1.false
+    c.if-pattern-gt-PATTERN_LIMIT.false
     c.if-work-lt-WORK_WORDS.true in
     (e, words_of (task judged) (work judged) (refused 10 []) e)
 
@@ -92,7 +94,8 @@ returns c =
     let reply = started_reply begun.begin.result in
     let e =
     ◌∙◌ {b = hit_reply (task judged)} begun.begin.ensures.0
-    (hits_left (task judged) (length (work judged)) (good (else1 third)) third.if-text-gt-TEXT_LIMIT.false third.if-pattern-lt1.false fifth.if-pattern-gt-PATTERN_LIMIT.false
+    (hits_left (task judged) (length (work judged)) (good (else1 third)) third.if-text-gt-TEXT_LIMIT.false third.if-pattern-lt1.false
+    fifth.if-pattern-gt-PATTERN_LIMIT.false
     fifth.if-work-lt-WORK_WORDS.false) in
     (e, ◌∙◌ {b = after_start reply (task judged) (work judged)} begun.begin.ensures.1 (words_of (task judged) (work judged) reply e))
 

@@ -13,7 +13,8 @@ use Rattle.base.proofs.Lists.{or_left, or_right}
 use Rattle.base.specs.Limits.{k_limit}
 use Rattle.kmers.specs.Kmers.{codes as codes_of, positions as positions_of}
 use Rattle.store.specs.Words.{header_k, is_header}
-use Rattle.store.specs.Load.{Judged, good, bad, judge_from, judge, store_k, store_w, load_room, judged_reply, load_reply, entries_of, load_codes, load_positions}
+use Rattle.store.specs.Load.{Judged, good, bad, judge_from, judge, store_k, store_w, load_room}
+use Rattle.store.specs.Load.{judged_reply, load_reply, entries_of, load_codes, load_positions}
 use Rattle.store_load.specs.Verdicts.{counted, verdict_reply}
 use Rattle.store.proofs.WordLaws.{is_header_holds}
 use Rattle.store.proofs.Judging.{judge_empty, judge_no_header, judge_header, store_k_header, store_w_header}

@@ -16,21 +16,19 @@ shape_of-marks-then-room-kept : tie.Need-shape_of-marks-then-room-kept
 shape_of-marks-then-room-kept c = search rules
 
 returns-then-room-kept : tie.Need-returns-then-room-kept
-returns-then-room-kept c =
-    let called = c in (
-      lacks_some _ _ _ _ _ called.count_kept-kept.ensures.0 c.if-room-kept.true,
-      called.count_kept-kept.ensures.1 ∙ counted_some _ _ _ _ _ called.if-codes-room.false,
-    )
+returns-then-room-kept c = (
+  lacks_some _ _ _ _ _ c.count_kept-kept.ensures.0 c.if-room-kept.true,
+  c.count_kept-kept.ensures.1 ∙ counted_some _ _ _ _ _ c.if-codes-room.false,
+)
 
 shape_of-marks-else-room-kept : tie.Need-shape_of-marks-else-room-kept
 shape_of-marks-else-room-kept c = search rules
 
 returns-else-room-kept : tie.Need-returns-else-room-kept
-returns-else-room-kept c =
-    let called = c in (
-      lacks_none _ _ _ _ (rw (← called.count_kept-kept.ensures.0) c.if-room-kept.false),
-      called.count_kept-kept.ensures.1 ∙ counted_some _ _ _ _ _ called.if-codes-room.false,
-    )
+returns-else-room-kept c = (
+  lacks_none _ _ _ _ (rw (← c.count_kept-kept.ensures.0) c.if-room-kept.false),
+  c.count_kept-kept.ensures.1 ∙ counted_some _ _ _ _ _ c.if-codes-room.false,
+)
 
 pub lacking_spec : {M : Type 1} → statement M
 lacking_spec =

@@ -31,10 +31,9 @@ shape_of-out c = search rules
 
 returns : tie.Need-returns
 returns c =
-    let at_digits = c in
-    let digits = at_digits.write_digits-from.new.digits in
+    let digits = c.write_digits-from.new.digits in
     let long : length digits ≤ 10 = omega arith in
-    same_bytes (part_to_end digits 10 at_digits.write_digits-from.result long ∙ at_digits.write_digits-from.ensures.1) c.put_bytes.ensures
+    same_bytes (part_to_end digits 10 c.write_digits-from.result long ∙ c.write_digits-from.ensures.1) c.put_bytes.ensures
 
 pub put_decimal_spec : {M : Type 1} → statement M
 put_decimal_spec =

@@ -59,16 +59,15 @@ sized : (d : List ℕ) (from b : ℕ) → length d ≡ 10 → 11 ≤ length (set
 sized d from b long = let longer : length (d ++ []) ≡ 10 = ap length (append-nil d) ∙ long in simp length-set (omega arith)
 
 pub overflow_cast-z : goal.overflow_cast-z
-overflow_cast-z c = let at_start = c in cast_fits at_start.args.z at_start.ranges.z c.if-z-ge0.true
+overflow_cast-z c = cast_fits c.args.z c.ranges.z c.if-z-ge0.true
 
 pub returns-then-z-ge0 : goal.returns-then-z-ge0
 returns-then-z-ge0 c =
-    let at_start = c in
-    same_bytes (digits_are at_start.args.z at_start.ranges.z c.if-z-ge0.true)
+    same_bytes (digits_are c.args.z c.ranges.z c.if-z-ge0.true)
     c.put_decimal.ensures
 
 pub slice_bounds-put_bytes-end : goal.slice_bounds-put_bytes-end
-slice_bounds-put_bytes-end c = let at_digits = c in sized at_digits.write_digits-from.new.digits at_digits.write_digits-from.result _ at_digits.write_digits-from.auto.digits
+slice_bounds-put_bytes-end c = sized c.write_digits-from.new.digits c.write_digits-from.result _ c.write_digits-from.auto.digits
 
 pub returns : goal.returns
 returns c =

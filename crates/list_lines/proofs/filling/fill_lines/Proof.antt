@@ -115,7 +115,8 @@ returns-then-next-at c =
     let not_held =
     unheld _ _ _ _ _ _ _ _ _ _ _ at_turn.loop-out.invariant.0 at_turn.loop-out.invariant.2 (roomy (stepped at)) at_turn.loop-out.invariant.3 _ _ _ _ _ _
     at.put_mapping-next.ensures c.if-next-at.true in
-    fills_stopped _ _ _ _ _ _ _ _ _ _ _ at_turn.loop-out.invariant.0 at_turn.loop-out.invariant.2 (roomy (stepped at)) at_turn.loop-out.invariant.3 at_turn.loop-out.invariant.1
+    fills_stopped _ _ _ _ _ _ _ _ _ _ _ at_turn.loop-out.invariant.0 at_turn.loop-out.invariant.2 (roomy (stepped at)) at_turn.loop-out.invariant.3
+    at_turn.loop-out.invariant.1
     c.stopped-then-next-at.result _ _ _ _ _ _ (promise (stepped at) at.in-Found.is)
     (not_printed _ _ _ _ _ at.if-count-ge-FOUND_LIMIT.false not_held) _ (at.put_mapping-next.ensures.none not_held).1
     c.stopped-then-next-at.ensures.0 c.stopped-then-next-at.ensures.1 c.stopped-then-next-at.ensures.2
@@ -133,7 +134,8 @@ loop-out-preserved c =
       omega (arith, at.put_mapping-next.ensures.inside at_turn.loop-out.invariant.0, at.put_mapping-next.auto.out),
       omega (arith, at.step.auto.work, at_turn.loop-out.invariant.1),
       omega (arith, at.put_mapping-next.auto.out, at_turn.loop-out.invariant.2),
-      going_found _ _ _ _ _ _ _ _ _ _ _ at_turn.loop-out.invariant.0 at_turn.loop-out.invariant.2 (roomy (stepped at)) at_turn.loop-out.invariant.3 _ _ _ _ _ _ _ _
+      going_found _ _ _ _ _ _ _ _ _ _ _ at_turn.loop-out.invariant.0 at_turn.loop-out.invariant.2 (roomy (stepped at)) at_turn.loop-out.invariant.3
+          _ _ _ _ _ _ _ _
           (promise (stepped at) at.in-Found.is)
           at.put_mapping-next.ensures
           at.if-count-ge-FOUND_LIMIT.false c.if-next-at.false,
@@ -167,7 +169,8 @@ returns-in_default : tie.Need-returns-in_default invariant-loop decreases-loop
 returns-in_default c =
     let at = c.before.before in
     let at_turn = at_loop at in
-    fills_other _ _ _ _ _ _ _ _ _ _ _ at_turn.loop-out.invariant.0 at_turn.loop-out.invariant.2 (roomy at) at_turn.loop-out.invariant.3 at_turn.loop-out.invariant.1
+    fills_other _ _ _ _ _ _ _ _ _ _ _ at_turn.loop-out.invariant.0 at_turn.loop-out.invariant.2 (roomy at) at_turn.loop-out.invariant.3
+    at_turn.loop-out.invariant.1
     c.stopped-in_default.result _ (others at.step.result c.in_default.in_default-own.keys3) _ at.step.ensures c.stopped-in_default.ensures.0
     c.stopped-in_default.ensures.1 c.stopped-in_default.ensures.2
 
@@ -182,9 +185,8 @@ shape_of-out c = search rules
 
 returns : tie.Need-returns invariant-loop decreases-loop
 returns c =
-    let at_turn = c in
-    fills_full _ _ _ _ _ _ _ _ _ _ _ at_turn.loop-out.invariant.3 c.loop-out-test.false at_turn.loop-out.invariant.2 _ refl refl c.cells_left.ensures
-    at_turn.loop-out.invariant.1 at_turn.loop-out.invariant.0
+    fills_full _ _ _ _ _ _ _ _ _ _ _ c.loop-out.invariant.3 c.loop-out-test.false c.loop-out.invariant.2 _ refl refl c.cells_left.ensures
+    c.loop-out.invariant.1 c.loop-out.invariant.0
 
 pub fill_lines_spec : {M : Type 1} → statement M
 fill_lines_spec =

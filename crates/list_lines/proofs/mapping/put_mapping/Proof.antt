@@ -115,7 +115,8 @@ returns-then-thousandths-lt0 c =
       onward = le_refl _;
       past = λ h. refl;
       held =
-          λ h l s i. absurd (not_below p.per_mille-thousandths.result (sfits_of p.per_mille-thousandths.type_inv) _ (per_mille_known p h l s) c.if-thousandths-lt0.true);
+          λ h l s i. absurd
+          (not_below p.per_mille-thousandths.result (sfits_of p.per_mille-thousandths.type_inv) _ (per_mille_known p h l s) c.if-thousandths-lt0.true);
       none = λ e. (refl, refl);
     }
 
@@ -140,9 +141,8 @@ overflow_cast-end c = let d = some c.before in omega (arith, (bounds d.before d.
 
 overflow_cast-thousandths : tie.Need-overflow_cast-thousandths
 overflow_cast-thousandths c =
-    let d = c in
-    let p = d.per_mille-thousandths in
-    cast_fits p.result (sfits_of p.type_inv) d.if-thousandths-lt0.false
+    let p = c.per_mille-thousandths in
+    cast_fits p.result (sfits_of p.type_inv) c.if-thousandths-lt0.false
 
 line-part-requires : tie.Need-line-part-requires
 line-part-requires c κs = search rules

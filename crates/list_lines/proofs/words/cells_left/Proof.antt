@@ -87,17 +87,15 @@ wide-passed-requires c κs = search rules
 
 returns-then-cells-passed : tie.Need-returns-then-cells-passed
 returns-then-cells-passed c =
-    let at_wide = c in
-    let work = at_wide.args.work.now in
+    let work = c.args.work.now in
     let few = few_hits c.before.before.before in
     let cells = cells_are c.before.before.before in
     let passed : c.wide-passed.result ≡ get_or work passed_at 0 = c.wide-passed.ensures.0 in
-    over work at_wide.if-work-lt-WORK_WORDS.false few (omega (arith, c.if-cells-passed.true))
+    over work c.if-work-lt-WORK_WORDS.false few (omega (arith, c.if-cells-passed.true))
 
 overflow_add-result : tie.Need-overflow_add-result
 overflow_add-result c =
-    let at_wide = c in
-    let work = at_wide.args.work.now in
+    let work = c.args.work.now in
     let few = few_hits c.before.before.before in
     let cells = cells_are c.before.before.before in
     let passed : c.wide-passed.result ≡ get_or work passed_at 0 = c.wide-passed.ensures.0 in
@@ -105,8 +103,7 @@ overflow_add-result c =
 
 overflow_cast-result : tie.Need-overflow_cast-result
 overflow_cast-result c =
-    let at_wide = c in
-    let work = at_wide.args.work.now in
+    let work = c.args.work.now in
     let few = few_hits c.before.before.before in
     let cells = cells_are c.before.before.before in
     let passed : c.wide-passed.result ≡ get_or work passed_at 0 = c.wide-passed.ensures.0 in
@@ -114,14 +111,13 @@ overflow_cast-result c =
 
 returns : tie.Need-returns
 returns c =
-    let at_wide = c in
-    let work = at_wide.args.work.now in
+    let work = c.args.work.now in
     let few = few_hits c.before.before.before in
     let cells = cells_are c.before.before.before in
     let passed : c.wide-passed.result ≡ get_or work passed_at 0 = c.wide-passed.ensures.0 in
-    (let n : at_wide.wide-h.result * (at_wide.wide-h.result + 1) / 2 - c.wide-passed.result + 1
+    (let n : c.wide-h.result * (c.wide-h.result + 1) / 2 - c.wide-passed.result + 1
     ≡ suc (cell_count (get_or work hits_at 0) - get_or work passed_at 0) = omega arith in n)
-    ∙ some work at_wide.if-work-lt-WORK_WORDS.false few (omega (arith, c.if-cells-passed.false))
+    ∙ some work c.if-work-lt-WORK_WORDS.false few (omega (arith, c.if-cells-passed.false))
 
 pub cells_left_spec : {M : Type 1} → statement M
 cells_left_spec =

@@ -9,6 +9,5 @@ returns-then-part-eq0 c = let args = c.args in (refl, refl, c.if-part-eq0.true â
 
 pub returns : goal.returns
 returns c =
-    let test = c in
-    let args = test.args in
-    (refl, refl, sym (with_other args.part.left args.other test.if-part-eq0.false))
+    let args = c.args in
+    (refl, refl, sym (with_other args.part.left args.other c.if-part-eq0.false))

@@ -44,8 +44,7 @@ shape_of-reverse-then-ahead-eq0 c = search rules
 
 returns-then-ahead-eq0 : tie.Need-returns-then-ahead-eq0
 returns-then-ahead-eq0 c =
-    let read = c in
-    fills_nothing _ _ _ _ _ _ _ _ _ _ read.cells_left-ahead.ensures read.cells_left-behind.ensures _ (inl c.if-ahead-eq0.true) c.nothing.ensures
+    fills_nothing _ _ _ _ _ _ _ _ _ _ c.cells_left-ahead.ensures c.cells_left-behind.ensures _ (inl c.if-ahead-eq0.true) c.nothing.ensures
 
 nothing-requires-then-behind-eq0 : tie.Need-nothing-requires-then-behind-eq0
 nothing-requires-then-behind-eq0 c κs = search rules
@@ -58,8 +57,7 @@ shape_of-reverse-then-behind-eq0 c = search rules
 
 returns-then-behind-eq0 : tie.Need-returns-then-behind-eq0
 returns-then-behind-eq0 c =
-    let read = c in
-    fills_nothing _ _ _ _ _ _ _ _ _ _ read.cells_left-ahead.ensures read.cells_left-behind.ensures _ (inr c.if-behind-eq0.true) c.nothing-then-behind-eq0.ensures
+    fills_nothing _ _ _ _ _ _ _ _ _ _ c.cells_left-ahead.ensures c.cells_left-behind.ensures _ (inr c.if-behind-eq0.true) c.nothing-then-behind-eq0.ensures
 
 fill_lines-part-requires : tie.Need-fill_lines-part-requires
 fill_lines-part-requires c κs = search rules
@@ -113,7 +111,8 @@ returns-then-behind-gt1 c =
     let some = test.before.before in
     let read = some in
     fills_reverse _ _ _ _ _ _ _ _ _ _ read.cells_left-ahead.ensures read.cells_left-behind.ensures _ some.if-ahead-eq0.false
-    some.if-behind-eq0.false _ (c.beside-then-behind-gt1.ensures.0, c.beside-then-behind-gt1.ensures.1) _ _ test.if-ahead-gt1.false test.if-behind-gt1.true call.fill_lines-part-then-behind-gt1.ensures
+    some.if-behind-eq0.false _ (c.beside-then-behind-gt1.ensures.0, c.beside-then-behind-gt1.ensures.1) _ _ test.if-ahead-gt1.false test.if-behind-gt1.true
+    call.fill_lines-part-then-behind-gt1.ensures
     c.beside-then-behind-gt1.ensures.2
 
 cells_passed-requires : tie.Need-cells_passed-requires

@@ -14,11 +14,10 @@ shape_of-out-then-written-eq0 c = search rules
 
 returns-then-written-eq0 : tie.Need-returns-then-written-eq0
 returns-then-written-eq0 c =
-    let wrote = c in
     record {
-      line = wrote.put_last-written.ensures;
+      line = c.put_last-written.ensures;
       same_found = refl;
-      left_is = sym (ap (λ (b : Bool). cond b 2 0) (eq-eqb wrote.put_last-written.result 0 c.if-written-eq0.true));
+      left_is = sym (ap (λ (b : Bool). cond b 2 0) (eq-eqb c.put_last-written.result 0 c.if-written-eq0.true));
     }
 
 shape_of-out-else-written-eq0 : tie.Need-shape_of-out-else-written-eq0
@@ -26,11 +25,10 @@ shape_of-out-else-written-eq0 c = search rules
 
 returns-else-written-eq0 : tie.Need-returns-else-written-eq0
 returns-else-written-eq0 c =
-    let wrote = c in
     record {
-      line = wrote.put_last-written.ensures;
+      line = c.put_last-written.ensures;
       same_found = refl;
-      left_is = sym (ap (λ (b : Bool). cond b 2 0) (ne_eqb wrote.put_last-written.result 0 c.if-written-eq0.false));
+      left_is = sym (ap (λ (b : Bool). cond b 2 0) (ne_eqb c.put_last-written.result 0 c.if-written-eq0.false));
     }
 
 pub fill_last_spec : {M : Type 1} → statement M

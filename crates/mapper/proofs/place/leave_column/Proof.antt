@@ -44,11 +44,10 @@ shape_of-work c = search rules
 returns : tie.Need-returns
 unfolding left_words with_middle middle
 returns c =
-    let left = c in
-    let args = left.args in
+    let args = c.args in
     let work = args.work.now in
     ap (with_middle starts_from starts_length work)
-    (left.leave.ensures ∙ ap (λ (n : ℕ). left_starts n (args.columns - 1) 0 (middle starts_from starts_length work)) left.wide-back.ensures.0)
+    (c.leave.ensures ∙ ap (λ (n : ℕ). left_starts n (args.columns - 1) 0 (middle starts_from starts_length work)) c.wide-back.ensures.0)
 
 pub leave_column_spec : {M : Type 1} → statement M
 leave_column_spec =

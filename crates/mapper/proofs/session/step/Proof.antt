@@ -40,8 +40,7 @@ shape_of-work-then-bad_words c = search rules
 
 returns-then-bad_words : tie.Need-returns-then-bad_words
 returns-then-bad_words c =
-    let d = c in
-    bad_promise d.args.work.now d.args.budget d.if-work-lt-WORK_WORDS.false (sym d.bad_words.ensures ∙ c.if-bad_words.true)
+    bad_promise c.args.work.now c.args.budget c.if-work-lt-WORK_WORDS.false (sym c.bad_words.ensures ∙ c.if-bad_words.true)
 
 bounds-work-7 : tie.Need-bounds-work-7
 bounds-work-7 c = search rules

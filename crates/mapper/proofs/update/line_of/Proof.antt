@@ -84,12 +84,11 @@ wide-requires c κs = search rules
 returns : tie.Need-returns
 unfolding line_of
 returns c =
-    let w = c in
-    let args = w.args in
-    let rates = w.rates_of-rates.ensures in
-    let lost : w.wider.result * (w.wider-2.result + 1 + w.wider-3.result)
+    let args = c.args in
+    let rates = c.rates_of-rates.ensures in
+    let lost : c.wider.result * (c.wider-2.result + 1 + c.wider-3.result)
     ≡ loss_of args.terms.scoring * (get_or args.work.now (index_from + args.j) 0 + 1 + args.terms.size) =
-    λ i. (w.wider.ensures.0 ∙ rates.1) i * (w.wider-2.ensures.0 i + 1 + w.wider-3.ensures.0 i)
+    λ i. (c.wider.ensures.0 ∙ rates.1) i * (c.wider-2.ensures.0 i + 1 + c.wider-3.ensures.0 i)
     in
     λ i. record {
       column = args.j;

@@ -29,8 +29,7 @@ bounds-work-5 c = search rules
 returns : tie.Need-returns
 unfolding terms_in
 returns c =
-    let read = c in
-    ap (λ (scoring : Scoring). record { scoring = scoring; size = get_or read.args.work.now size_at 0 }) read.scoring_of-scoring.ensures
+    ap (λ (scoring : Scoring). record { scoring = scoring; size = get_or c.args.work.now size_at 0 }) c.scoring_of-scoring.ensures
 
 pub terms_of_spec : {M : Type 1} → statement M
 terms_of_spec =

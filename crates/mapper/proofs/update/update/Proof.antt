@@ -40,16 +40,15 @@ shape_of-work c = search rules
 returns : tie.Need-returns
 unfolding with_middle middle
 returns c =
-    let passed = c in
-    let args = passed.args in
-    let pre = passed.requires.0 in
-    let line = passed.line_of-line in
-    let cells = passed.smaller in
+    let args = c.args in
+    let pre = c.requires.0 in
+    let line = c.line_of-line in
+    let cells = c.smaller in
     let work = args.work.now in
     let place = args.place in
     let e = update_is args.terms place.columns place.row place.m place.highest work line.result pre.2 pre.0 line.ensures
     args.left cells.result pre.1 pre.3 cells.ensures in
-    (passed.pass.ensures.0 ∙ ap (λ (u : Update). u.answer) e, ap (with_part work) (passed.pass.ensures.1 ∙ ap (λ (u : Update). u.part) e))
+    (c.pass.ensures.0 ∙ ap (λ (u : Update). u.answer) e, ap (with_part work) (c.pass.ensures.1 ∙ ap (λ (u : Update). u.part) e))
 
 pub update_spec : {M : Type 1} → statement M
 update_spec =

@@ -31,15 +31,14 @@ shape_of-work c = search rules
 returns : tie.Need-returns
 unfolding with_middle middle
 returns c =
-    let passed = c in
-    let args = passed.args in
-    let pre = passed.requires.0 in
-    let line = passed.line_of-line in
+    let args = c.args in
+    let pre = c.requires.0 in
+    let line = c.line_of-line in
     let work = args.work.now in
     let place = args.place in
     let e = cell_is args.terms place.columns place.row place.m place.highest work line.result pre.1 pre.0 line.ensures
     pre.2 in
-    (passed.pass_one.ensures.0 ∙ ap (λ (u : Update). u.answer) e, ap (with_part work) (passed.pass_one.ensures.1 ∙ ap (λ (u : Update). u.part) e))
+    (c.pass_one.ensures.0 ∙ ap (λ (u : Update). u.answer) e, ap (with_part work) (c.pass_one.ensures.1 ∙ ap (λ (u : Update). u.part) e))
 
 pub update_one_spec : {M : Type 1} → statement M
 update_one_spec =

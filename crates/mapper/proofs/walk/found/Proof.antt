@@ -52,13 +52,12 @@ returns : tie.Need-returns
 unfolding found_walk
 returns c =
     let m = c.raised.ensures in
-    let s = c in
-    let work = s.args.work.now in
-    let args = s.args in
+    let work = c.args.work.now in
+    let args = c.args in
     let left = get_or work (index_from + args.p.row - 1) 0 in
     let right = get_or work (index_from + args.columns - 1) 0 in (
       c.decided.ensures ∙ ap (λ (n : ℕ). decided args.terms left right n args.cells) m,
-      s.save.ensures,
+      c.save.ensures,
     )
 
 pub found_spec : {M : Type 1} → statement M

@@ -33,8 +33,7 @@ bounds-words-i-in-loop-i c = search rules
 
 returns-then-words-i : tie.Need-returns-then-words-i invariant-loop decreases-loop
 returns-then-words-i c =
-    let in_loop = c in
-    (λ e. absurd (false≢true e), λ e. not_sorted _ _ in_loop.loop-i.invariant in_loop.loop-i-test.true c.if-words-i.true)
+    (λ e. absurd (false≢true e), λ e. not_sorted _ _ c.loop-i.invariant c.loop-i-test.true c.if-words-i.true)
 
 overflow_add-i : tie.Need-overflow_add-i invariant-loop decreases-loop
 overflow_add-i c = search rules
@@ -44,8 +43,7 @@ loop-i-smaller c = search rules
 
 loop-i-preserved : tie.Need-loop-i-preserved invariant-loop decreases-loop
 loop-i-preserved c =
-    let in_loop = c in
-    rising_more _ _ in_loop.loop-i.invariant in_loop.loop-i-test.true c.if-words-i.false
+    rising_more _ _ c.loop-i.invariant c.loop-i-test.true c.if-words-i.false
 
 returns : tie.Need-returns invariant-loop decreases-loop
 returns c = (λ e. rising_sorted _ _ c.loop-i.invariant c.loop-i-test.false, λ e. absurd (true≢false e))

@@ -22,8 +22,7 @@ words c = take c.args.n c.args.list.now
 
 in_order : (c : tie.After-sort_through) → c.sort_through.new.sorted ≡ sorted_words (words c)
 in_order c =
-    let start = c in
-    c.sort_through.ensures.1.1 ∙ through_exact (words c) _ (start.requires.0 ∙ sym (length-take-le _ _ start.requires.1))
+    c.sort_through.ensures.1.1 ∙ through_exact (words c) _ (c.requires.0 ∙ sym (length-take-le _ _ c.requires.1))
 
 slice_bounds-sort_through-end : tie.Need-slice_bounds-sort_through-end
 slice_bounds-sort_through-end c = search rules

@@ -12,8 +12,7 @@ in_order-requires c κs = search rules
 
 list_runs-requires : tie.Need-list_runs-requires
 list_runs-requires c κs =
-    let tested = c in
-    (tested.in_order.ensures.0 tested.if-in_order.true, search rules)
+    (c.in_order.ensures.0 c.if-in_order.true, search rules)
 
 shape_of-list-then-in_order : tie.Need-shape_of-list-then-in_order
 shape_of-list-then-in_order c = search rules

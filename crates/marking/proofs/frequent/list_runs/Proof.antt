@@ -51,10 +51,9 @@ loop-i-smaller c = search rules
 loop-i-preserved : tie.Need-loop-i-preserved invariant-loop decreases-loop
 loop-i-preserved c =
     let at = c.loop-i in
-    let start = c in
     let inside = c.loop-i-test.true in
-    let put = listed_put start.args.sorted.now start.requires.0 start.args.limit at.i at.n at.list at.invariant.1 inside in
-    let pass = listed_pass start.args.sorted.now start.requires.0 start.args.limit at.i at.n at.list at.invariant.1 inside in
+    let put = listed_put c.args.sorted.now c.requires.0 c.args.limit at.i at.n at.list at.invariant.1 inside in
+    let pass = listed_pass c.args.sorted.now c.requires.0 c.args.limit at.i at.n at.list at.invariant.1 inside in
     elim c.if-sorted-i.branch [
       | then-sorted-i w ↦ rw (w.list-is, w.n-is)
           (w.put_new-n.auto.list ∙ at.invariant.0, put w.if-sorted-i.true _ _ w.put_new-n.ensures.0 w.put_new-n.ensures.1)

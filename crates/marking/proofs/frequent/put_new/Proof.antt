@@ -18,9 +18,8 @@ bounds-list-n c = search rules
 
 returns-then-list-n : tie.Need-returns-then-list-n
 returns-then-list-n c =
-    let tested = c in
-    let args = tested.args in
-    (omega arith, ends_already args.word args.n args.list.now tested.requires tested.if-n-gt0.true c.if-list-n.true)
+    let args = c.args in
+    (omega arith, ends_already args.word args.n args.list.now c.requires c.if-n-gt0.true c.if-list-n.true)
 
 offset_bounds-list-n-2 : tie.Need-offset_bounds-list-n-2
 offset_bounds-list-n-2 c = search rules
@@ -36,8 +35,11 @@ shape_of-list c = search rules
 
 returns : tie.Need-returns
 returns c =
-    let args = c.args in
-    (omega arith, ends_now args.word args.n args.list.now c.requires (elim c.if-n-gt0.branch [ then-n-gt0+else-list-n w ↦ inr w.if-list-n.false | else-n-gt0 w ↦ inl w.if-n-gt0.false ]))
+    let args = c.args in (
+      omega arith,
+      ends_now args.word args.n args.list.now c.requires
+          (elim c.if-n-gt0.branch [ then-n-gt0+else-list-n w ↦ inr w.if-list-n.false | else-n-gt0 w ↦ inl w.if-n-gt0.false ]),
+    )
 
 pub put_new_spec : {M : Type 1} → statement M
 put_new_spec =

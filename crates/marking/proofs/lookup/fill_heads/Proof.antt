@@ -50,8 +50,7 @@ loop-i-preserved c =
 
 shape_of-heads : tie.Need-shape_of-heads invariant-loop decreases-loop
 shape_of-heads c =
-    let start = c in
-    c.loop-i.invariant.long ∙ sym (noting_none start.args.list.now _ start.requires.0).long
+    c.loop-i.invariant.long ∙ sym (noting_none c.args.list.now _ c.requires.0).long
 
 returns : tie.Need-returns invariant-loop decreases-loop
 returns c = noting_all _ _ _ c.loop-i.invariant c.loop-i-test.false

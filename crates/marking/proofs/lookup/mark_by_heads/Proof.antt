@@ -27,13 +27,11 @@ bounds-words-i c = search rules
 
 mark-requires : tie.Need-mark-requires invariant-loop decreases-loop
 mark-requires c κs =
-    let start = c in
-    (start.requires.0, start.requires.1)
+    (c.requires.0, c.requires.1)
 
 bounds-marks-i : tie.Need-bounds-marks-i invariant-loop decreases-loop
 bounds-marks-i c =
-    let at = c in
-    omega (arith, at.loop-i.invariant.1, at.requires.2, c.loop-i-test.true)
+    omega (arith, c.loop-i.invariant.1, c.requires.2, c.loop-i-test.true)
 
 overflow_add-i : tie.Need-overflow_add-i invariant-loop decreases-loop
 overflow_add-i c = search rules
@@ -43,12 +41,11 @@ loop-i-smaller c = search rules
 
 loop-i-preserved : tie.Need-loop-i-preserved invariant-loop decreases-loop
 loop-i-preserved c =
-    let at = c in
-    let args = at.args in (
+    let args = c.args in (
       omega arith,
-      simp length-set at.loop-i.invariant.1,
-      marks_more args.list.now args.words.now args.marks.now at.loop-i.marks at.loop-i.i c.mark.result at.requires.2
-          c.loop-i-test.true c.mark.ensures at.loop-i.invariant.2,
+      simp length-set c.loop-i.invariant.1,
+      marks_more args.list.now args.words.now args.marks.now c.loop-i.marks c.loop-i.i c.mark.result c.requires.2
+          c.loop-i-test.true c.mark.ensures c.loop-i.invariant.2,
     )
 
 shape_of-marks : tie.Need-shape_of-marks invariant-loop decreases-loop
@@ -56,8 +53,7 @@ shape_of-marks c = c.loop-i.invariant.1
 
 returns : tie.Need-returns invariant-loop decreases-loop
 returns c =
-    let start = c in
-    marks_all start.args.list.now start.args.words.now _ _ _ start.requires.2 c.loop-i-test.false c.loop-i.invariant.2
+    marks_all c.args.list.now c.args.words.now _ _ _ c.requires.2 c.loop-i-test.false c.loop-i.invariant.2
 
 pub mark_by_heads_spec : {M : Type 1} → statement M
 mark_by_heads_spec =

@@ -9,8 +9,7 @@ lower_bound-at-requires c κs = search rules
 
 returns-then-list-at : tie.Need-returns-then-list-at
 returns-then-list-at c =
-    let end = c in
-    mark_beyond _ end.requires _ _ end.lower_bound-at.ensures c.if-list-at.true
+    mark_beyond _ c.requires _ _ c.lower_bound-at.ensures c.if-list-at.true
 
 offset_bounds-list-at : tie.Need-offset_bounds-list-at
 offset_bounds-list-at c = search rules
@@ -20,13 +19,11 @@ bounds-list-at c = search rules
 
 returns-then-list-at-2 : tie.Need-returns-then-list-at-2
 returns-then-list-at-2 c =
-    let end = c in
-    mark_at end.args.list.now _ _ c.if-list-at.false c.if-list-at-2.true
+    mark_at c.args.list.now _ _ c.if-list-at.false c.if-list-at-2.true
 
 returns-else-list-at-2 : tie.Need-returns-else-list-at-2
 returns-else-list-at-2 c =
-    let end = c in
-    mark_other _ end.requires _ _ end.lower_bound-at.ensures c.if-list-at-2.false
+    mark_other _ c.requires _ _ c.lower_bound-at.ensures c.if-list-at-2.false
 
 pub mark_by_search_spec : {M : Type 1} → statement M
 mark_by_search_spec =

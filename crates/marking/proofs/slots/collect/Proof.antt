@@ -23,8 +23,8 @@ slotted c = c.before.before.before
 
 -- the step is that of the word's slot
 step : (c : tie.After-crowded-at invariant-loop decreases-loop) →
-    (let at = c in c.crowded-at.result
-    ≡ bit (crowds at.args.words.now at.args.limit (get_or at.args.words.now at.loop-i.i 0)))
+    (c.crowded-at.result
+    ≡ bit (crowds c.args.words.now c.args.limit (get_or c.args.words.now c.loop-i.i 0)))
 step c =
     let found = slotted c in
     let start = found in
@@ -80,9 +80,8 @@ loop-i-smaller c = search rules
 
 loop-i-preserved : tie.Need-loop-i-preserved invariant-loop decreases-loop
 loop-i-preserved c =
-    let found = c in
-    let at = found.loop-i in
-    (simp length-set at.invariant.0, collected_more _ _ _ _ _ _ at.invariant.1 found.loop-i-test.true (omega arith) (step c) c.crowded-at.ensures.1)
+    let at = c.loop-i in
+    (simp length-set at.invariant.0, collected_more _ _ _ _ _ _ at.invariant.1 c.loop-i-test.true (omega arith) (step c) c.crowded-at.ensures.1)
 
 shape_of-out : tie.Need-shape_of-out invariant-loop decreases-loop
 shape_of-out c = c.loop-i.invariant.0

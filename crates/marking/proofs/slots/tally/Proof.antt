@@ -54,8 +54,7 @@ loop-i-preserved c =
 
 shape_of-slots : tie.Need-shape_of-slots invariant-loop decreases-loop
 shape_of-slots c =
-    let start = c in
-    c.loop-i.invariant.long ∙ sym (tallied_none slot_of slot_count start.args.words.now _ start.requires.0).long
+    c.loop-i.invariant.long ∙ sym (tallied_none slot_of slot_count c.args.words.now _ c.requires.0).long
 
 returns : tie.Need-returns invariant-loop decreases-loop
 returns c = tallied_all _ _ _ _ _ c.loop-i.invariant c.loop-i-test.false

@@ -17,13 +17,11 @@ returns-then-to-gt-HIT_LIMIT c = simp (eq-eqb _ _ c.if-part-ne-PART_LENGTH.false
 pub returns-then-wide-to : goal.returns-then-wide-to
 unfolding fits
 returns-then-wide-to c =
-    let d = c in
-    let past : d.args.line.column + 1 < d.args.to = omega arith in
-    simp (eq-eqb _ _ d.if-part-ne-PART_LENGTH.false, le-leb _ _ d.if-to-gt-HIT_LIMIT.false, lt-leb _ _ past)
+    let past : c.args.line.column + 1 < c.args.to = omega arith in
+    simp (eq-eqb _ _ c.if-part-ne-PART_LENGTH.false, le-leb _ _ c.if-to-gt-HIT_LIMIT.false, lt-leb _ _ past)
 
 pub returns : goal.returns
 unfolding fits
 returns c =
-    let d = c in
-    let within : d.args.to ≤ d.args.line.column + 1 = omega arith in
-    simp (eq-eqb _ _ d.if-part-ne-PART_LENGTH.false, le-leb _ _ d.if-to-gt-HIT_LIMIT.false, le-leb _ _ within)
+    let within : c.args.to ≤ c.args.line.column + 1 = omega arith in
+    simp (eq-eqb _ _ c.if-part-ne-PART_LENGTH.false, le-leb _ _ c.if-to-gt-HIT_LIMIT.false, le-leb _ _ within)

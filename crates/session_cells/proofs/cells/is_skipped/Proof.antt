@@ -50,10 +50,9 @@ matters_fraction-requires c κs = search rules
 
 returns-then-line : tie.Need-returns-then-line
 returns-then-line c =
-    let d = c in
-    let args = d.args in
+    let args = c.args in
     ap not c.matters_fraction.ensures
-    ∙ by_bound args.line args.to args.row args.m args.highest _ args.part.now d.rest_end-end.ensures d.if-to-end.false
+    ∙ by_bound args.line args.to args.row args.m args.highest _ args.part.now c.rest_end-end.ensures c.if-to-end.false
 
 score_word-requires : tie.Need-score_word-requires
 score_word-requires c κs = search rules
@@ -61,11 +60,10 @@ score_word-requires c κs = search rules
 returns : tie.Need-returns
 unfolding line_score
 returns c =
-    let d = c in
-    let args = d.args in
+    let args = c.args in
     not_at_most c.score_word.result args.highest
     ∙ ap not (sym (number_matters args.line args.highest args.m _ c.if-line.false _ c.score_word.ensures refl))
-    ∙ by_bound args.line args.to args.row args.m args.highest _ args.part.now d.rest_end-end.ensures d.if-to-end.false
+    ∙ by_bound args.line args.to args.row args.m args.highest _ args.part.now c.rest_end-end.ensures c.if-to-end.false
 
 pub is_skipped_spec : {M : Type 1} → statement M
 is_skipped_spec =

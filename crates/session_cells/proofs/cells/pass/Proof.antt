@@ -36,10 +36,9 @@ shape_of-part c = search rules
 
 returns : tie.Need-returns
 returns c =
-    let d = c in
-    let args = d.args in
+    let args = c.args in
     let e = sym (pass_none args.line args.from args.to args.m args.highest args.part.now
-    (sym d.fits.ensures ∙ c.if-fits.false)) in
+    (sym c.fits.ensures ∙ c.if-fits.false)) in
     (c.none_passed.ensures ∙ ap (λ (u : Update). u.answer) e, ap (λ (u : Update). u.part) e)
 
 pub pass_spec : {M : Type 1} → statement M

@@ -92,9 +92,8 @@ shape_of-part c = search rules
 
 returns : tie.Need-returns invariant-loop decreases-loop
 returns c =
-    let t = c in
-    let n : t.args.to - t.loop-i.i ≡ 0 = omega arith in
-    let e = rw n at t.loop-i.invariant.2 in
+    let n : c.args.to - c.loop-i.i ≡ 0 = omega arith in
+    let e = rw n at c.loop-i.invariant.2 in
     (c.none_passed.ensures ∙ ap (λ (u : Update). u.answer) e, ap (λ (u : Update). u.part) e)
 
 pub pass_blocks_spec : {M : Type 1} → statement M

@@ -38,10 +38,9 @@ shape_of-part-then-not-fits c = search rules
 
 returns-then-not-fits : tie.Need-returns-then-not-fits
 returns-then-not-fits c =
-    let d = c in
-    let args = d.args in
+    let args = c.args in
     let e = sym (cell_none args.line args.row args.m args.highest args.part.now
-    (sym d.fits.ensures ∙ not-true _ c.if-not-fits.true-raw)) in
+    (sym c.fits.ensures ∙ not-true _ c.if-not-fits.true-raw)) in
     (c.none_passed-then-not-fits.ensures ∙ ap (λ (u : Update). u.answer) e, ap (λ (u : Update). u.part) e)
 
 pass_row_fraction-requires : tie.Need-pass_row_fraction-requires

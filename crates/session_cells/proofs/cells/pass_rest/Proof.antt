@@ -46,10 +46,9 @@ shape_of-part-then-is_skipped c = search rules
 
 returns-then-is_skipped : tie.Need-returns-then-is_skipped
 returns-then-is_skipped c =
-    let d = c in
-    let args = d.args in
+    let args = c.args in
     let e = sym (rest_skip args.line args.to args.row args.m args.highest args.part.now
-    (sym d.is_skipped.ensures ∙ d.if-is_skipped.true)) in
+    (sym c.is_skipped.ensures ∙ c.if-is_skipped.true)) in
     (c.skip.ensures ∙ ap (λ (u : Update). u.answer) e, ap (λ (u : Update). u.part) e)
 
 rest_end-requires : tie.Need-rest_end-requires

@@ -43,8 +43,7 @@ none_passed-requires c κs = search rules
 returns : tie.Need-returns
 unfolding skipped
 returns c =
-    let d = c in
-    c.none_passed.ensures ∙ rw (d.rest_end.ensures, d.greater.ensures, next_start)
+    c.none_passed.ensures ∙ rw (c.rest_end.ensures, c.greater.ensures, next_start)
 
 pub skip_spec : {M : Type 1} → statement M
 skip_spec =

@@ -15,15 +15,13 @@ in_64_bits a b k l =
 
 overflow_mul-result : tie.Need-overflow_mul-result
 overflow_mul-result c =
-    let began = c in
-    let l : began.args.top.m ≤ divisor_span = omega (arith, began.requires.2) in
-    record { fits = (in_64_bits _ _ began.ranges.d.fits l).1 }
+    let l : c.args.top.m ≤ divisor_span = omega (arith, c.requires.2) in
+    record { fits = (in_64_bits _ _ c.ranges.d.fits l).1 }
 
 overflow_mul-result-2 : tie.Need-overflow_mul-result-2
 overflow_mul-result-2 c =
-    let began = c in
-    let l : began.args.top.divisor ≤ divisor_span = omega (arith, began.requires.3) in
-    record { fits = (in_64_bits _ _ began.ranges.m.fits l).0 }
+    let l : c.args.top.divisor ≤ divisor_span = omega (arith, c.requires.3) in
+    record { fits = (in_64_bits _ _ c.ranges.m.fits l).0 }
 
 returns : tie.Need-returns
 returns c = let apart = c.requires in rw (apart.0, apart.1)

@@ -55,10 +55,9 @@ loop-b-smaller c = search rules
 
 loop-b-preserved : tie.Need-loop-b-preserved invariant-loop decreases-loop
 loop-b-preserved c =
-    let t = c in
-    let args = t.args in
-    let s = one_lowered args.back args.column t.loop-b.b c.lowered.result args.starts.now t.loop-b.starts t.loop-b.invariant.0 (omega arith)
-    (omega arith) c.lowered.ensures t.loop-b.invariant.1 in
+    let args = c.args in
+    let s = one_lowered args.back args.column c.loop-b.b c.lowered.result args.starts.now c.loop-b.starts c.loop-b.invariant.0 (omega arith)
+    (omega arith) c.lowered.ensures c.loop-b.invariant.1 in
     (omega arith, s)
 
 shape_of-starts : tie.Need-shape_of-starts invariant-loop decreases-loop
@@ -66,10 +65,9 @@ shape_of-starts c = search rules
 
 returns : tie.Need-returns invariant-loop decreases-loop
 returns c =
-    let t = c in
-    let args = t.args in
-    let last : (k : ℕ) → t.loop-b.b ≤ k → k < length args.starts.now → args.column < k * block_rows = λ k l h. omega arith in
-    all_lowered args.back args.column t.loop-b.b args.starts.now t.loop-b.starts last t.loop-b.invariant.1
+    let args = c.args in
+    let last : (k : ℕ) → c.loop-b.b ≤ k → k < length args.starts.now → args.column < k * block_rows = λ k l h. omega arith in
+    all_lowered args.back args.column c.loop-b.b args.starts.now c.loop-b.starts last c.loop-b.invariant.1
 
 pub leave_spec : {M : Type 1} → statement M
 leave_spec =

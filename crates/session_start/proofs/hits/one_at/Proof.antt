@@ -19,15 +19,13 @@ bounds-words-at c = search rules
 
 returns-then-words-at-2 : tie.Need-returns-then-words-at-2
 returns-then-words-at-2 c =
-    let inside = c in
-    let args = inside.args in
-    (rw (lt-ltb args.at (length args.words.now) inside.if-words-at.false, eq-eqb _ _ c.if-words-at-2.true), le_refl 1)
+    let args = c.args in
+    (rw (lt-ltb args.at (length args.words.now) c.if-words-at.false, eq-eqb _ _ c.if-words-at-2.true), le_refl 1)
 
 returns-else-words-at-2 : tie.Need-returns-else-words-at-2
 returns-else-words-at-2 c =
-    let inside = c in
-    let args = inside.args in
-    (rw (lt-ltb args.at (length args.words.now) inside.if-words-at.false, ne_eqb _ _ c.if-words-at-2.false), zero-le)
+    let args = c.args in
+    (rw (lt-ltb args.at (length args.words.now) c.if-words-at.false, ne_eqb _ _ c.if-words-at-2.false), zero-le)
 
 pub one_at_spec : {M : Type 1} → statement M
 one_at_spec = tie.close (tie.spec returns-then-words-at offset_bounds-words-at bounds-words-at returns-then-words-at-2 returns-else-words-at-2)

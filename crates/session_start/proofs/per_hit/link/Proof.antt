@@ -56,8 +56,7 @@ offset_bounds-turns-slot c = search rules
 
 bounds-turns-slot : tie.Need-bounds-turns-slot invariant-loop decreases-loop
 bounds-turns-slot c =
-    let w = c in
-    omega (arith, w.requires.0.within w.loop-j.j w.loop-j-test.true)
+    omega (arith, c.requires.0.within c.loop-j.j c.loop-j-test.true)
 
 wide-requires : tie.Need-wide-requires invariant-loop decreases-loop
 wide-requires c κs = search rules
@@ -106,8 +105,7 @@ one_at-requires c κs = search rules
 
 overflow_mul-turns : tie.Need-overflow_mul-turns invariant-loop decreases-loop
 overflow_mul-turns c =
-    let w = c in
-    let t = get_or w.loop-j.turns w.wide-slot.result 0 in
+    let t = get_or c.loop-j.turns c.wide-slot.result 0 in
     omega (arith, place_at (placed c), mul-le-mul_left (t + 1) c.one_at.ensures.1)
 
 offset_bounds-turns-slot-in-loop-j : tie.Need-offset_bounds-turns-slot-in-loop-j invariant-loop decreases-loop

@@ -26,22 +26,20 @@ slice_bounds-put_pairs-end c = search rules
 
 put_pairs-requires : tie.Need-put_pairs-requires
 put_pairs-requires c κs =
-    let start = c in
-    let h = length start.args.backs.now in
+    let h = length c.args.backs.now in
     let many : reach_from + h - reach_from ≡ h = omega arith in
-    ((start.requires.0.0, mid_len reach_from (reach_from + h) start.args.work.now (omega (arith, start.requires.0)) ∙ many), start.requires.1)
+    ((c.requires.0.0, mid_len reach_from (reach_from + h) c.args.work.now (omega (arith, c.requires.0)) ∙ many), c.requires.1)
 
 shape_of-work : tie.Need-shape_of-work
 shape_of-work c = search rules
 
 returns : tie.Need-returns
 returns c =
-    let start = c in
     let pairs = c.put_pairs in
-    let noted = start.args.backs.now in
+    let noted = c.args.backs.now in
     λ p g all e.
-    store_part reach_from (length noted) (reaches p g) start.args.work.now pairs.new.reach (pairs.ensures p g all e)
-    (length_reaches p g ∙ sym (ap length e ∙ length_backs p g)) (omega (arith, start.requires.0))
+    store_part reach_from (length noted) (reaches p g) c.args.work.now pairs.new.reach (pairs.ensures p g all e)
+    (length_reaches p g ∙ sym (ap length e ∙ length_backs p g)) (omega (arith, c.requires.0))
 
 pub put_reach_spec : {M : Type 1} → statement M
 put_reach_spec =

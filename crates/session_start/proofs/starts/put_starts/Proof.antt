@@ -60,14 +60,13 @@ loop-i-smaller c = search rules
 loop-i-preserved : tie.Need-loop-i-preserved invariant-loop decreases-loop
 loop-i-preserved c =
     let l = c.loop-i in
-    let start = c in
-    let args = start.args in
+    let args = c.args in
     let one = c.one_if_same-m in
     let next : l.i ≡ suc (l.i - 1) = omega arith in (
       omega (arith, one.ensures.1),
       simp length-set l.invariant.1,
       λ p g e holds.
-          begun_more p g args.h e start.requires.0 args.work.now l.work l.invariant.1 start.requires.1 holds (l.i - 1) l.i l.m one.result
+          begun_more p g args.h e c.requires.0 args.work.now l.work l.invariant.1 c.requires.1 holds (l.i - 1) l.i l.m one.result
           next (omega arith) one.ensures.0 (l.invariant.2 p g e holds),
     )
 
@@ -89,12 +88,11 @@ shape_of-work c = search rules
 returns : tie.Need-returns invariant-loop decreases-loop
 returns c =
     let l = c.loop-i in
-    let start = c in
-    let args = start.args in
+    let args = c.args in
     let end : l.i ≡ 0 = omega arith in
     λ p g e holds.
     rw c.block_count.ensures
-    (begun_all p g args.h e start.requires.0 args.work.now l.work l.invariant.1 start.requires.1 l.m (rw end at (l.invariant.2 p g e holds)))
+    (begun_all p g args.h e c.requires.0 args.work.now l.work l.invariant.1 c.requires.1 l.m (rw end at (l.invariant.2 p g e holds)))
 
 pub put_starts_spec : {M : Type 1} → statement M
 put_starts_spec =

@@ -18,8 +18,7 @@ content-requires c κs = search rules
 returns-then-content-ge-HEADER_LIMIT : tie.Need-returns-then-content-ge-HEADER_LIMIT
 unfolding is_header
 returns-then-content-ge-HEADER_LIMIT c =
-    let d = c in
-    simp (← d.kind.ensures, eq-eqb _ _ d.if-kind-ne0.false, ← c.content.ensures, le-ltb _ _ c.if-content-ge-HEADER_LIMIT.true)
+    simp (← c.kind.ensures, eq-eqb _ _ c.if-kind-ne0.false, ← c.content.ensures, le-ltb _ _ c.if-content-ge-HEADER_LIMIT.true)
 
 header_k-requires : tie.Need-header_k-requires
 header_k-requires c κs = search rules

@@ -32,13 +32,15 @@ abbrev decreases-loop : tie.decreases-loop-index
 decreases-loop words k limit index₀ n₀ low₀ index n low = length words - index
 
 -- places, each named for where it leads and from where
-abbrev in_loop_shared_slice_known2 : tie.After-shared_slice_known-in-loop-index-1 invariant-loop decreases-loop → tie.In-loop-index invariant-loop decreases-loop
+abbrev in_loop_shared_slice_known2 : tie.After-shared_slice_known-in-loop-index-1 invariant-loop decreases-loop
+    → tie.In-loop-index invariant-loop decreases-loop
 in_loop_shared_slice_known2 c = c.before
 
 abbrev in_loop_else1 : tie.Else-kind-eq3 invariant-loop decreases-loop → tie.In-loop-index invariant-loop decreases-loop
 in_loop_else1 c = c.before.before.before
 
-abbrev else3_shared_slice_known3 : tie.After-shared_slice_known-in-loop-index-2-1 invariant-loop decreases-loop → tie.Else-words-next invariant-loop decreases-loop
+abbrev else3_shared_slice_known3 : tie.After-shared_slice_known-in-loop-index-2-1 invariant-loop decreases-loop
+    → tie.Else-words-next invariant-loop decreases-loop
 else3_shared_slice_known3 c = c.before
 
 -- what judging finds from this turn's first word on, it finds in all words
@@ -70,16 +72,14 @@ code_test c =
 
 code_word :
     (c : tie.Else-not-is_code_word invariant-loop decreases-loop) →
-    let d = c in
-    let a = d.args in
-    is_code_word a.k (get_or a.words.now d.loop-index.index 0) ≡ true
+    let a = c.args in
+    is_code_word a.k (get_or a.words.now c.loop-index.index 0) ≡ true
 code_word c = sym (code_test c.before) ∙ not-false c.is_code_word.result c.if-not-is_code_word.false-raw
 
 position_test :
     (c : tie.After-is_position_word invariant-loop decreases-loop) →
-    let d = c in
-    let a = d.args in
-    c.is_position_word.result ≡ is_position_word d.loop-index.low (get_or a.words.now (suc d.loop-index.index) 0)
+    let a = c.args in
+    c.is_position_word.result ≡ is_position_word c.loop-index.low (get_or a.words.now (suc c.loop-index.index) 0)
 position_test c = rw (add-one c.loop-index.index) at c.is_position_word.ensures
 
 -- what judging finds from this turn's two words on, it finds in all words
@@ -185,16 +185,14 @@ content-low-requires c κs = search rules
 
 position_word :
     (c : tie.Else-not-is_position_word invariant-loop decreases-loop) →
-    let d = c in
-    let a = d.args in
-    is_position_word d.loop-index.low (get_or a.words.now (suc d.loop-index.index) 0) ≡ true
+    let a = c.args in
+    is_position_word c.loop-index.low (get_or a.words.now (suc c.loop-index.index) 0) ≡ true
 position_word c = sym (position_test c.before) ∙ not-false c.is_position_word.result c.if-not-is_position_word.false-raw
 
 overflow_add-low : tie.Need-overflow_add-low invariant-loop decreases-loop
 overflow_add-low c =
-    let d = c in
-    let l = d.loop-index in
-    let y = get_or d.args.words.now (suc l.index) 0 in
+    let l = c.loop-index in
+    let y = get_or c.args.words.now (suc l.index) 0 in
     let range = is_position_range l.low (content y) (and_right (eqb (kind y) 2) (is_position l.low (content y)) (position_word c.before)) in
     let same : c.content-low.result ≡ content y = rw (add-one l.index) at c.content-low.ensures in
     omega (arith, range.1)

@@ -40,11 +40,10 @@ overflow_add-next c = search rules
 returns-then-next-words : tie.Need-returns-then-next-words
 unfolding last_word
 returns-then-next-words c =
-    let d = c in
-    let a = d.args in
+    let a = c.args in
     let h : suc a.index < length a.words.now = omega arith in
     simp (
-      ← d.content.ensures,
+      ← c.content.ensures,
       counted c.before,
       drop-cons a.words.now (suc a.index) 0 h,
       add-one,
@@ -53,11 +52,10 @@ returns-then-next-words c =
 returns : tie.Need-returns
 unfolding last_word
 returns c =
-    let d = c in
-    let a = d.args in
+    let a = c.args in
     let h : length a.words.now ≤ suc a.index = omega arith in
     simp (
-      ← d.content.ensures,
+      ← c.content.ensures,
       counted c.before,
       drop_of_length-le a.words.now h,
       add-zero,

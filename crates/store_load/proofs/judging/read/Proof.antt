@@ -30,9 +30,8 @@ turn_shared_slice_known2 c = c.before.before
 
 room : (c : tie.At-loop-i invariant-loop decreases-loop) → let a = c.args in length a.words.now ≡ 2 * a.n + 2
 room c =
-    let s = c in
-    let ws = s.args.words.now in
-    length_loaded ws (entries_of (judge ws)) s.requires.0 ∙ ap (λ (m : ℕ). 2 * m + 2) s.requires.1.0
+    let ws = c.args.words.now in
+    length_loaded ws (entries_of (judge ws)) c.requires.0 ∙ ap (λ (m : ℕ). 2 * m + 2) c.requires.1.0
 
 loop-i-init : tie.Need-loop-i-init invariant-loop decreases-loop
 loop-i-init c = (search rules, fill_start _ _, fill_start _ _)
@@ -88,17 +87,17 @@ loop-i-smaller c = search rules
 loop-i-preserved : tie.Need-loop-i-preserved invariant-loop decreases-loop
 loop-i-preserved c =
     let l = c.loop-i in
-    let s = c in
-    let ws = s.args.words.now in
+    let ws = c.args.words.now in
     let es = entries_of (judge ws) in
     let in_codes : l.i < length (codes_of es) = omega (arith, length_codes es) in
     let in_positions : l.i < length (positions_of es) = omega (arith, length_positions es) in
     let in_entries : l.i < length es = omega arith in
-    let read = loaded_at ws es s.requires.0 l.i in_entries in (
+    let read = loaded_at ws es c.requires.0 l.i in_entries in (
       search rules,
       rw (add-one l.i, c.content.ensures, read.0)
           (fill_next refl (search rules) (rw (drop-cons (codes_of es) l.i 0 in_codes) at l.invariant.1)),
-      rw (add-one l.i, c.content-in-loop-i.ensures, read.1) (fill_next refl (search rules) (rw (drop-cons (positions_of es) l.i 0 in_positions) at l.invariant.2)),
+      rw (add-one l.i, c.content-in-loop-i.ensures, read.1)
+          (fill_next refl (search rules) (rw (drop-cons (positions_of es) l.i 0 in_positions) at l.invariant.2)),
     )
 
 shape_of-codes : tie.Need-shape_of-codes invariant-loop decreases-loop
@@ -110,8 +109,7 @@ shape_of-positions c = c.loop-i.invariant.2.same_length
 returns : tie.Need-returns invariant-loop decreases-loop
 returns c =
     let l = c.loop-i in
-    let s = c in
-    let es = entries_of (judge s.args.words.now) in
+    let es = entries_of (judge c.args.words.now) in
     let end_codes : length (codes_of es) ≤ l.i = omega (arith, length_codes es) in
     let end_positions : length (positions_of es) ≤ l.i = omega (arith, length_positions es) in (
       fill_done (search rules) (rw (drop_of_length-le (codes_of es) end_codes) at l.invariant.1),

@@ -42,9 +42,8 @@ code_test :
     let code = get_or a.codes.now c.loop-i.i 0 in
     is_code a.k code ≡ ltb code c.code_limit-limit.result
 code_test c =
-    let s = c in
-    let code = get_or s.args.codes.now c.loop-i.i 0 in
-    is_code_limit s.args.k c.code_limit-limit.result code s.requires.0 c.code_limit-limit.ensures
+    let code = get_or c.args.codes.now c.loop-i.i 0 in
+    is_code_limit c.args.k c.code_limit-limit.result code c.requires.0 c.code_limit-limit.ensures
 
 returns-then-limit-codes : tie.Need-returns-then-limit-codes invariant-loop decreases-loop
 returns-then-limit-codes c =
@@ -82,11 +81,10 @@ returns-then-not-is_position c =
 
 overflow_add-low : tie.Need-overflow_add-low invariant-loop decreases-loop
 overflow_add-low c =
-    let d = c in
-    let p = d.args.positions.now in
+    let p = c.args.positions.now in
     omega (
       arith,
-      is_position_range d.loop-i.low (get_or p d.loop-i.i 0)
+      is_position_range c.loop-i.low (get_or p c.loop-i.i 0)
           (sym c.is_position.ensures ∙ not-false c.is_position.result c.if-not-is_position.false-raw),
     )
 

@@ -127,13 +127,12 @@ loop-i-smaller c = search rules
 
 loop-i-preserved : tie.Need-loop-i-preserved invariant-loop decreases-loop
 loop-i-preserved c =
-    let d = c in
-    let a = d.args in
-    let l = d.loop-i in
+    let a = c.args in
+    let l = c.loop-i in
     let at₁ : suc (2 * l.i + 1) ≡ 2 * l.i + 2 = omega arith in
     let at₂ : suc (2 * l.i + 2) ≡ 2 * suc l.i + 1 = omega arith in
     let f = rw (
-      entries_drop a.codes.now a.positions.now l.i (search rules) d.loop-i-test.true,
+      entries_drop a.codes.now a.positions.now l.i (search rules) c.loop-i-test.true,
       ← c.word.ensures,
       ← c.word-in-loop-i.ensures,
     ) at l.invariant.2 in (
@@ -144,13 +143,11 @@ loop-i-preserved c =
 
 overflow_cast-i : tie.Need-overflow_cast-i invariant-loop decreases-loop
 overflow_cast-i c =
-    let s = c in
-    omega (arith, few s.args.k s.args.codes.now s.args.positions.now s.requires.1.0 s.requires.1.1.0)
+    omega (arith, few c.args.k c.args.codes.now c.args.positions.now c.requires.1.0 c.requires.1.1.0)
 
 word-requires-2 : tie.Need-word-requires-2 invariant-loop decreases-loop
 word-requires-2 c κs =
-    let s = c in
-    omega (arith, few s.args.k s.args.codes.now s.args.positions.now s.requires.1.0 s.requires.1.1.0)
+    omega (arith, few c.args.k c.args.codes.now c.args.positions.now c.requires.1.0 c.requires.1.1.0)
 
 overflow_mul-words-2 : tie.Need-overflow_mul-words-2 invariant-loop decreases-loop
 overflow_mul-words-2 c = search rules

@@ -165,7 +165,8 @@ loop-from-preserved c =
           called.copy_block-at.new.codes_out from to at n (omega arith) turn.loop-from.invariant.2 called.copy_block-at.ensures.0 start.requires.1.0
           turn.loop-from.invariant.3.2 called.copy_block-at.ensures.1.0,
       copied_block args.deciding.now args.c args.codes.now args.positions.now (sym start.requires.0.2) args.positions_out.now
-          turn.loop-from.positions_out called.copy_block-at.new.positions_out from to at n (omega arith) turn.loop-from.invariant.2 called.copy_block-at.ensures.0
+          turn.loop-from.positions_out called.copy_block-at.new.positions_out from to at n (omega arith) turn.loop-from.invariant.2
+          called.copy_block-at.ensures.0
           start.requires.1.1 turn.loop-from.invariant.4.2 called.copy_block-at.ensures.1.1.0,
       left_more args.deciding.now args.c args.codes.now args.marks.now from size.result turn.loop-from.marks
           called.copy_block-at.new.marks called.loop-from-test.true size.ensures

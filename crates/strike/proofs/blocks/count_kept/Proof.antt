@@ -35,10 +35,9 @@ counted : (c : tie.After-mark_block-kept invariant-loop decreases-loop)
     c.args.codes.now
     (c.loop-from.from + c.smaller-n.result)
 counted c =
-    let turn = c in
-    let args = turn.args in
-    ap₂ ◌+◌ turn.loop-from.invariant.2 c.mark_block-kept.ensures.0
-    ∙ kept_more args.deciding.now args.c args.codes.now turn.loop-from.from (turn.loop-from.from + c.smaller-n.result)
+    let args = c.args in
+    ap₂ ◌+◌ c.loop-from.invariant.2 c.mark_block-kept.ensures.0
+    ∙ kept_more args.deciding.now args.c args.codes.now c.loop-from.from (c.loop-from.from + c.smaller-n.result)
     (omega arith)
 
 loop-from-init : tie.Need-loop-from-init invariant-loop decreases-loop

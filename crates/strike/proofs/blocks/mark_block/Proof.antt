@@ -19,9 +19,8 @@ mark_rare_count_marked_arg c = c.before.before
 marks_are : (c : tie.After-mark_rare)
     → c.mark_rare.new.marks ≡ marks_of c.args.deciding.now c.args.c c.args.codes.now
 marks_are c =
-    let start = c in
     c.mark_rare.ensures.1
-    ∙ mark_exact start.args.deciding.now start.args.c start.args.codes.now start.args.marks.now start.requires.0 start.requires.2
+    ∙ mark_exact c.args.deciding.now c.args.c c.args.codes.now c.args.marks.now c.requires.0 c.requires.2
 
 mark_rare-requires : tie.Need-mark_rare-requires
 mark_rare-requires c κs = search rules

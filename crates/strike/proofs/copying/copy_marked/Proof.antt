@@ -47,12 +47,11 @@ loop-at-smaller : tie.Need-loop-at-smaller invariant-loop decreases-loop
 loop-at-smaller c = omega (arith, index_left c.before.before.before)
 
 loop-at-preserved : tie.Need-loop-at-preserved invariant-loop decreases-loop
-loop-at-preserved c =
-    let start = c in (
-      omega (arith, index_left c.before.before.before),
-      copied_more _ _ _ _ _ _ _ _ c.loop-at.invariant.1 c.loop-at-test.true start.requires.0
-          (start.requires.1.0 c.loop-at.i) start.requires.1.1.1 c.wide-at.ensures,
-    )
+loop-at-preserved c = (
+  omega (arith, index_left c.before.before.before),
+  copied_more _ _ _ _ _ _ _ _ c.loop-at.invariant.1 c.loop-at-test.true c.requires.0
+      (c.requires.1.0 c.loop-at.i) c.requires.1.1.1 c.wide-at.ensures,
+)
 
 shape_of-out : tie.Need-shape_of-out invariant-loop decreases-loop
 shape_of-out c = c.loop-at.invariant.1.long

@@ -48,11 +48,10 @@ loop-i-smaller c = search rules
 
 loop-i-preserved : tie.Need-loop-i-preserved invariant-loop decreases-loop
 loop-i-preserved c =
-    let at = c in
-    let first = at.args.ranks.now in
-    let i = at.loop-i.i in
-    let old = at.loop-i.ranks in
-    let is = at.loop-i.invariant in
+    let first = c.args.ranks.now in
+    let i = c.loop-i.i in
+    let old = c.loop-i.ranks in
+    let is = c.loop-i.invariant in
     let v : ℕ = get_or old (block_size + i) 0 in
     let room : i < length old = omega (arith, is.1) in (
       omega arith,

@@ -70,13 +70,12 @@ loop-i-smaller c = search rules
 
 loop-i-preserved : tie.Need-loop-i-preserved invariant-loop decreases-loop
 loop-i-preserved c =
-    let at = c in
-    let args = at.args in
-    let i = at.loop-i.i in
-    let old = at.loop-i.values in
-    let is = at.loop-i.invariant in
+    let args = c.args in
+    let i = c.loop-i.i in
+    let old = c.loop-i.values in
+    let is = c.loop-i.invariant in
     let v : ℕ = c.value.result in
-    let room : i < length old = omega (arith, is.1, at.smaller-to.ensures) in (
+    let room : i < length old = omega (arith, is.1, c.smaller-to.ensures) in (
       omega arith,
       length-set old i v ∙ is.1,
       below_more (λ (x : ℕ). get_or (set old i v) x 0 ≡ value (get_or args.letters.now (args.base + x) 0)) i
@@ -89,19 +88,17 @@ bounds-values-to c = search rules
 
 shape_of-values-then-to-lt-BLOCK : tie.Need-shape_of-values-then-to-lt-BLOCK invariant-loop decreases-loop
 shape_of-values-then-to-lt-BLOCK c =
-    let at = c in
-    length-set at.loop-i.values at.smaller-to.result foreign ∙ at.loop-i.invariant.1 ∙ sym at.requires.0
+    length-set c.loop-i.values c.smaller-to.result foreign ∙ c.loop-i.invariant.1 ∙ sym c.requires.0
 
 returns-then-to-lt-BLOCK : tie.Need-returns-then-to-lt-BLOCK invariant-loop decreases-loop
 returns-then-to-lt-BLOCK c =
-    let at = c in
-    let args = at.args in
+    let args = c.args in
     let letters = args.letters.now in
-    let to : ℕ = at.smaller-to.result in
-    let old = at.loop-i.values in
-    let is = at.loop-i.invariant in
+    let to : ℕ = c.smaller-to.result in
+    let old = c.loop-i.values in
+    let is = c.loop-i.invariant in
     let room : to < length old = omega (arith, is.1, c.if-to-lt-BLOCK.true) in
-    let end : length letters ≡ args.base + to = omega (arith, at.smaller-to.ensures, c.if-to-lt-BLOCK.true, at.requires.1) in
+    let end : length letters ≡ args.base + to = omega (arith, c.smaller-to.ensures, c.if-to-lt-BLOCK.true, c.requires.1) in
     let all = known_to_end letters old args.base to room end (λ x h. is.2 x (omega (arith, c.loop-i-test.false))) in
     record {
       sized = length-set old to foreign ∙ is.1;
@@ -113,13 +110,12 @@ shape_of-values-else-to-lt-BLOCK c = search rules
 
 returns-else-to-lt-BLOCK : tie.Need-returns-else-to-lt-BLOCK invariant-loop decreases-loop
 returns-else-to-lt-BLOCK c =
-    let at = c in
-    let args = at.args in
-    let is = at.loop-i.invariant in
+    let args = c.args in
+    let is = c.loop-i.invariant in
     record {
       sized = is.1;
       known = λ q from below within.
-          known_below args.letters.now at.loop-i.values args.base at.loop-i.i is.2 q from
+          known_below args.letters.now c.loop-i.values args.base c.loop-i.i is.2 q from
           (omega (arith, c.if-to-lt-BLOCK.false, c.loop-i-test.false));
     }
 

@@ -11,8 +11,7 @@ bounds-values-at c = search rules
 
 returns : tie.Need-returns
 returns c =
-    let start = c in
-    start.requires.0.known start.args.at start.requires.1.0 start.requires.1.1 start.requires.1.2
+    c.requires.0.known c.args.at c.requires.1.0 c.requires.1.1 c.requires.1.2
 
 pub value_at_spec : {M : Type 1} → statement M
 value_at_spec = tie.close (tie.spec overflow_sub-result bounds-values-at returns)

@@ -40,11 +40,10 @@ loop-at-init c =
 
 value_at-v-requires : tie.Need-value_at-v-requires invariant-loop decreases-loop
 value_at-v-requires c κs =
-    let start = c in
     let at = c.loop-at in
-    let there = run_end_within start.args.letters.now start.args.from start.requires.0.in_letters in (
-      start.requires.0.block,
-      (omega (arith, start.requires.1.begins, at.invariant.0), omega (arith, start.requires.1.ends, c.loop-at-test.true), omega (arith, at.invariant.2)),
+    let there = run_end_within c.args.letters.now c.args.from c.requires.0.in_letters in (
+      c.requires.0.block,
+      (omega (arith, c.requires.1.begins, at.invariant.0), omega (arith, c.requires.1.ends, c.loop-at-test.true), omega (arith, at.invariant.2)),
     )
 
 returns-then-v-eq-FOREIGN : tie.Need-returns-then-v-eq-FOREIGN invariant-loop decreases-loop
@@ -67,15 +66,14 @@ goes_on : (c : tie.Else-v-eq-FOREIGN invariant-loop decreases-loop)
     × (c.value_at-v.result < 4)
     × (c.loop-at.code < 4 ^ k_limit)
 goes_on c =
-    let start = c in
-    let letters = start.args.letters.now in
-    let from = start.args.from in
+    let letters = c.args.letters.now in
+    let from = c.args.from in
     let at = c.loop-at in
     let on = run_goes_on letters from at.at at.invariant.0 at.invariant.2 c.value_at-v.result c.value_at-v.ensures c.if-v-eq-FOREIGN.false in (
       on.0,
       on.1,
       subst (λ (x : ℕ). x < 4 ^ k_limit) (sym at.invariant.3)
-          (code_small letters from start.requires.0.in_letters from (at.at - from) (le_refl from) (omega arith) (omega arith)),
+          (code_small letters from c.requires.0.in_letters from (at.at - from) (le_refl from) (omega arith) (omega arith)),
     )
 
 overflow_mul-code : tie.Need-overflow_mul-code invariant-loop decreases-loop
@@ -95,15 +93,14 @@ loop-at-smaller c = search rules
 
 loop-at-preserved : tie.Need-loop-at-preserved invariant-loop decreases-loop
 loop-at-preserved c =
-    let start = c in
-    let letters = start.args.letters.now in
-    let from = start.args.from in
+    let letters = c.args.letters.now in
+    let from = c.args.from in
     let at = c.loop-at in
     let on = goes_on c in (
       omega arith,
       omega arith,
       omega arith,
-      rw c.value_at-v.ensures (code_longer letters from start.requires.0.in_letters at.at at.code at.invariant.0 on.0 at.invariant.3),
+      rw c.value_at-v.ensures (code_longer letters from c.requires.0.in_letters at.at at.code at.invariant.0 on.0 at.invariant.3),
     )
 
 returns : tie.Need-returns invariant-loop decreases-loop

@@ -46,30 +46,27 @@ inside : (c : Turn)
     × (c.loop-at.at + c.args.last ≤ run_end c.args.letters.now c.args.begun.at)
     × (run_end c.args.letters.now c.args.begun.at ≤ length c.args.letters.now)
     × (length c.args.letters.now ≤ letter_limit)
-inside c =
-    let start = c in (
-      omega (arith, start.requires.0.1.begins, c.loop-at.invariant.0.0),
-      start.requires.0.1.ends,
-      c.loop-at.invariant.0.2,
-      (run_end_within start.args.letters.now start.args.begun.at start.requires.0.0.in_letters).1,
-      start.requires.0.0.few,
-    )
+inside c = (
+  omega (arith, c.requires.0.1.begins, c.loop-at.invariant.0.0),
+  c.requires.0.1.ends,
+  c.loop-at.invariant.0.2,
+  (run_end_within c.args.letters.now c.args.begun.at c.requires.0.0.in_letters).1,
+  c.requires.0.0.few,
+)
 
 overflow_add-to : tie.Need-overflow_add-to invariant-loop decreases-loop
 overflow_add-to c =
-    let start = c in
     omega (
       arith,
-      run_end_within start.args.letters.now start.args.begun.at start.requires.0.0.in_letters,
-      start.requires.1.0.0,
-      start.requires.0.0.in_letters,
-      start.requires.0.0.few,
+      run_end_within c.args.letters.now c.args.begun.at c.requires.0.0.in_letters,
+      c.requires.1.0.0,
+      c.requires.0.0.in_letters,
+      c.requires.0.0.few,
     )
 
 loop-at-init : tie.Need-loop-at-init invariant-loop decreases-loop
 loop-at-init c =
-    let start = c in
-    ((le_refl start.args.begun.at, omega arith, start.requires.1.0.1), refl, start.requires.1.1)
+    ((le_refl c.args.begun.at, omega arith, c.requires.1.0.1), refl, c.requires.1.1)
 
 overflow_add-at : tie.Need-overflow_add-at invariant-loop decreases-loop
 overflow_add-at c = omega (arith, inside c.before)
@@ -102,9 +99,8 @@ goes_on : (c : tie.Else-v-eq-FOREIGN invariant-loop decreases-loop)
     + c.args.last < run_end c.args.letters.now c.args.begun.at)
     × (c.value_at-v.result < 4)
 goes_on c =
-    let turn = c in
-    let args = turn.args in
-    run_goes_on args.letters.now args.begun.at (turn.loop-at.at + args.last) (omega (arith, turn.loop-at.invariant.0.0)) turn.loop-at.invariant.0.2
+    let args = c.args in
+    run_goes_on args.letters.now args.begun.at (c.loop-at.at + args.last) (omega (arith, c.loop-at.invariant.0.0)) c.loop-at.invariant.0.2
     c.value_at-v.result c.value_at-v.ensures c.if-v-eq-FOREIGN.false
 
 next_code-code-requires : tie.Need-next_code-code-requires invariant-loop decreases-loop

@@ -45,14 +45,13 @@ inside : (c : Turn)
     × (c.loop-at.at + c.args.last ≤ run_end c.args.letters.now c.args.reached.at)
     × (run_end c.args.letters.now c.args.reached.at ≤ length c.args.letters.now)
     × (length c.args.letters.now ≤ letter_limit)
-inside c =
-    let start = c in (
-      omega (arith, start.requires.0.1.begins, c.loop-at.invariant.0.start),
-      start.requires.0.1.ends,
-      c.loop-at.invariant.0.within,
-      (run_end_within start.args.letters.now start.args.reached.at start.requires.0.0.in_letters).1,
-      start.requires.0.0.few,
-    )
+inside c = (
+  omega (arith, c.requires.0.1.begins, c.loop-at.invariant.0.start),
+  c.requires.0.1.ends,
+  c.loop-at.invariant.0.within,
+  (run_end_within c.args.letters.now c.args.reached.at c.requires.0.0.in_letters).1,
+  c.requires.0.0.few,
+)
 
 -- the ranks in their slots since the start
 scanned : (c : Turn) → Scanned c.args.last c.args.base c.args.letters.now c.loop-at.ranks c.args.reached.at
@@ -101,10 +100,9 @@ goes_on : (c : tie.Else-v-eq-FOREIGN invariant-loop decreases-loop)
     + c.args.last < run_end c.args.letters.now c.args.reached.at)
     × (c.value_at-v.result < 4)
 goes_on c =
-    let turn = c in
-    let args = turn.args in
-    run_goes_on args.letters.now args.reached.at (turn.loop-at.at + args.last) (omega (arith, turn.loop-at.invariant.0.start))
-    turn.loop-at.invariant.0.within c.value_at-v.result c.value_at-v.ensures c.if-v-eq-FOREIGN.false
+    let args = c.args in
+    run_goes_on args.letters.now args.reached.at (c.loop-at.at + args.last) (omega (arith, c.loop-at.invariant.0.start))
+    c.loop-at.invariant.0.within c.value_at-v.result c.value_at-v.ensures c.if-v-eq-FOREIGN.false
 
 next_code-code-requires : tie.Need-next_code-code-requires invariant-loop decreases-loop
 next_code-code-requires c κs = (c.requires.0.0.short, (scanned (turn_else1 c)).in_hand.code_below, (goes_on c).1)
@@ -128,8 +126,7 @@ read c =
 ranked : (c : tie.After-rank-r invariant-loop decreases-loop)
     → c.rank-r.result ≡ rank_at (suc c.args.last) c.args.letters.now c.loop-at.at
 ranked c =
-    let turn = c in
-    rank_there turn.args.last turn.loop-at.at c.next_code-code.result c.rank-r.result turn.args.letters.now
+    rank_there c.args.last c.loop-at.at c.next_code-code.result c.rank-r.result c.args.letters.now
     c.rank-r.ensures (read c).0
 
 slot-requires : tie.Need-slot-requires invariant-loop decreases-loop
@@ -174,9 +171,8 @@ one_more c first is =
 returns-then-r-low : tie.Need-returns-then-r-low invariant-loop decreases-loop
 returns-then-r-low c =
     let read_there = read c.before.before in
-    let turn = c in
-    let at = turn.loop-at in
-    let below : c.rank-r.result ≤ turn.args.low = c.if-r-low.true in
+    let at = c.loop-at in
+    let below : c.rank-r.result ≤ c.args.low = c.if-r-low.true in
     record {
       passed = at.invariant.0;
       most = at.invariant.1;
@@ -198,9 +194,8 @@ loop-at-smaller c = search rules
 
 loop-at-preserved : tie.Need-loop-at-preserved invariant-loop decreases-loop
 loop-at-preserved c =
-    let turn = c in
-    let args = turn.args in
-    let at = turn.loop-at in
+    let args = c.args in
+    let at = c.loop-at in
     let more = (goes_on (else1_rank c.before.before)).0 in
     let above : args.low < rank_at (suc args.last) args.letters.now at.at =
     subst (λ (x : ℕ). args.low < x) (ranked c.before.before) c.if-r-low.false in (
@@ -221,12 +216,11 @@ shape_of-ranks c = search rules
 
 returns : tie.Need-returns invariant-loop decreases-loop
 returns c =
-    let start = c in
     let at = c.loop-at in
     record {
       passed = at.invariant.0;
       most = at.invariant.1;
-      found = λ h. absurd (omega (arith, start.requires.1.0.0));
+      found = λ h. absurd (omega (arith, c.requires.1.0.0));
       none = λ h. (λ l. absurd (omega (arith, c.loop-at-test.false)), at.invariant.3);
     }
 

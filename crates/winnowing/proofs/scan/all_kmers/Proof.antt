@@ -51,7 +51,8 @@ turn_read_block c = c.before.before.before.before.before
 abbrev read_block_pass_kmers_arg6 : tie.After-pass_kmers-arg-in-loop-base-2-1 invariant-loop decreases-loop → tie.After-read_block invariant-loop decreases-loop
 read_block_pass_kmers_arg6 c = c.before.before.before.before
 
-abbrev pass_kmers2_slice_known7 : tie.After-slice_known-in-loop-base-2-1 invariant-loop decreases-loop → tie.After-pass_kmers-s-in-loop-base invariant-loop decreases-loop
+abbrev pass_kmers2_slice_known7 : tie.After-slice_known-in-loop-base-2-1 invariant-loop decreases-loop
+    → tie.After-pass_kmers-s-in-loop-base invariant-loop decreases-loop
 pass_kmers2_slice_known7 c = c.before.before
 
 -- the first block ends in the run that it began in
@@ -75,16 +76,15 @@ same_turn c =
 inside : (c : tie.At-loop-base invariant-loop decreases-loop)
     → (c.loop-base.s.at + c.args.measures.last ≤ length c.args.letters.now)
     × (length c.args.letters.now ≤ letter_limit)
-inside c =
-    let start = c in (
-      omega (
-        arith,
-        c.loop-base.invariant.3.within,
-        same_first (pass_kmers_turn c),
-        (run_end_within start.args.letters.now start.args.reached.at start.requires.0.in_letters).1,
-      ),
-      start.requires.0.few,
-    )
+inside c = (
+  omega (
+    arith,
+    c.loop-base.invariant.3.within,
+    same_first (pass_kmers_turn c),
+    (run_end_within c.args.letters.now c.args.reached.at c.requires.0.in_letters).1,
+  ),
+  c.requires.0.few,
+)
 
 pass_kmers-s-requires : tie.Need-pass_kmers-s-requires invariant-loop decreases-loop
 pass_kmers-s-requires c κs = c.requires
@@ -183,13 +183,13 @@ overflow_add-result : tie.Need-overflow_add-result invariant-loop decreases-loop
 overflow_add-result c = omega (arith, inside c.before.before.before)
 
 shape_of-values : tie.Need-shape_of-values invariant-loop decreases-loop
-shape_of-values c = let at = c in at.loop-base.invariant.0.sized ∙ sym at.requires.0.block.sized
+shape_of-values c = c.loop-base.invariant.0.sized ∙ sym c.requires.0.block.sized
 
 shape_of-codes : tie.Need-shape_of-codes invariant-loop decreases-loop
-shape_of-codes c = let at = c in at.loop-base.invariant.5 ∙ at.pass_kmers-s.auto.codes
+shape_of-codes c = c.loop-base.invariant.5 ∙ c.pass_kmers-s.auto.codes
 
 shape_of-positions : tie.Need-shape_of-positions invariant-loop decreases-loop
-shape_of-positions c = let at = c in at.loop-base.invariant.6 ∙ at.pass_kmers-s.auto.positions
+shape_of-positions c = c.loop-base.invariant.6 ∙ c.pass_kmers-s.auto.positions
 
 returns : tie.Need-returns invariant-loop decreases-loop
 returns c =

@@ -85,13 +85,12 @@ inside : (c : Turn)
     → (c.loop-base.s.at + c.args.measures.last ≤ length c.args.letters.now)
     × (length c.args.letters.now ≤ letter_limit)
     × (c.args.measures.w ≤ c.loop-base.s.at)
-inside c =
-    let start = c in (
-      le_trans (rw (same_first (first c)) at c.loop-base.invariant.3.within)
-          (run_end_within start.args.letters.now start.args.reached.at start.requires.0.in_letters).1,
-      start.requires.0.few,
-      le_trans start.requires.1.1.0.2 (le_trans c.pass_windows-s.ensures.1.start c.loop-base.invariant.3.start),
-    )
+inside c = (
+  le_trans (rw (same_first (first c)) at c.loop-base.invariant.3.within)
+      (run_end_within c.args.letters.now c.args.reached.at c.requires.0.in_letters).1,
+  c.requires.0.few,
+  le_trans c.requires.1.1.0.2 (le_trans c.pass_windows-s.ensures.1.start c.loop-base.invariant.3.start),
+)
 
 pass_windows-s-requires : tie.Need-pass_windows-s-requires invariant-loop decreases-loop
 pass_windows-s-requires c κs = c.requires
@@ -235,16 +234,16 @@ overflow_add-result : tie.Need-overflow_add-result invariant-loop decreases-loop
 overflow_add-result c = let there = inside c.before.before.before in sum_fits there.0 there.1
 
 shape_of-values : tie.Need-shape_of-values invariant-loop decreases-loop
-shape_of-values c = let at = c in at.loop-base.invariant.0.sized ∙ sym at.requires.0.block.sized
+shape_of-values c = c.loop-base.invariant.0.sized ∙ sym c.requires.0.block.sized
 
 shape_of-ranks : tie.Need-shape_of-ranks invariant-loop decreases-loop
-shape_of-ranks c = let at = c in at.loop-base.invariant.5.0 ∙ at.pass_windows-s.auto.ranks
+shape_of-ranks c = c.loop-base.invariant.5.0 ∙ c.pass_windows-s.auto.ranks
 
 shape_of-codes : tie.Need-shape_of-codes invariant-loop decreases-loop
-shape_of-codes c = let at = c in at.loop-base.invariant.5.1 ∙ at.pass_windows-s.auto.codes
+shape_of-codes c = c.loop-base.invariant.5.1 ∙ c.pass_windows-s.auto.codes
 
 shape_of-positions : tie.Need-shape_of-positions invariant-loop decreases-loop
-shape_of-positions c = let at = c in at.loop-base.invariant.5.2 ∙ at.pass_windows-s.auto.positions
+shape_of-positions c = c.loop-base.invariant.5.2 ∙ c.pass_windows-s.auto.positions
 
 returns : tie.Need-returns invariant-loop decreases-loop
 returns c =

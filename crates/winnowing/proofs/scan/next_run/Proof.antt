@@ -37,9 +37,8 @@ loop-at-smaller c = omega (arith, c.loop-at-test.true)
 
 loop-at-preserved : tie.Need-loop-at-preserved invariant-loop decreases-loop
 loop-at-preserved c =
-    let turn = c in
-    let at = turn.loop-at in
-    let letters = turn.args.letters.now in
+    let at = c.loop-at in
+    let letters = c.args.letters.now in
     let taken = c.loop-at-test.true in (
       omega (arith, at.invariant.0),
       omega (arith, taken),

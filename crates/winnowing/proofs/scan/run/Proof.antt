@@ -46,9 +46,8 @@ inside : (c : Read)
     × (run_end c.args.letters.now c.args.place.at ≤ length c.args.letters.now)
     × (length c.args.letters.now ≤ letter_limit)
 inside c =
-    let start = c in
-    let there = run_end_within start.args.letters.now start.args.place.at start.requires.0.0.in_letters in
-    (c.covering-base.ensures.1, c.covering-base.ensures.2, there.0, there.1, start.requires.0.0.few)
+    let there = run_end_within c.args.letters.now c.args.place.at c.requires.0.0.in_letters in
+    (c.covering-base.ensures.1, c.covering-base.ensures.2, there.0, there.1, c.requires.0.0.few)
 
 overflow_add-from : tie.Need-overflow_add-from
 overflow_add-from c = search rules
@@ -67,12 +66,11 @@ covering-base-requires c κs =
 first_letters-begun-requires : tie.Need-first_letters-begun-requires
 first_letters-begun-requires c κs =
     let cover = c.covering-base.ensures in
-    let start = c in
-    let pre = start.requires.0.0 in (
+    let pre = c.requires.0.0 in (
       record { block = cover.0; in_letters = pre.in_letters; few = pre.few; short = pre.short },
       record {
         begins = cover.1;
-        ends = le_trans (le-add_right (start.args.place.at + start.args.measures.last) start.args.measures.w) cover.2;
+        ends = le_trans (le-add_right (c.args.place.at + c.args.measures.last) c.args.measures.w) cover.2;
       },
     )
 
@@ -154,8 +152,7 @@ all_kmers-requires c κs =
 
 shape_of-values-then-measures-eq1 : tie.Need-shape_of-values-then-measures-eq1
 shape_of-values-then-measures-eq1 c =
-    let all = c in
-    all.all_kmers.auto.values ∙ all.covering-base.auto.values
+    c.all_kmers.auto.values ∙ c.covering-base.auto.values
 
 shape_of-codes-then-measures-eq1 : tie.Need-shape_of-codes-then-measures-eq1
 shape_of-codes-then-measures-eq1 c = c.all_kmers.auto.codes
@@ -165,12 +162,11 @@ shape_of-positions-then-measures-eq1 c = c.all_kmers.auto.positions
 
 returns-then-measures-eq1 : tie.Need-returns-then-measures-eq1
 returns-then-measures-eq1 c =
-    let all = c in
-    let passed = all.all_kmers.ensures in
-    let args = all.args in
+    let passed = c.all_kmers.ensures in
+    let args = c.args in
     let letters = args.letters.now in
     let from = args.place.at in
-    let one = all.if-measures-eq1.true in
+    let one = c.if-measures-eq1.true in
     let same = run_ones args.measures.last letters from (run_end letters from - args.measures.last) in
     record {
       block = passed.block;
@@ -196,8 +192,7 @@ run_windows-requires c κs =
 
 shape_of-values : tie.Need-shape_of-values
 shape_of-values c =
-    let all = c in
-    all.run_windows.auto.values ∙ all.covering-base.auto.values
+    c.run_windows.auto.values ∙ c.covering-base.auto.values
 
 shape_of-ranks : tie.Need-shape_of-ranks
 shape_of-ranks c = c.run_windows.auto.ranks

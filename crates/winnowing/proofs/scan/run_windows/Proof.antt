@@ -49,15 +49,14 @@ all_known11 c = c.before.before.before.before.before.before.before.before
 -- ---- the first window
 
 first_window-full-requires : tie.Need-first_window-full-requires
-first_window-full-requires c κs =
-    let start = c in (
-      (start.requires.0, start.requires.1.0),
-      (
-        (start.requires.1.1.0.1, start.requires.1.1.1.0.within),
-        scanned_none start.args.measures.last start.args.base start.args.letters.now start.args.ranks.now start.args.begun.at
-            start.args.begun.code start.requires.1.1.0.2 start.requires.1.0.begins start.requires.1.1.1.1,
-      ),
-    )
+first_window-full-requires c κs = (
+  (c.requires.0, c.requires.1.0),
+  (
+    (c.requires.1.1.0.1, c.requires.1.1.1.0.within),
+    scanned_none c.args.measures.last c.args.base c.args.letters.now c.args.ranks.now c.args.begun.at
+        c.args.begun.code c.requires.1.1.0.2 c.requires.1.0.begins c.requires.1.1.1.1,
+  ),
+)
 
 -- the place behind it: in the block and in the run
 inside : (c : Window)
@@ -69,15 +68,14 @@ inside : (c : Window)
     × (c.args.base ≤ c.args.begun.at)
     × (c.args.begun.at + c.args.measures.last + c.args.measures.w ≤ c.args.base + block_size)
 inside c =
-    let start = c in
     let filled = c.first_window-full.ensures in (
       filled.start,
       filled.most,
       filled.within,
-      (run_end_within start.args.letters.now start.args.begun.at start.requires.0.in_letters).1,
-      start.requires.0.few,
-      start.requires.1.0.begins,
-      start.requires.1.0.ends,
+      (run_end_within c.args.letters.now c.args.begun.at c.requires.0.in_letters).1,
+      c.requires.0.few,
+      c.requires.1.0.begins,
+      c.requires.1.0.ends,
     )
 
 overflow_add-at : tie.Need-overflow_add-at
@@ -157,12 +155,11 @@ searched : (c : tie.After-put_lowest-found)
     × (unrank c.put_lowest-found.result.rank
     ≡ code_at (suc c.args.measures.last) c.args.letters.now c.put_lowest-found.result.at)
 searched c =
-    let slot = c in
     let window = window_put c in
     let args = window.args in
     let from = args.begun.at in
     let result = window.first_window-full.result in
-    let same = slot.slot-to.ensures.0 in
+    let same = c.slot-to.ensures.0 in
     let there = inside window in
     let found = c.put_lowest-found.ensures in
     let kmers = first_kmers there.0 there.1 window.requires.1.1.0.1 in
@@ -284,18 +281,15 @@ shape_of-values c = c.all_windows.auto.values
 
 shape_of-ranks : tie.Need-shape_of-ranks
 shape_of-ranks c =
-    let all = c in
-    all.all_windows.auto.ranks ∙ all.first_window-full.auto.ranks
+    c.all_windows.auto.ranks ∙ c.first_window-full.auto.ranks
 
 shape_of-codes : tie.Need-shape_of-codes
 shape_of-codes c =
-    let all = c in
-    all.all_windows.auto.codes ∙ all.put_lowest-found.auto.codes
+    c.all_windows.auto.codes ∙ c.put_lowest-found.auto.codes
 
 shape_of-positions : tie.Need-shape_of-positions
 shape_of-positions c =
-    let all = c in
-    all.all_windows.auto.positions ∙ all.put_lowest-found.auto.positions
+    c.all_windows.auto.positions ∙ c.put_lowest-found.auto.positions
 
 returns : tie.Need-returns
 returns c =

@@ -87,12 +87,11 @@ ended : (c : tie.After-run-end invariant-loop decreases-loop)
     × (c.run-end.result.at ≤ length c.args.letters.now)
     × (length c.args.letters.now ≤ letter_limit)
 ended c =
-    let turn = c in
-    let letters = turn.args.letters.now in
-    let h : turn.loop-at.at ≤ length letters = le_of_lt c.loop-at-test.true in
-    let there = run_end_within letters turn.loop-at.at h in
+    let letters = c.args.letters.now in
+    let h : c.loop-at.at ≤ length letters = le_of_lt c.loop-at-test.true in
+    let there = run_end_within letters c.loop-at.at h in
     let passed = run_ended c.run-end.ensures.ended there.0 there.1 in
-    (h, passed.0, passed.1, turn.requires.0.4)
+    (h, passed.0, passed.1, c.requires.0.4)
 
 overflow_add-end : tie.Need-overflow_add-end invariant-loop decreases-loop
 overflow_add-end c = omega (arith, ended (run_struct c))
@@ -140,10 +139,9 @@ shape_of-positions c = c.loop-at.invariant.3.1
 returns : tie.Need-returns invariant-loop decreases-loop
 unfolding sketch sketch_from
 returns c =
-    let start = c in
-    let args = start.args in
+    let args = c.args in
     let at = c.loop-at in
-    let first = c.next_run-at.ensures.2 args.k args.w start.requires.0.0 start.requires.0.2 in
+    let first = c.next_run-at.ensures.2 args.k args.w c.requires.0.0 c.requires.0.2 in
     ap (written args.room at.n at.codes at.positions)
     (sym (sketch_from_end args.k args.w at.at args.letters.now c.loop-at-test.false))
     ∙ at.invariant.4

@@ -60,8 +60,7 @@ inside : (c : tie.At-loop-p invariant-loop decreases-loop)
     × (length c.args.letters.now ≤ letter_limit)
     × (c.loop-p.p + c.args.measures.last ≤ run_end c.args.letters.now c.args.reached.at)
 inside c =
-    let start = c in
-    ((run_end_within start.args.letters.now start.args.reached.at start.requires.0.in_letters).1, start.requires.0.few, c.loop-p.invariant.1.within)
+    ((run_end_within c.args.letters.now c.args.reached.at c.requires.0.in_letters).1, c.requires.0.few, c.loop-p.invariant.1.within)
 
 overflow_add-end : tie.Need-overflow_add-end invariant-loop decreases-loop
 overflow_add-end c = search rules
@@ -79,10 +78,9 @@ overflow_add-p c = search rules
 
 value_at-v-requires : tie.Need-value_at-v-requires invariant-loop decreases-loop
 value_at-v-requires c κs =
-    let start = c in
     let there = inside c.before in (
-      start.requires.0.block,
-      (omega (arith, start.requires.1.0.begins, c.loop-p.invariant.1.start), omega (arith, c.loop-p-test.true), omega arith),
+      c.requires.0.block,
+      (omega (arith, c.requires.1.0.begins, c.loop-p.invariant.1.start), omega (arith, c.loop-p-test.true), omega arith),
     )
 
 shape_of-codes-then-v-eq-FOREIGN : tie.Need-shape_of-codes-then-v-eq-FOREIGN invariant-loop decreases-loop
@@ -93,12 +91,11 @@ shape_of-positions-then-v-eq-FOREIGN c = search rules
 
 returns-then-v-eq-FOREIGN : tie.Need-returns-then-v-eq-FOREIGN invariant-loop decreases-loop
 returns-then-v-eq-FOREIGN c =
-    let at = c in
-    let args = at.args in
-    let is = at.loop-p.invariant in (
+    let args = c.args in
+    let is = c.loop-p.invariant in (
       record {
         most = is.0;
-        ended = λ h. end_here args.letters.now args.reached.at (at.loop-p.p + args.measures.last) (omega (arith, is.1.start)) is.1.within
+        ended = λ h. end_here args.letters.now args.reached.at (c.loop-p.p + args.measures.last) (omega (arith, is.1.start)) is.1.within
             (sym c.value_at-v.ensures ∙ c.if-v-eq-FOREIGN.true);
       },
       is.1,
@@ -112,10 +109,9 @@ goes_on : (c : tie.Else-v-eq-FOREIGN invariant-loop decreases-loop)
     < run_end c.args.letters.now c.args.reached.at)
     × (c.value_at-v.result < 4)
 goes_on c =
-    let at = c in
-    let args = at.args in
-    run_goes_on args.letters.now args.reached.at (at.loop-p.p + args.measures.last) (omega (arith, at.loop-p.invariant.1.start))
-    at.loop-p.invariant.1.within c.value_at-v.result c.value_at-v.ensures c.if-v-eq-FOREIGN.false
+    let args = c.args in
+    run_goes_on args.letters.now args.reached.at (c.loop-p.p + args.measures.last) (omega (arith, c.loop-p.invariant.1.start))
+    c.loop-p.invariant.1.within c.value_at-v.result c.value_at-v.ensures c.if-v-eq-FOREIGN.false
 
 next_code-code-requires : tie.Need-next_code-code-requires invariant-loop decreases-loop
 next_code-code-requires c κs = (c.requires.0.short, c.loop-p.invariant.2.code_below, (goes_on c).1)

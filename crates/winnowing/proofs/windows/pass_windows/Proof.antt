@@ -81,31 +81,28 @@ inside : (c : Turn)
     × (c.args.measures.w ≤ c.loop-low.p)
     × (c.loop-low.p ≤ c.loop-low.low_at + c.args.measures.w)
     × (c.loop-low.low_at < c.loop-low.p)
-inside c =
-    let start = c in (
-      omega (arith, start.requires.1.0.begins, c.loop-low.invariant.1.start),
-      c.loop-low.invariant.1.within,
-      (run_end_within start.args.letters.now start.args.reached.at start.requires.0.in_letters).1,
-      start.requires.0.few,
-      omega (arith, start.requires.1.1.0, c.loop-low.invariant.1.start),
-      omega (arith, c.loop-low.invariant.2.is_lowest.first),
-      c.loop-low.invariant.2.is_lowest.last,
-    )
+inside c = (
+  omega (arith, c.requires.1.0.begins, c.loop-low.invariant.1.start),
+  c.loop-low.invariant.1.within,
+  (run_end_within c.args.letters.now c.args.reached.at c.requires.0.in_letters).1,
+  c.requires.0.few,
+  omega (arith, c.requires.1.1.0, c.loop-low.invariant.1.start),
+  omega (arith, c.loop-low.invariant.2.is_lowest.first),
+  c.loop-low.invariant.2.is_lowest.last,
+)
 
 same_run : (c : Turn) → run_end c.args.letters.now c.loop-low.p ≡ run_end c.args.letters.now c.args.reached.at
 same_run c =
-    let start = c in
-    run_end_same start.args.letters.now start.args.reached.at c.loop-low.p c.loop-low.invariant.1.start (omega (arith, inside c))
+    run_end_same c.args.letters.now c.args.reached.at c.loop-low.p c.loop-low.invariant.1.start (omega (arith, inside c))
 
 overflow_add-end : tie.Need-overflow_add-end invariant-loop decreases-loop
 overflow_add-end c =
-    let start = c in
     omega (
       arith,
-      start.requires.1.0.begins,
-      run_end_within start.args.letters.now start.args.reached.at start.requires.0.in_letters,
-      start.requires.1.1.1.0.within,
-      start.requires.0.few,
+      c.requires.1.0.begins,
+      run_end_within c.args.letters.now c.args.reached.at c.requires.0.in_letters,
+      c.requires.1.1.1.0.within,
+      c.requires.0.few,
     )
 
 overflow_sub-end : tie.Need-overflow_sub-end invariant-loop decreases-loop
@@ -113,8 +110,7 @@ overflow_sub-end c = omega (arith, c.requires.0.short)
 
 loop-low-init : tie.Need-loop-low-init invariant-loop decreases-loop
 loop-low-init c =
-    let start = c in
-    (start.requires.1.0.ends, start.requires.1.1.1.0, start.requires.1.1.1.1, (refl, refl, refl), λ es. refl)
+    (c.requires.1.0.ends, c.requires.1.1.1.0, c.requires.1.1.1.1, (refl, refl, refl), λ es. refl)
 
 overflow_add-leaves : tie.Need-overflow_add-leaves invariant-loop decreases-loop
 overflow_add-leaves c = omega (arith, inside c.before, c.requires.1.1.0)
@@ -256,7 +252,11 @@ loop-low-preserved-then-read-low c =
         is_lowest = new.0;
         is_rank = found.2;
       },
-      (read.read_above-read.auto.ranks ∙ turn.loop-low.invariant.3.0, put.auto.codes ∙ turn.loop-low.invariant.3.1, put.auto.positions ∙ turn.loop-low.invariant.3.2),
+      (
+        read.read_above-read.auto.ranks ∙ turn.loop-low.invariant.3.0,
+        put.auto.codes ∙ turn.loop-low.invariant.3.1,
+        put.auto.positions ∙ turn.loop-low.invariant.3.2,
+      ),
       λ es. new.1 es ∙ turn.loop-low.invariant.4 es,
     )
 
@@ -264,8 +264,7 @@ loop-low-preserved-then-read-low c =
 
 shape_of-ranks-then-p-leaves : tie.Need-shape_of-ranks-then-p-leaves invariant-loop decreases-loop
 shape_of-ranks-then-p-leaves c =
-    let read = c in
-    read.read_above-read.auto.ranks ∙ read.loop-low.invariant.3.0
+    c.read_above-read.auto.ranks ∙ c.loop-low.invariant.3.0
 
 shape_of-codes-then-p-leaves : tie.Need-shape_of-codes-then-p-leaves invariant-loop decreases-loop
 shape_of-codes-then-p-leaves c = c.loop-low.invariant.3.1

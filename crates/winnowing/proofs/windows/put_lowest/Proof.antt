@@ -32,9 +32,8 @@ unrank-requires c κs = search rules
 
 put-entries-requires : tie.Need-put-entries-requires
 put-entries-requires c κs =
-    let found = c in
-    let pre = found.requires.1 in
-    (pre.0, pre.1, omega (arith, found.lowest-found.ensures.last, found.lowest-found.ensures.first, found.requires.0))
+    let pre = c.requires.1 in
+    (pre.0, pre.1, omega (arith, c.lowest-found.ensures.last, c.lowest-found.ensures.first, c.requires.0))
 
 shape_of-codes : tie.Need-shape_of-codes
 shape_of-codes c = c.put-entries.auto.codes
