@@ -60,11 +60,11 @@ module _ (bytes : List ℕ) (w : is_well_formed (lines bytes) ≡ true) where
       let b : length (behind₂ bytes) ≡ length (behind₁ bytes) - suc (length (second bytes)) =
       length-drop (suc (length (second bytes))) (behind₁ bytes) in
       record {
-        text-order = omega arith;
-        text-inside = omega (arith, first_is, ap length second_is, these.one, these.two);
-        text-short = omega (arith, limits.2);
-        read-order = omega arith;
-        read-inside = omega (arith, first_is, ap length second_is, ap length third_is, these.one, these.two, these.three);
+        text_order = omega arith;
+        text_inside = omega (arith, first_is, ap length second_is, these.one, these.two);
+        text_short = omega (arith, limits.2);
+        read_order = omega arith;
+        read_inside = omega (arith, first_is, ap length second_is, ap length third_is, these.one, these.two, these.three);
         read_short = omega (arith, limits.3);
       }
 

@@ -77,18 +77,18 @@ part from end bytes = take (end - from) (drop from bytes)
 -- the input that a request stands for
 abbrev pub request_input : Request → List ℕ → Input
 request_input no_request bytes = malformed
-request_input (request k w c scoring text text-end read read-end) bytes =
-    given (record { k = k; w = w; c = c; scoring = scoring }) (part text text-end bytes) (part read read-end bytes)
+request_input (request k w c scoring text text_end read read_end) bytes =
+    given (record { k = k; w = w; c = c; scoring = scoring }) (part text text_end bytes) (part read read_end bytes)
 
 -- the two lines lie within the bytes, and are not too long
-pub record LinesInside (text text-end read read-end : ℕ) (bytes : List ℕ) : Type 0 where
-  pub text-order : text ≤ text-end
-  pub text-inside : text-end ≤ length bytes
-  pub text-short : text-end - text ≤ line_limit
-  pub read-order : read ≤ read-end
-  pub read-inside : read-end ≤ length bytes
-  pub read_short : read-end - read ≤ line_limit
+pub record LinesInside (text text_end read read_end : ℕ) (bytes : List ℕ) : Type 0 where
+  pub text_order : text ≤ text_end
+  pub text_inside : text_end ≤ length bytes
+  pub text_short : text_end - text ≤ line_limit
+  pub read_order : read ≤ read_end
+  pub read_inside : read_end ≤ length bytes
+  pub read_short : read_end - read ≤ line_limit
 
 abbrev pub Inside : Request → List ℕ → Type 0
 Inside no_request bytes = Unit {0}
-Inside (request k w c scoring text text-end read read-end) bytes = LinesInside text text-end read read-end bytes
+Inside (request k w c scoring text text_end read read_end) bytes = LinesInside text text_end read read_end bytes

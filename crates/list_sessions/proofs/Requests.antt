@@ -24,16 +24,16 @@ module _ (bytes : List ℕ) (answer : Request) (read : answer ≡ request_of byt
       subst (λ (i : Input). OpensBoth i places forward reverse Malformed places forward reverse) input
       (record { answer = refl; positions_after = refl; forward_after = refl; reverse_after = refl })
 
-  module _ (k w c : ℕ) (scoring : Scoring) (text text-end line line-end : ℕ) (e : answer ≡ request k w c scoring text text-end line line-end)
+  module _ (k w c : ℕ) (scoring : Scoring) (text text_end line line_end : ℕ) (e : answer ≡ request k w c scoring text text_end line line_end)
     where
-      pub lines_inside : LinesInside text text-end line line-end bytes
+      pub lines_inside : LinesInside text text_end line line_end bytes
       lines_inside = subst (λ (a : Request). Inside a bytes) e (subst (λ (a : Request). Inside a bytes) (sym read) (request_inside bytes))
 
       pub opens_given : (places forward reverse : List ℕ) (r : Sessions) (places' forward' reverse' : List ℕ)
-          → OpensBoth (given (record { k = k; w = w; c = c; scoring = scoring }) (part text text-end bytes) (part line line-end bytes)) places forward
+          → OpensBoth (given (record { k = k; w = w; c = c; scoring = scoring }) (part text text_end bytes) (part line line_end bytes)) places forward
           reverse r places' forward' reverse'
           → OpensBoth (input_of bytes) places forward reverse r places' forward' reverse'
       opens_given places forward reverse r places' forward' reverse' o =
-          let input : given (record { k = k; w = w; c = c; scoring = scoring }) (part text text-end bytes) (part line line-end bytes) ≡ input_of bytes =
+          let input : given (record { k = k; w = w; c = c; scoring = scoring }) (part text text_end bytes) (part line line_end bytes) ≡ input_of bytes =
           subst (λ (a : Request). request_input a bytes ≡ input_of bytes) e stands_for in
           subst (λ (i : Input). OpensBoth i places forward reverse r places' forward' reverse') input o

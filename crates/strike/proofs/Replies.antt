@@ -113,7 +113,7 @@ module _ (deciding cs ps : List ℕ) (c : ℕ) (codes₀ positions₀ : List ℕ
       → (refused number values ≡ reply)
       × ((codes₀ ≡ strike_codes deciding cs ps c codes₀ positions₀) × (positions₀ ≡ strike_positions deciding cs ps c codes₀ positions₀))
   unfolding strike_codes strike_positions
-  refused_leaves number values e = (
+  refused_leaves refusal values e = (
     sym e,
     (
       sym (ap (λ (r : Reply). after r (codes (strike deciding c (entries cs ps))) codes₀) e),

@@ -33,39 +33,39 @@ put_first room n code position n' cs ps cs' ps' is es = rw (is.counted, is.codes
 module _ (last base : ℕ) (letters ranks : List ℕ) (first at code : ℕ) (scanned : Scanned last base letters ranks first at code)
     (begins : base ≤ at + last) where
   -- the lowest of the last n slots is that of the last n positions, and its code is taken back from its rank
-  pub slot_lowest : (n low-at low : ℕ) → n ≤ back_size → first + n ≤ at → at ≤ slot_of last base at + low-at
-      → IsLowest (λ (i : ℕ). get_or ranks i 0) (slot_of last base at - n) (slot_of last base at) (slot_of last base at - (at - low-at))
-      → low ≡ get_or ranks (slot_of last base at - (at - low-at)) 0
-      → IsLowest (rank_at (suc last) letters) (at - n) at low-at × (low ≡ rank_at (suc last) letters low-at)
-      × (unrank low ≡ code_at (suc last) letters low-at)
+  pub slot_lowest : (n low_at low : ℕ) → n ≤ back_size → first + n ≤ at → at ≤ slot_of last base at + low_at
+      → IsLowest (λ (i : ℕ). get_or ranks i 0) (slot_of last base at - n) (slot_of last base at) (slot_of last base at - (at - low_at))
+      → low ≡ get_or ranks (slot_of last base at - (at - low_at)) 0
+      → IsLowest (rank_at (suc last) letters) (at - n) at low_at × (low ≡ rank_at (suc last) letters low_at)
+      × (unrank low ≡ code_at (suc last) letters low_at)
   unfolding rank_at
-  slot_lowest n low-at low few known near is e =
+  slot_lowest n low_at low few known near is e =
       (record { first = from; last = to; left = left; right = right }, e ∙ lowest_rank, ap unrank (e ∙ lowest_rank) ∙ back)
     where
       reaches : base ≤ first + last + back_size
       reaches = scanned.reaches
 
-      to : low-at < at
+      to : low_at < at
       to = omega (arith, is.last)
 
-      from : at - n ≤ low-at
+      from : at - n ≤ low_at
       from = omega (arith, is.first, to)
 
-      there : slot_of last base at - (at - low-at) ≡ slot_of last base low-at
+      there : slot_of last base at - (at - low_at) ≡ slot_of last base low_at
       there = omega (arith, from, to)
 
-      lowest_rank : get_or ranks (slot_of last base at - (at - low-at)) 0 ≡ rank_at (suc last) letters low-at
-      lowest_rank = ap (λ (i : ℕ). get_or ranks i 0) there ∙ scanned.ranked low-at (omega (arith, from)) to
+      lowest_rank : get_or ranks (slot_of last base at - (at - low_at)) 0 ≡ rank_at (suc last) letters low_at
+      lowest_rank = ap (λ (i : ℕ). get_or ranks i 0) there ∙ scanned.ranked low_at (omega (arith, from)) to
 
-      back : unrank (rank_at (suc last) letters low-at) ≡ code_at (suc last) letters low-at
-      back = unrank_rank (code_at (suc last) letters low-at) (scanned.small low-at (omega (arith, from)) to)
+      back : unrank (rank_at (suc last) letters low_at) ≡ code_at (suc last) letters low_at
+      back = unrank_rank (code_at (suc last) letters low_at) (scanned.small low_at (omega (arith, from)) to)
 
-      left : (q : ℕ) → at - n ≤ q → q < low-at → rank_at (suc last) letters low-at ≤ rank_at (suc last) letters q
+      left : (q : ℕ) → at - n ≤ q → q < low_at → rank_at (suc last) letters low_at ≤ rank_at (suc last) letters q
       left q h l =
           subst₂ (λ (x y : ℕ). x ≤ y) lowest_rank (scanned.ranked q (omega arith) (omega (arith, to)))
           (is.left (slot_of last base q) (omega (arith, to)) (omega (arith, there)))
 
-      right : (q : ℕ) → low-at < q → q < at → rank_at (suc last) letters low-at < rank_at (suc last) letters q
+      right : (q : ℕ) → low_at < q → q < at → rank_at (suc last) letters low_at < rank_at (suc last) letters q
       right q h l =
           subst₂ (λ (x y : ℕ). x < y) lowest_rank (scanned.ranked q (omega (arith, from)) l)
           (is.right (slot_of last base q) (omega (arith, there)) (omega (arith, from)))
@@ -93,67 +93,67 @@ module _ (last w room to : ℕ) (letters : List ℕ) (some : 1 ≤ w) (i b p : �
 
 -- ---- windows with the same lowest
 
-module _ (last w room : ℕ) (letters : List ℕ) (from : ℕ) (some : 1 ≤ w) (low-at low : ℕ) (is_rank : low ≡ rank_at (suc last) letters low-at) where
+module _ (last w room : ℕ) (letters : List ℕ) (from : ℕ) (some : 1 ≤ w) (low_at low : ℕ) (is_rank : low ≡ rank_at (suc last) letters low_at) where
   -- one window more
-  kept_one : (p : ℕ) → w ≤ p → IsLowest (rank_at (suc last) letters) (p - w) p low-at → p < low-at + w → p + last < run_end letters from
+  kept_one : (p : ℕ) → w ≤ p → IsLowest (rank_at (suc last) letters) (p - w) p low_at → p < low_at + w → p + last < run_end letters from
       → low < rank_at (suc last) letters p
-      → IsLowest (rank_at (suc last) letters) (suc p - w) (suc p) low-at
-      × (to_pick last w letters from (suc (p - w)) (suc low-at) ≡ to_pick last w letters from (suc (suc p - w)) (suc low-at))
+      → IsLowest (rank_at (suc last) letters) (suc p - w) (suc p) low_at
+      × (to_pick last w letters from (suc (p - w)) (suc low_at) ≡ to_pick last w letters from (suc (suc p - w)) (suc low_at))
   kept_one p wide is stays within above =
       let next : suc p - w ≡ suc (p - w) = omega arith in
-      let lowest : IsLowest (rank_at (suc last) letters) (suc (p - w)) (suc p) low-at =
-      lowest_moved (rank_at (suc last) letters) (p - w) (suc p) low-at
-      (lowest_kept (rank_at (suc last) letters) (p - w) p low-at is (subst (λ (x : ℕ). x < rank_at (suc last) letters p) is_rank above))
+      let lowest : IsLowest (rank_at (suc last) letters) (suc (p - w)) (suc p) low_at =
+      lowest_moved (rank_at (suc last) letters) (p - w) (suc p) low_at
+      (lowest_kept (rank_at (suc last) letters) (p - w) p low_at is (subst (λ (x : ℕ). x < rank_at (suc last) letters p) is_rank above))
       (omega (arith, is.last)) in (
         rw next lowest,
         rw next
-            (window_old last w room (run_end letters from - last) letters some (suc (p - w)) (suc p) low-at (omega arith) (omega arith) lowest
-            (suc low-at) (le_refl (suc low-at))),
+            (window_old last w room (run_end letters from - last) letters some (suc (p - w)) (suc p) low_at (omega arith) (omega arith) lowest
+            (suc low_at) (le_refl (suc low_at))),
       )
 
   -- any number of them
-  kept_many : (n p : ℕ) → w ≤ p → IsLowest (rank_at (suc last) letters) (p - w) p low-at → p + n ≤ low-at + w
+  kept_many : (n p : ℕ) → w ≤ p → IsLowest (rank_at (suc last) letters) (p - w) p low_at → p + n ≤ low_at + w
       → p + n + last ≤ run_end letters from
       → ((q : ℕ) → p ≤ q → q < p + n → low < rank_at (suc last) letters q)
-      → IsLowest (rank_at (suc last) letters) (p + n - w) (p + n) low-at
-      × (to_pick last w letters from (suc (p - w)) (suc low-at) ≡ to_pick last w letters from (suc (p + n - w)) (suc low-at))
+      → IsLowest (rank_at (suc last) letters) (p + n - w) (p + n) low_at
+      × (to_pick last w letters from (suc (p - w)) (suc low_at) ≡ to_pick last w letters from (suc (p + n - w)) (suc low_at))
   kept_many zero p wide is stays within above = rw (add-zero p) (is, refl)
   kept_many (suc n) p wide is stays within above =
       let one = kept_one p wide is (omega arith) (omega arith) (above p (le_refl p) (omega arith)) in
       let many = kept_many n (suc p) (omega arith) one.0 (omega arith) (omega arith) (λ q a b. above q (omega arith) (omega arith)) in
       let same : suc p + n ≡ p + suc n = omega arith in
-      let picks : to_pick last w letters from (suc (p - w)) (suc low-at) ≡ to_pick last w letters from (suc (suc p + n - w)) (suc low-at) =
+      let picks : to_pick last w letters from (suc (p - w)) (suc low_at) ≡ to_pick last w letters from (suc (suc p + n - w)) (suc low_at) =
       one.1 ∙ many.1 in
       (rw same at many.0, rw same at picks)
 
   -- up to a position
-  pub kept : (p at : ℕ) → w ≤ p → IsLowest (rank_at (suc last) letters) (p - w) p low-at → p ≤ at → at ≤ low-at + w
+  pub kept : (p at : ℕ) → w ≤ p → IsLowest (rank_at (suc last) letters) (p - w) p low_at → p ≤ at → at ≤ low_at + w
       → at + last ≤ run_end letters from
       → ((q : ℕ) → p ≤ q → q < at → low < rank_at (suc last) letters q)
-      → IsLowest (rank_at (suc last) letters) (at - w) at low-at
-      × (to_pick last w letters from (suc (p - w)) (suc low-at) ≡ to_pick last w letters from (suc (at - w)) (suc low-at))
+      → IsLowest (rank_at (suc last) letters) (at - w) at low_at
+      × (to_pick last w letters from (suc (p - w)) (suc low_at) ≡ to_pick last w letters from (suc (at - w)) (suc low_at))
   kept p at wide is start stays within above =
       let same : p + (at - p) ≡ at = omega arith in
       rw same at (kept_many (at - p) p wide is (omega arith) (omega arith) (λ q a b. above q a (omega arith)))
 
 -- ---- windows with a new lowest
 
-module _ (last w room : ℕ) (letters : List ℕ) (from : ℕ) (some : 1 ≤ w) (low-at p at n n' code : ℕ) (cs ps cs' ps' : List ℕ) (wide : w ≤ at)
-    (picks_alike : to_pick last w letters from (suc (p - w)) (suc low-at) ≡ to_pick last w letters from (suc (at - w)) (suc low-at)) where
+module _ (last w room : ℕ) (letters : List ℕ) (from : ℕ) (some : 1 ≤ w) (low_at p at n n' code : ℕ) (cs ps cs' ps' : List ℕ) (wide : w ≤ at)
+    (picks_alike : to_pick last w letters from (suc (p - w)) (suc low_at) ≡ to_pick last w letters from (suc (at - w)) (suc low_at)) where
   -- the k-mer at the position is the lowest, and is put
-  pub put_new : IsLowest (rank_at (suc last) letters) (at - w) at low-at → at + last < run_end letters from
-      → rank_at (suc last) letters at ≤ rank_at (suc last) letters low-at → code ≡ code_at (suc last) letters at
+  pub put_new : IsLowest (rank_at (suc last) letters) (at - w) at low_at → at + last < run_end letters from
+      → rank_at (suc last) letters at ≤ rank_at (suc last) letters low_at → code ≡ code_at (suc last) letters at
       → IsPut room n code at n' cs ps cs' ps'
       → IsLowest (rank_at (suc last) letters) (at + 1 - w) (at + 1) at
-      × SameEnd room n' cs' ps' (to_pick last w letters from (suc (at + 1 - w)) (suc at)) n cs ps (to_pick last w letters from (suc (p - w)) (suc low-at))
+      × SameEnd room n' cs' ps' (to_pick last w letters from (suc (at + 1 - w)) (suc at)) n cs ps (to_pick last w letters from (suc (p - w)) (suc low_at))
   put_new is within below there put =
       let next : at + 1 - w ≡ suc (at - w) = omega arith in
       let lowest : IsLowest (rank_at (suc last) letters) (suc (at - w)) (suc at) at =
-      lowest_moved (rank_at (suc last) letters) (at - w) (suc at) at (lowest_new (rank_at (suc last) letters) (at - w) at low-at is below) (omega arith) in (
+      lowest_moved (rank_at (suc last) letters) (at - w) (suc at) at (lowest_new (rank_at (suc last) letters) (at - w) at low_at is below) (omega arith) in (
         rw (next, add-one at) lowest,
         λ es. rw (next, picks_alike)
             (window_new last w room (run_end letters from - last) letters some (suc (at - w)) (suc at) at (omega arith) (omega arith) lowest
-            (suc low-at) n code n' cs ps cs' ps' is.last there put es),
+            (suc low_at) n code n' cs ps cs' ps' is.last there put es),
       )
 
 -- ---- one block more

@@ -101,15 +101,15 @@ pub left_at : {at stop leaves : ℕ} → leaves ≤ at → at ≤ stop → stop 
 left_at h most stops = omega arith
 
 -- the window behind the lowest
-pub behind : {at : ℕ} (low-at w : ℕ) → at ≡ low-at + w + 1
-    → (suc (low-at + w - w) ≡ at - w) × (suc low-at ≡ at - w) × (low-at + w ≤ at) × (suc low-at + w ≤ at)
-behind low-at w left = (omega arith, omega arith, omega arith, omega arith)
+pub behind : {at : ℕ} (low_at w : ℕ) → at ≡ low_at + w + 1
+    → (suc (low_at + w - w) ≡ at - w) × (suc low_at ≡ at - w) × (low_at + w ≤ at) × (suc low_at + w ≤ at)
+behind low_at w left = (omega arith, omega arith, omega arith, omega arith)
 
 pub behind_left : {p leaves at : ℕ} → p ≤ leaves → at ≡ leaves + 1 → p < at
 behind_left h left = omega arith
 
 -- what stands behind the lowest stands behind the next one
-pub first_behind : {low-at first at : ℕ} → suc low-at ≡ first → first ≤ at → suc low-at ≤ suc at
+pub first_behind : {low_at first at : ℕ} → suc low_at ≡ first → first ≤ at → suc low_at ≤ suc at
 first_behind same h = omega arith
 
 -- a window of the run
@@ -145,7 +145,7 @@ pub slots_between : {from at to base : ℕ} (last : ℕ) → from < at → base 
 slots_between last some begins there = (omega arith, omega arith, omega arith)
 
 -- the ranks of a window are among those that are taken to the next block
-pub back_in_slots : {at low-at : ℕ} (w : ℕ) → at - w ≤ low-at → w ≤ back_size → at ≤ suc low-at + back_size
+pub back_in_slots : {at low_at : ℕ} (w : ℕ) → at - w ≤ low_at → w ≤ back_size → at ≤ suc low_at + back_size
 back_in_slots w first small = omega arith
 
 -- ---- what a word holds

@@ -111,11 +111,11 @@ pub record Standing (last room : ℕ) (letters : List ℕ) (from : ℕ) (cs ps :
   pub counted : n ≤ at
   pub has_room : HasRoom room cs ps
 
--- the window that ends before position `at` has its lowest at low-at, with this rank, and the ranks behind that one stand in their slots
-pub record Picking (last base w : ℕ) (letters ranks : List ℕ) (at code low-at low : ℕ) : Type 0 where
-  pub scanned : Scanned last base letters ranks (suc low-at) at code
-  pub is_lowest : IsLowest (rank_at (suc last) letters) (at - w) at low-at
-  pub is_rank : low ≡ rank_at (suc last) letters low-at
+-- the window that ends before position `at` has its lowest at low_at, with this rank, and the ranks behind that one stand in their slots
+pub record Picking (last base w : ℕ) (letters ranks : List ℕ) (at code low_at low : ℕ) : Type 0 where
+  pub scanned : Scanned last base letters ranks (suc low_at) at code
+  pub is_lowest : IsLowest (rank_at (suc last) letters) (at - w) at low_at
+  pub is_rank : low ≡ rank_at (suc last) letters low_at
 
 -- the k-mers up to the end of the block are passed, or up to the end of the run where that is in it
 pub record PassesBlock (last base : ℕ) (letters : List ℕ) (from at : ℕ) : Type 0 where

@@ -38,22 +38,22 @@ enum_known-k : tie.Need-enum_known-k
 enum_known-k c = search rules
 
 slice_bounds-open_both-count : tie.Need-slice_bounds-open_both-count
-slice_bounds-open_both-count c = (lines_lie c).text-order
+slice_bounds-open_both-count c = (lines_lie c).text_order
 
 slice_bounds-open_both-start : tie.Need-slice_bounds-open_both-start
-slice_bounds-open_both-start c = (lines_lie c).text-order
+slice_bounds-open_both-start c = (lines_lie c).text_order
 
 slice_bounds-open_both-end : tie.Need-slice_bounds-open_both-end
-slice_bounds-open_both-end c = (lines_lie c).text-inside
+slice_bounds-open_both-end c = (lines_lie c).text_inside
 
 slice_bounds-open_both-count-in-Given : tie.Need-slice_bounds-open_both-count-in-Given
-slice_bounds-open_both-count-in-Given c = (lines_lie c.before).read-order
+slice_bounds-open_both-count-in-Given c = (lines_lie c.before).read_order
 
 slice_bounds-open_both-start-in-Given : tie.Need-slice_bounds-open_both-start-in-Given
-slice_bounds-open_both-start-in-Given c = (lines_lie c.before).read-order
+slice_bounds-open_both-start-in-Given c = (lines_lie c.before).read_order
 
 slice_bounds-open_both-end-in-Given : tie.Need-slice_bounds-open_both-end-in-Given
-slice_bounds-open_both-end-in-Given c = (lines_lie c.before).read-inside
+slice_bounds-open_both-end-in-Given c = (lines_lie c.before).read_inside
 
 open_both-requires : tie.Need-open_both-requires
 open_both-requires c κs = part_short _ _ _ _ (lines_lie (told (at_lines c))).read_short

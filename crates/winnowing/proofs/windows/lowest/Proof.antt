@@ -16,10 +16,10 @@ abbrev in_slot : List ℕ → ℕ → ℕ
 in_slot ranks i = get_or ranks i 0
 
 abbrev invariant-loop : tie.invariant-loop-i
-invariant-loop ranks from to low-at₀ low₀ i₀ low-at low i = (i ≤ to) × IsLowest (in_slot ranks) from i low-at × (low ≡ in_slot ranks low-at)
+invariant-loop ranks from to low_at₀ low₀ i₀ low_at low i = (i ≤ to) × IsLowest (in_slot ranks) from i low_at × (low ≡ in_slot ranks low_at)
 
 abbrev decreases-loop : tie.decreases-loop-i
-decreases-loop ranks from to low-at₀ low₀ i₀ low-at low i = to - i
+decreases-loop ranks from to low_at₀ low₀ i₀ low_at low i = to - i
 
 offset_bounds-ranks-from : tie.Need-offset_bounds-ranks-from invariant-loop decreases-loop
 offset_bounds-ranks-from c = search rules

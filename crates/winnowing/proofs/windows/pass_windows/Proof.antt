@@ -21,16 +21,16 @@ use Rattle.winnowing.proofs.windows.pass_windows.Statement.{statement}
 use Rattle.winnowing.proofs.windows.pass_windows.Tie as tie
 
 abbrev invariant-loop : tie.invariant-loop-low
-invariant-loop letters values base ranks₀ measures codes₀ positions₀ last end p₀ code₀ low-at₀ low₀ n₀ ranks codes positions p code low_at low n =
+invariant-loop letters values base ranks₀ measures codes₀ positions₀ last end p₀ code₀ low_at₀ low₀ n₀ ranks codes positions p code low_at low n =
     (p + last ≤ base + block_size)
     × Standing last measures.room letters p₀ codes positions p n
     × Picking last base measures.w letters ranks p code low_at low
     × ((length ranks ≡ length ranks₀) × (length codes ≡ length codes₀) × (length positions ≡ length positions₀))
     × SameEnd measures.room n codes positions (to_pick last measures.w letters p₀ (suc (p - measures.w)) (suc low_at))
-    n₀ codes₀ positions₀ (to_pick last measures.w letters p₀ (suc (p₀ - measures.w)) (suc low-at₀))
+    n₀ codes₀ positions₀ (to_pick last measures.w letters p₀ (suc (p₀ - measures.w)) (suc low_at₀))
 
 abbrev decreases-loop : tie.decreases-loop-low
-decreases-loop letters values base ranks₀ measures codes₀ positions₀ last end p₀ code₀ low-at₀ low₀ n₀ ranks codes positions p code low_at low n =
+decreases-loop letters values base ranks₀ measures codes₀ positions₀ last end p₀ code₀ low_at₀ low₀ n₀ ranks codes positions p code low_at low n =
     suc (run_end letters p₀) - p
 
 -- places, each named for where it leads and from where
