@@ -1,6 +1,7 @@
 -- The number and the value of a reply, and for load k and w: what crosses the C boundary, and what `maplist` goes by.
-use Rattle.std.specs.Prelude.{ℕ, List, [], ◌∷◌}
+use Rattle.std.specs.Prelude.{ℕ, ◌≡◌, List, [], ◌∷◌}
 use Rattle.base.specs.Replies.{Reply, accepted, refused}
+use Rattle.answers.specs.declared.Numbers.{Numbers}
 
 -- 0 where the call is accepted, else the number of the refusal
 abbrev pub number_of : Reply → ℕ
@@ -31,3 +32,8 @@ w_after (accepted []) before = before
 w_after (accepted (k ∷ [])) before = before
 w_after (accepted (k ∷ w ∷ rest)) before = w
 w_after (refused number values) before = before
+
+-- the number and the value of a reply
+pub record Numbered (reply : Reply) (numbers : Numbers) : Type 0 where
+  pub number : numbers.0 ≡ number_of reply
+  pub value : numbers.1 ≡ value_of reply

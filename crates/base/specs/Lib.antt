@@ -3,6 +3,7 @@ pub mod Limits
 pub mod Lists
 pub mod Counts
 pub mod Replies
+pub mod Refusals
 pub mod Bytes
 -- what only code speaks of
 pub mod Zeros

@@ -1,6 +1,11 @@
--- Arrays of zeros: what a function that makes one answers.
+-- Arrays with one value in each place: what a function that makes one answers.
 use Rattle.std.specs.Prelude.{ℕ, List, replicate}
 
+module _ {ℓ} {A : Type ℓ} where
+  -- n times this value
+  unfoldable pub copies : ℕ → A → List A
+  copies n x = replicate n x
+
 -- a list of n zeros
-unfoldable pub zeros : ℕ → List ℕ
-zeros n = replicate n 0
+abbrev pub zeros : ℕ → List ℕ
+zeros n = copies n 0

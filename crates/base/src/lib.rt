@@ -1,8 +1,11 @@
-// The limits of document 01 as constants, the bytes of lines, the test of a range, and the smaller of two numbers.
+// The limits of document 01 as constants, the bytes of lines, the test of a range, the smaller of two numbers, and arrays of one value.
 #![tactic(auto)]
 
-ghost use Rattle.std.specs.Prelude.{◌≡◌, min};
+pub mod refusal;
+
+ghost use Rattle.std.specs.Prelude.{◌≡◌, length, min};
 ghost use Rattle.base.specs.Limits.{outside};
+ghost use Rattle.base.specs.Zeros.{copies};
 
 // k is 1 to K_LIMIT, the window 1 to W_LIMIT, and a weight 1 to WEIGHT_LIMIT.
 pub const K_LIMIT: u32 = 15;
@@ -45,11 +48,19 @@ pub const ZERO: u8 = 48;
 pub fn outside(low: u32, high: u32, n: u32) -> bool
     ensures { result ≡ outside low high n }
 {
-    n < low || high < n
+    !(low..=high).contains(&n)
 }
 
 pub fn smaller(a: usize, b: usize) -> usize
     ensures { result ≡ min a b }
 {
-    if a < b { a } else { b }
+    a.min(b)
+}
+
+// An array with x in each place.
+pub fn copies<T: Copy, const N: usize>(x: T) -> [T; N]
+    ensures len { length result ≡ N }
+    ensures value { result ≡ copies N x }
+{
+    [x; N]
 }

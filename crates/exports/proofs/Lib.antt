@@ -1,4 +1,3 @@
 -- What the numbers of the exported calls tell.
-pub mod Telling
 pub mod Stepping
 pub mod Fractions

@@ -1,6 +1,7 @@
 -- What crosses the C boundary for a step: its kind, the cells that it reports, and the mapping that it hands out.
-use Rattle.std.specs.Prelude.{ℕ, cond, ◌≡◌, List, ltb, ℤ, pos}
+use Rattle.std.specs.Prelude.{ℕ, cond, ◌≡◌, List, ltb, ℤ, pos, Result}
 use Rattle.base.specs.Limits.{signed_limit}
+use Rattle.base.specs.declared.refusal.Refusal.{Refusal}
 use Rattle.mappings.specs.declared.Score.{Score}
 use Rattle.mappings.specs.declared.Score.TheVariants.{Number, Fraction}
 use Rattle.mappings.specs.Rule.{Answer, found, finished, spent, refused, reported}
@@ -46,7 +47,7 @@ lent_after (refused number) before = before
 -- the work words, the budget and the four numbers before a step; then its kind, the work words, the four and the cells after it.
 -- They are those of an answer that keeps step's promise
 pub record Steps (work : List ℕ) (budget : ℕ) (before : Lent) (kind : ℕ) (work' : List ℕ) (after : Lent) (cells : ℕ) : Type 0 where
-  pub answer : Stepped
+  pub answer : Result Stepped Refusal
   pub promise : StepPromise work budget answer work'
   pub kind_is : kind ≡ kind_of (answer_of answer)
   pub lent_is : after ≡ lent_after (answer_of answer) before

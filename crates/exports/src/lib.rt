@@ -4,36 +4,58 @@
 // A caller passes each slice as two arguments, a pointer and a length, and not as one of 16 bytes.
 #![tactic(auto)]
 
-ghost use Rattle.std.specs.Prelude.{◌≡◌};
+ghost use Rattle.std.specs.Prelude.{◌≡◌, pos, neg_ℤ};
+ghost use Rattle.base.specs.Refusals.{refusal_number};
+ghost use Rattle.base.specs.Replies.{Reply};
 ghost use Rattle.mappings.specs.Score.{task_with};
 ghost use Rattle.sketch.specs.Replies.{host_number, count_reply};
 ghost use Rattle.per_mille.specs.PerMille.{per_mille_number};
-ghost use Rattle.exports.specs.Calls.{SketchCall, ComplementCall, StrikeCall, SaveCall, LoadCall, StartCall};
+ghost use Rattle.answers.specs.Numbers.{Numbered};
+ghost use Rattle.exports.specs.Calls.{Tells, SketchCall, ComplementCall, StrikeCall, SaveCall, LoadCall, StartCall};
 ghost use Rattle.exports.specs.Steps.{shown, found_kind, lent, Steps};
 
-use answers::{k_after, of_complement, of_load, of_save, of_sketch, of_start, of_strike, w_after};
-use base::WORD_LIMIT;
+use answers::{Numbers, k_after, w_after};
+use base::refusal::Refusal;
 use mapper::answer::Stepped;
 use mapper::session::step;
 use mappings::{Score, Scoring};
 
-// No signed number of 32 bits is as high.
-const SIGNED_LIMIT: u32 = (WORD_LIMIT / 2) as u32;
+// The number goes to the lent word, and the value is the result.
+fn told(numbers: Numbers, number: &mut u32) -> usize
+    ensures { (reply : Reply) → Numbered reply numbers → Tells reply result number.new }
+{
+    *number = numbers.0;
+    numbers.1
+}
+
+// A refusal in one signed number.
+fn negated(refusal: Refusal) -> i32
+    ensures { result ≡ neg_ℤ (pos (refusal_number refusal)) }
+{
+    -(Numbers::from(refusal).0 as i32)
+}
 
 // The count of entries that a sketch would have, or the refusal number negated.
 #[unsafe(no_mangle)]
 pub extern "C" fn huddlewool_count(letters: &[u8], k: u32, w: u32) -> i32
     ensures { result ≡ host_number (count_reply k w letters.now) }
 {
-    sketch::count(letters, k, w)
+    match sketch::count(letters, k, w) {
+        Ok(entries) => entries as i32,
+        Err(refusal) => negated(refusal),
+    }
 }
 
 // 1,000·m / (len + size − m), rounded to the nearest whole number, an exact half to the even one; or −16.
+#[tactic(auto, unfolding(per_mille::specs::PerMille::per_mille_answer, per_mille::specs::PerMille::per_mille_number))]
 #[unsafe(no_mangle)]
 pub extern "C" fn huddlewool_per_mille(m: u32, len: u32, size: u32) -> i32
     ensures { result ≡ per_mille_number m len size }
 {
-    per_mille::per_mille(m, len, size)
+    match per_mille::per_mille(m, len, size) {
+        Ok(share) => share as i32,
+        Err(refusal) => negated(refusal),
+    }
 }
 
 #[unsafe(no_mangle)]
@@ -48,9 +70,8 @@ pub extern "C" fn huddlewool_sketch(
     ensures { SketchCall k w letters.now codes.old positions.old
         result number.new codes.new positions.new }
 {
-    let answer = of_sketch(sketch::sketch(letters, k, w, codes, positions));
-    *number = answer.0;
-    answer.1
+    let answer = sketch::sketch(letters, k, w, codes, positions);
+    told(answer.into(), number)
 }
 
 // The result is the number of bytes written, or those needed.
@@ -62,9 +83,8 @@ pub extern "C" fn huddlewool_reverse_complement(
 ) -> usize
     ensures { ComplementCall read.now out.old result number.new out.new }
 {
-    let answer = of_complement(strands::reverse_complement(read, out));
-    *number = answer.0;
-    answer.1
+    let answer = strands::reverse_complement(read, out);
+    told(answer.into(), number)
 }
 
 #[unsafe(no_mangle)]
@@ -79,9 +99,8 @@ pub extern "C" fn huddlewool_strike(
     ensures { StrikeCall codes.now codes.now positions.now c codes_out.old
         positions_out.old result number.new codes_out.new positions_out.new }
 {
-    let answer = of_strike(strike::strike(codes, positions, c, codes_out, positions_out));
-    *number = answer.0;
-    answer.1
+    let answer = strike::strike(codes, positions, c, codes_out, positions_out);
+    told(answer.into(), number)
 }
 
 #[unsafe(no_mangle)]
@@ -97,16 +116,8 @@ pub extern "C" fn huddlewool_strike_read(
     ensures { StrikeCall text.now codes.now positions.now c codes_out.old
         positions_out.old result number.new codes_out.new positions_out.new }
 {
-    let answer = of_strike(strike::strike_read(
-        text,
-        codes,
-        positions,
-        c,
-        codes_out,
-        positions_out,
-    ));
-    *number = answer.0;
-    answer.1
+    let answer = strike::strike_read(text, codes, positions, c, codes_out, positions_out);
+    told(answer.into(), number)
 }
 
 #[unsafe(no_mangle)]
@@ -121,9 +132,8 @@ pub extern "C" fn huddlewool_save(
     ensures { SaveCall k w codes.now positions.now words.old
         result number.new words.new }
 {
-    let answer = of_save(store_save::save(codes, positions, k, w, words));
-    *number = answer.0;
-    answer.1
+    let answer = store_save::save(codes, positions, k, w, words);
+    told(answer.into(), number)
 }
 
 // k and w go to their own words, which a refusal does not change; the result is the number of entries.
@@ -140,11 +150,9 @@ pub extern "C" fn huddlewool_load(
         result number.new k_out.new w_out.new codes.new positions.new }
 {
     let loaded = store_load::load(words, codes, positions);
-    let answer = of_load(loaded);
     *k_out = k_after(loaded, *k_out);
     *w_out = w_after(loaded, *w_out);
-    *number = answer.0;
-    answer.1
+    told(loaded.into(), number)
 }
 
 #[unsafe(no_mangle)]
@@ -160,9 +168,8 @@ pub extern "C" fn huddlewool_start(
     ensures { StartCall (task_with text.now pattern.now (Scoring.Linear u v threshold)) work.old
         result number.new work.new }
 {
-    let answer = of_start(session_start::start(text, pattern, u, v, threshold, work));
-    *number = answer.0;
-    answer.1
+    let answer = session_start::start(text, pattern, u, v, threshold, work);
+    told(answer.into(), number)
 }
 
 // start with the weighted Jaccard, and the threshold f/g.
@@ -178,23 +185,17 @@ pub extern "C" fn huddlewool_start_jaccard(
     ensures { StartCall (task_with text.now pattern.now (Scoring.Jaccard f g)) work.old
         result number.new work.new }
 {
-    let answer = of_start(session_start::start_jaccard(text, pattern, f, g, work));
-    *number = answer.0;
-    answer.1
+    let answer = session_start::start_jaccard(text, pattern, f, g, work);
+    told(answer.into(), number)
 }
 
-// The one signed number of a score: itself, or its divisor.
+// The one signed number of a score: itself, or its divisor. A divisor that no signed number of 32 bits holds is 0: no session has one.
 fn shown(score: Score) -> i32
     ensures { result ≡ shown score }
 {
     match score {
         Score::Number(z) => z,
-        Score::Fraction { m: _, divisor } => {
-            if SIGNED_LIMIT <= divisor {
-                return 0;
-            }
-            divisor as i32
-        }
+        Score::Fraction { divisor, .. } => i32::try_from(divisor).unwrap_or(0),
     }
 }
 
@@ -204,7 +205,7 @@ fn found_kind(score: Score) -> u32
 {
     match score {
         Score::Number(_) => 0,
-        Score::Fraction { m: _, divisor: _ } => 3,
+        Score::Fraction { .. } => 3,
     }
 }
 
@@ -226,36 +227,26 @@ pub extern "C" fn huddlewool_step(
         (lent a_out.new b_out.new score_out.new m_out.new)
         cells_out.new }
 {
-    match step(work, budget) {
-        Stepped::Found {
-            a,
-            b,
-            score,
-            m,
-            cells,
-        } => {
+    let (kind, cells) = match step(work, budget) {
+        Ok(
+            Stepped::Found {
+                a,
+                b,
+                score,
+                m,
+                cells,
+            },
+        ) => {
             *a_out = a;
             *b_out = b;
             *score_out = shown(score);
             *m_out = m;
-            *cells_out = cells;
-            found_kind(score)
+            (found_kind(score), cells)
         }
-        Stepped::Finished(cells) => {
-            *cells_out = cells;
-            1
-        }
-        Stepped::Spent(cells) => {
-            *cells_out = cells;
-            2
-        }
-        Stepped::TooFewWords => {
-            *cells_out = 0;
-            10
-        }
-        Stepped::BadWords => {
-            *cells_out = 0;
-            15
-        }
-    }
+        Ok(Stepped::Finished(cells)) => (1, cells),
+        Ok(Stepped::Spent(cells)) => (2, cells),
+        Err(refusal) => (Numbers::from(refusal).0, 0),
+    };
+    *cells_out = cells;
+    kind
 }

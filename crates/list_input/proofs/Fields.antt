@@ -8,7 +8,7 @@ use mathlib.Core.List.{List, [], ◌∷◌, ◌++◌}
 use lib.Dec.{ltb, leb, eqb}
 use lib.ListN.{length, get_or, drop, length-drop}
 use lib.Seq.{drop-drop}
-use borrow.Author.Tests.{ltb-true, ltb-false, leb-true, ne_eqb}
+use borrow.Author.Tests.{ltb-true, ltb-false, lt-ltb, leb-true, ne_eqb}
 use Rattle.base.specs.Lists.{every}
 use Rattle.base.proofs.Lists.{and_left, and_right, decided}
 use Rattle.base.specs.Limits.{signed_limit}
@@ -16,12 +16,10 @@ use Rattle.base.specs.Bytes.{space, minus, digit}
 use Rattle.mappings.specs.declared.Scoring.{Scoring}
 use Rattle.list_input.specs.Input.{is_digit, is_decimal, decimal_value, is_unsigned, is_signed, is_jaccard, is_last_field, scoring_of}
 use Rattle.list_input.specs.Input.{fields, is_first_line, settings_of}
+use Rattle.requests.specs.declared.Settings.{Settings}
+use Rattle.list_input.specs.declared.Field.{Field}
+use Rattle.std.specs.Prelude.{Option, Some, None}
 use Rattle.list_input.specs.Answers.{first_part, field_of, last_field_of, first_line_of}
-use Rattle.list_input.specs.declared.Field.TheVariants.{Malformed as no_field, Given as field}
-use Rattle.list_input.specs.declared.LastField.{LastField}
-use Rattle.list_input.specs.declared.LastField.TheVariants.{Malformed as no_last_field, Given as scored}
-use Rattle.list_input.specs.declared.FirstLine.{FirstLine}
-use Rattle.list_input.specs.declared.FirstLine.TheVariants.{Malformed as no_first_line, Given as first_line}
 use Rattle.list_input.proofs.Numbers.{after_cond, signed_tests, word_is}
 use Rattle.list_input.proofs.Parts.{parts, first_more, parts_one, parts_more, first_le}
 
@@ -35,23 +33,23 @@ cond_and false b x y = refl
 
 -- ---- the answer from the numbers so far and the fields that are left
 
-abbrev made : List ℕ → Scoring → FirstLine
-made ns scoring = first_line (get_or ns 0 0) (get_or ns 1 0) (get_or ns 2 0) scoring
+abbrev made : List ℕ → Scoring → Option Settings
+made ns scoring = Some (record { k = get_or ns 0 0; w = get_or ns 1 0; c = get_or ns 2 0; scoring = scoring })
 
 -- how mappings are scored, from the numbers so far and the last field
 abbrev scoring_by : List ℕ → List ℕ → Scoring
 scoring_by ns p = scoring_of (get_or ns 3 0) (get_or ns 4 0) p
 
-abbrev last_field : List ℕ → List (List ℕ) → FirstLine
-last_field ns [] = no_first_line
-last_field ns (p ∷ []) = cond (is_last_field p) (made ns (scoring_by ns p)) no_first_line
-last_field ns (p ∷ q ∷ ps) = no_first_line
+abbrev last_field : List ℕ → List (List ℕ) → Option Settings
+last_field ns [] = None
+last_field ns (p ∷ []) = cond (is_last_field p) (made ns (scoring_by ns p)) None
+last_field ns (p ∷ q ∷ ps) = None
 
 -- n numbers and the last field are left
-abbrev pub left : ℕ → List ℕ → List (List ℕ) → FirstLine
+abbrev pub left : ℕ → List ℕ → List (List ℕ) → Option Settings
 left zero ns fs = last_field ns fs
-left (suc n) ns [] = no_first_line
-left (suc n) ns (p ∷ ps) = cond (is_unsigned p) (left n (ns ++ decimal_value 0 p ∷ []) ps) no_first_line
+left (suc n) ns [] = None
+left (suc n) ns (p ∷ ps) = cond (is_unsigned p) (left n (ns ++ decimal_value 0 p ∷ []) ps) None
 
 -- all is left
 pub left_all : (fs : List (List ℕ)) → left 5 [] fs ≡ first_line_of fs
@@ -67,20 +65,20 @@ left_all (a ∷ b ∷ c ∷ d ∷ e ∷ f ∷ g ∷ fs) = simp (cond_same, ne_eq
 
 -- ---- one field more
 
-left_none : (n : ℕ) (ns : List ℕ) → left n ns [] ≡ no_first_line
+left_none : (n : ℕ) (ns : List ℕ) → left n ns [] ≡ None
 left_none zero ns = refl
 left_none (suc n) ns = refl
 
 module _ (n : ℕ) (ns : List ℕ) (l : List ℕ) where
   -- no space is left: the fields run out
-  left_end : length (first_part space l) ≡ length l → left (suc n) ns (fields l) ≡ no_first_line
+  left_end : length (first_part space l) ≡ length l → left (suc n) ns (fields l) ≡ None
   unfolding fields
   left_end e =
       ap (left (suc n) ns) (parts_one space l e)
-      ∙ ap (λ (a : FirstLine). cond (is_unsigned l) a no_first_line) (left_none n (ns ++ decimal_value 0 l ∷ []))
-      ∙ cond_same (is_unsigned l) no_first_line
+      ∙ ap (λ (a : Option Settings). cond (is_unsigned l) a None) (left_none n (ns ++ decimal_value 0 l ∷ []))
+      ∙ cond_same (is_unsigned l) None
 
-  left_bad : length (first_part space l) < length l → is_unsigned (first_part space l) ≡ false → left (suc n) ns (fields l) ≡ no_first_line
+  left_bad : length (first_part space l) < length l → is_unsigned (first_part space l) ≡ false → left (suc n) ns (fields l) ≡ None
   unfolding fields
   left_bad h e = ap (left (suc n) ns) (parts_more space l h) ∙ rw e
 
@@ -91,77 +89,60 @@ module _ (n : ℕ) (ns : List ℕ) (l : List ℕ) where
 
 -- what a field that was read says
 module _ (line : List ℕ) (from : ℕ) where
-  abbrev test : Bool
-  test = ltb (length (first_part space (drop from line))) (length (drop from line)) && is_unsigned (first_part space (drop from line))
+  abbrev p : List ℕ
+  p = first_part space (drop from line)
 
-  read_good : {v next : ℕ} → field_of line from ≡ field v next
-      → (test ≡ true) × (v ≡ decimal_value 0 (first_part space (drop from line))) × (next ≡ from + length (first_part space (drop from line)) + 1)
-  unfolding field_of
-  read_good {v} {next} e = go test refl
-    where
-      go : (b : Bool) → test ≡ b
-          → (test ≡ true) × (v ≡ decimal_value 0 (first_part space (drop from line))) × (next ≡ from + length (first_part space (drop from line)) + 1)
-      go true t =
-          let read : field (decimal_value 0 (first_part space (drop from line))) (from + length (first_part space (drop from line)) + 1) ≡ field v next =
-          rw t at e in
-          (t, (cc), (cc))
-      go false t =
-          let read : no_field ≡ field v next = rw t at e in
-          let clash : ◌≡◌ {A = ℕ} 0 1 = cc in
-          absurd (omega arith)
+  abbrev read : Field
+  read = record { value = decimal_value 0 p; next = from + length p + 1 }
 
-  read_bad : field_of line from ≡ no_field → test ≡ false
+  read_good : {f : Field} → field_of line from ≡ Some f → (length p < length (drop from line)) × (is_unsigned p ≡ true) × (read ≡ f)
   unfolding field_of
-  read_bad e = go test refl
+  read_good {f} e = go (ltb (length p) (length (drop from line))) refl (is_unsigned p) refl
     where
-      go : (b : Bool) → test ≡ b → test ≡ false
-      go true t =
-          let read : field (decimal_value 0 (first_part space (drop from line))) (from + length (first_part space (drop from line)) + 1) ≡ no_field =
-          rw t at e in
-          let clash : ◌≡◌ {A = ℕ} 0 1 = cc in
-          absurd (omega arith)
-      go false t = t
+      go : (s : Bool) → ltb (length p) (length (drop from line)) ≡ s → (t : Bool) → is_unsigned p ≡ t
+          → (length p < length (drop from line)) × (t ≡ true) × (read ≡ f)
+      go true h true t = let same : Some read ≡ Some f = rw (h, t) at e in (ltb-true _ _ h, refl, (cc))
+      go true h false t = let none : None ≡ Some f = rw (h, t) at e in (cc)
+      go false h t u = let none : None ≡ Some f = rw h at e in (cc)
+
+  read_bad : field_of line from ≡ None → length p < length (drop from line) → is_unsigned p ≡ false
+  unfolding field_of
+  read_bad e h = go (is_unsigned p) refl
+    where
+      go : (t : Bool) → is_unsigned p ≡ t → t ≡ false
+      go true t = let some : Some read ≡ None = rw (lt-ltb _ _ h, t) at e in (cc)
+      go false t = refl
 
   -- the answer is the same from the next field on
-  pub left_field : (n : ℕ) (ns : List ℕ) {v next : ℕ} → field_of line from ≡ field v next
-      → left (suc n) ns (fields (drop from line)) ≡ left n (ns ++ v ∷ []) (fields (drop next line))
-  left_field n ns {v} {next} e =
-      let p : List ℕ = first_part space (drop from line) in
+  pub left_field : (n : ℕ) (ns : List ℕ) {f : Field} → field_of line from ≡ Some f
+      → left (suc n) ns (fields (drop from line)) ≡ left n (ns ++ f.value ∷ []) (fields (drop f.next line))
+  left_field n ns {f} e =
       let good = read_good e in
-      let h : length p < length (drop from line) =
-      ltb-true (length p) (length (drop from line)) (and_left (ltb (length p) (length (drop from line))) (is_unsigned p) good.0) in
-      let place : from + suc (length p) ≡ next = omega (arith, good.2) in
-      left_good n ns (drop from line) h (and_right (ltb (length p) (length (drop from line))) (is_unsigned p) good.0)
+      let next : from + suc (length p) ≡ from + length p + 1 = omega arith in
+      left_good n ns (drop from line) good.0 good.1
       ∙ ap (λ (l : List ℕ). left n (ns ++ decimal_value 0 p ∷ []) (fields l))
-      (drop-drop (suc (length p)) from line ∙ ap (λ (k : ℕ). drop k line) place)
-      ∙ ap (λ (x : ℕ). left n (ns ++ x ∷ []) (fields (drop next line))) (sym good.1)
+      (drop-drop (suc (length p)) from line ∙ ap (λ (k : ℕ). drop k line) next)
+      ∙ ap (λ (g : Field). left n (ns ++ g.value ∷ []) (fields (drop g.next line))) good.2
 
   -- which begins within the line
-  pub next_inside : {v next : ℕ} → field_of line from ≡ field v next → next ≤ length line
-  next_inside {v} {next} e =
-      let p : List ℕ = first_part space (drop from line) in
+  pub next_inside : {f : Field} → field_of line from ≡ Some f → f.next ≤ length line
+  next_inside {f} e =
       let good = read_good e in
-      let h : length p < length (drop from line) =
-      ltb-true (length p) (length (drop from line)) (and_left (ltb (length p) (length (drop from line))) (is_unsigned p) good.0) in
+      let h : length p < length (drop from line) = good.0 in
       let long : length (drop from line) ≡ length line - from = length-drop from line in
-      let place : next ≡ from + length p + 1 = good.2 in
+      let place : from + length p + 1 ≡ f.next = ap (λ (g : Field). g.next) good.2 in
       omega arith
 
-  pub left_malformed : (n : ℕ) (ns : List ℕ) → field_of line from ≡ no_field → left (suc n) ns (fields (drop from line)) ≡ no_first_line
-  left_malformed n ns e = go (decided (ltb (length (first_part space (drop from line))) (length (drop from line))))
+  pub left_malformed : (n : ℕ) (ns : List ℕ) → field_of line from ≡ None → left (suc n) ns (fields (drop from line)) ≡ None
+  left_malformed n ns e = go (decided (ltb (length p) (length (drop from line))))
     where
-      l : List ℕ
-      l = drop from line
-
-      p : List ℕ
-      p = first_part space l
-
-      go : (ltb (length p) (length l) ≡ true) ⊎ (ltb (length p) (length l) ≡ false) → left (suc n) ns (fields l) ≡ no_first_line
-      go (inl t) = left_bad n ns l (ltb-true (length p) (length l) t) (rw t at (read_bad e))
+      go : (ltb (length p) (length (drop from line)) ≡ true) ⊎ (ltb (length p) (length (drop from line)) ≡ false)
+          → left (suc n) ns (fields (drop from line)) ≡ None
+      go (inl t) = let h : length p < length (drop from line) = ltb-true _ _ t in left_bad n ns (drop from line) h (read_bad e h)
       go (inr t) =
-          let short : length p ≤ length l = first_le space l in
-          let long : length l ≤ length p = ltb-false (length p) (length l) t in
-          left_end n ns l (omega arith)
+          let short : length p ≤ length (drop from line) = first_le space (drop from line) in
+          let long : length (drop from line) ≤ length p = ltb-false _ _ t in
+          left_end n ns (drop from line) (omega arith)
 
 -- ---- the last field, which is all that is left of the line
 
@@ -199,11 +180,11 @@ last_whole l e = go (is_jaccard l) refl
     go true t = ap (λ (w : List ℕ). length (first_part space w)) (word_is l t) ∙ sym (ap length (word_is l t))
     go false t = signed_whole l (rw t at e)
 
-more_than_one : (ns p : List ℕ) (l : List ℕ) → last_field ns (p ∷ parts space l) ≡ no_first_line
+more_than_one : (ns p : List ℕ) (l : List ℕ) → last_field ns (p ∷ parts space l) ≡ None
 more_than_one ns p [] = refl
 more_than_one ns p (b ∷ l) = go (eqb b space) refl (parts space l) refl
   where
-    go : (t : Bool) → eqb b space ≡ t → (ps : List (List ℕ)) → parts space l ≡ ps → last_field ns (p ∷ parts space (b ∷ l)) ≡ no_first_line
+    go : (t : Bool) → eqb b space ≡ t → (ps : List (List ℕ)) → parts space l ≡ ps → last_field ns (p ∷ parts space (b ∷ l)) ≡ None
     go true t ps e = rw t
     go false t [] e = rw (t, e)
     go false t (q ∷ qs) e = rw (t, e)
@@ -211,16 +192,16 @@ more_than_one ns p (b ∷ l) = go (eqb b space) refl (parts space l) refl
 module _ (ns l : List ℕ) where
   -- a space is left: there are too many fields, and what has a space is no last field
   too_many : length (first_part space l) < length l → (t : Bool) → is_last_field l ≡ t
-      → last_field ns (parts space l) ≡ cond t (made ns (scoring_by ns l)) no_first_line
+      → last_field ns (parts space l) ≡ cond t (made ns (scoring_by ns l)) None
   too_many h true s = absurd (omega (arith, last_whole l s))
   too_many h false s = ap (last_field ns) (parts_more space l h) ∙ more_than_one ns (first_part space l) (drop (suc (length (first_part space l))) l)
 
-  left_end_of_line : left 0 ns (fields l) ≡ cond (is_last_field l) (made ns (scoring_by ns l)) no_first_line
+  left_end_of_line : left 0 ns (fields l) ≡ cond (is_last_field l) (made ns (scoring_by ns l)) None
   unfolding fields
   left_end_of_line = go (decided (ltb (length (first_part space l)) (length l)))
     where
       go : (ltb (length (first_part space l)) (length l) ≡ true) ⊎ (ltb (length (first_part space l)) (length l) ≡ false)
-          → last_field ns (parts space l) ≡ cond (is_last_field l) (made ns (scoring_by ns l)) no_first_line
+          → last_field ns (parts space l) ≡ cond (is_last_field l) (made ns (scoring_by ns l)) None
       go (inl h) = too_many (ltb-true (length (first_part space l)) (length l) h) (is_last_field l) refl
       go (inr h) =
           let short : length (first_part space l) ≤ length l = first_le space l in
@@ -228,10 +209,10 @@ module _ (ns l : List ℕ) where
           ap (last_field ns) (parts_one space l (omega arith))
 
 -- the answer from the numbers and what was read of the last field
-abbrev pub as_first_line : List ℕ → LastField → FirstLine
-as_first_line ns no_last_field = no_first_line
-as_first_line ns (scored scoring) = made ns scoring
+abbrev pub as_first_line : List ℕ → Option Scoring → Option Settings
+as_first_line ns None = None
+as_first_line ns (Some scoring) = made ns scoring
 
 pub left_last : (ns l : List ℕ) → left 0 ns (fields l) ≡ as_first_line ns (last_field_of (get_or ns 3 0) (get_or ns 4 0) l)
 unfolding last_field_of
-left_last ns l = left_end_of_line ns l ∙ sym (after_cond (as_first_line ns) (is_last_field l) (scored (scoring_by ns l)) no_last_field)
+left_last ns l = left_end_of_line ns l ∙ sym (after_cond (as_first_line ns) (is_last_field l) (Some (scoring_by ns l)) None)

@@ -5,6 +5,7 @@ pub mod Parts
 pub mod Numbers
 pub mod Fields
 pub mod Lines
+pub mod Searches
 pub mod Places
 pub mod Enough
 pub mod ReadBack

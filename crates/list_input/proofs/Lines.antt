@@ -1,7 +1,7 @@
 -- Laws of the input and of the request: what each is from the lines, and the lines by their places.
-use Prim.Native.Nat.{ℕ, suc, ◌+◌, ◌-◌, ◌≤◌, ◌<◌}
+use Prim.Native.Nat.{ℕ, suc, ◌+◌, ◌≤◌, ◌<◌}
 use native.Mathlib.Omega.{arith}
-use mathlib.Core.Path.{◌≡◌, refl, sym, ap, ◌∙◌}
+use mathlib.Core.Path.{◌≡◌, refl, sym, ap, ap₂, ◌∙◌}
 use mathlib.Core.Bool.{Bool, true, false, cond, ◌&&◌}
 use mathlib.Core.List.{List, [], ◌∷◌}
 use lib.Dec.{leb, eqb}
@@ -11,13 +11,11 @@ use Rattle.base.proofs.Lists.{and_left, and_right}
 use Rattle.base.specs.Limits.{line_limit}
 use Rattle.list_input.specs.Input.{fields, lines, is_first_line, is_well_formed, settings_of, Input, malformed, given, input_of}
 use Rattle.base.specs.Bytes.{line_feed}
-use Rattle.list_input.specs.Answers.{first_part, answer_of, first_line_of, request_at, request_from}
+use Rattle.list_input.specs.Answers.{first_part, first_line_of, request_at, request_from}
+use Rattle.requests.specs.declared.Settings.{Settings}
 use Rattle.list_input.specs.declared.Request.{Request}
-use Rattle.list_input.specs.declared.Request.TheVariants.{Malformed as no_request}
-use Rattle.list_input.specs.declared.FirstLine.{FirstLine}
-use Rattle.list_input.specs.declared.FirstLine.TheVariants.{Malformed as no_first_line, Given as first_line}
-use Rattle.list_line.proofs.Buffers.{part_to_end}
-use Rattle.list_input.proofs.Parts.{parts, two_parts, parts_more, found_inside, found_end, found_more}
+use Rattle.std.specs.Prelude.{Option, Some, None}
+use Rattle.list_input.proofs.Parts.{parts, first_take, two_parts, parts_one, parts_more, searched, found, not_found}
 use Rattle.list_input.proofs.Numbers.{and_false, and_true, after_cond}
 
 -- the input from its lines
@@ -29,20 +27,20 @@ unfolding input_of
 input_from_lem bytes = refl
 
 -- the request from what was read of the first line, with the lengths of the three lines
-abbrev pub as_request : FirstLine → ℕ → ℕ → ℕ → Request
-as_request no_first_line first text read = no_request
-as_request (first_line k w c scoring) first text read = request_at (record { k = k; w = w; c = c; scoring = scoring }) first text read
+abbrev pub as_request : Option Settings → ℕ → ℕ → ℕ → Option Request
+as_request None first text read = None
+as_request (Some s) first text read = Some (request_at s first text read)
 
 module _ (ls : List (List ℕ)) where
-  pub few_lines : length ls < 4 → request_from ls ≡ no_request
+  pub few_lines : length ls < 4 → request_from ls ≡ None
   unfolding is_well_formed
   few_lines h = rw (lt-leb 4 (length ls) h)
 
-  pub long_text : line_limit < length (get_or ls 1 []) → request_from ls ≡ no_request
+  pub long_text : line_limit < length (get_or ls 1 []) → request_from ls ≡ None
   unfolding is_well_formed
   long_text h = simp (lt-leb (length (get_or ls 1 [])) line_limit h, and_false)
 
-  pub long_read : line_limit < length (get_or ls 2 []) → request_from ls ≡ no_request
+  pub long_read : line_limit < length (get_or ls 2 []) → request_from ls ≡ None
   unfolding is_well_formed
   long_read h = simp (lt-leb (length (get_or ls 2 [])) line_limit h, and_false)
 
@@ -54,9 +52,9 @@ module _ (ls : List (List ℕ)) where
       let fs : List (List ℕ) = fields (get_or ls 0 []) in
       simp (le-leb 4 (length ls) enough, le-leb (length (get_or ls 1 [])) line_limit text, le-leb (length (get_or ls 2 [])) line_limit read, and_true)
       (sym
-      (after_cond (λ (a : FirstLine). as_request a (length (get_or ls 0 [])) (length (get_or ls 1 [])) (length (get_or ls 2 []))) (is_first_line fs)
-      (answer_of (settings_of fs))
-      no_first_line))
+      (after_cond (λ (a : Option Settings). as_request a (length (get_or ls 0 [])) (length (get_or ls 1 [])) (length (get_or ls 2 []))) (is_first_line fs)
+      (Some (settings_of fs))
+      None))
 
 -- what a well-formed input has
 pub well_formed_lines : (ls : List (List ℕ)) → is_well_formed ls ≡ true
@@ -134,20 +132,19 @@ some_part b (x ∷ l) = go (eqb x b) refl (parts b l) refl
     go false t [] e = rw (t, e) (omega arith)
     go false t (p ∷ ps) e = rw (t, e) (omega arith)
 
--- the first line of all bytes, as of those from index 0 on
-module _ (bytes : List ℕ) (n : ℕ) (found : n ≡ length (first_part line_feed bytes)) where
-  from_zero : n ≡ length (first_part line_feed (take (length bytes - 0) (drop 0 bytes)))
-  from_zero = found ∙ ap (λ (l : List ℕ). length (first_part line_feed l)) (sym (part_to_end bytes (length bytes) 0 (omega arith)))
-
-  pub first_inside : n ≤ length bytes
-  first_inside = let h : 0 + n ≤ length bytes = found_inside line_feed bytes 0 n (omega arith) from_zero in omega arith
-
-  pub first_end : n ≡ length bytes → lines bytes ≡ bytes ∷ []
+-- the first line of all bytes
+module _ (bytes : List ℕ) where
+  pub first_end : searched line_feed bytes ≡ None → lines bytes ≡ bytes ∷ []
   unfolding lines
-  first_end e = found_end line_feed bytes 0 n (omega arith) from_zero (omega arith)
+  first_end e = parts_one line_feed bytes (not_found line_feed bytes e)
 
-  pub first_more : n < length bytes → lines bytes ≡ take n bytes ∷ parts line_feed (drop (n + 1) bytes)
+  pub first_more : {n : ℕ} → searched line_feed bytes ≡ Some n → lines bytes ≡ take n bytes ∷ parts line_feed (drop (n + 1) bytes)
   unfolding lines
-  first_more h =
-      let e : 0 + n + 1 ≡ n + 1 = omega arith in
-      found_more line_feed bytes 0 n (omega arith) from_zero (omega arith) ∙ ap (λ (k : ℕ). take n bytes ∷ parts line_feed (drop k bytes)) e
+  first_more {n} e =
+      let at = found line_feed bytes e in
+      let place : n ≡ length (first_part line_feed bytes) = at.0 in
+      let next : suc (length (first_part line_feed bytes)) ≡ n + 1 = omega arith in
+      parts_more line_feed bytes (omega (arith, at.1))
+      ∙ ap₂ (λ (p : List ℕ) (r : List ℕ). p ∷ parts line_feed r)
+      (first_take line_feed bytes ∙ ap (λ (k : ℕ). take k bytes) (sym place))
+      (ap (λ (k : ℕ). drop k bytes) next)

@@ -4,9 +4,11 @@ use Prim.Native.Nat.{ℕ, suc, ◌+◌, ◌-◌, ◌≤◌, ◌<◌}
 use native.Mathlib.Omega.{arith}
 use mathlib.Core.Path.{◌≡◌, refl, sym, ap, ap₂, ◌∙◌}
 use mathlib.Core.Logic.{◌⊎◌, inl, inr}
-use mathlib.Core.Bool.{Bool, true, false}
+use mathlib.Core.Bool.{Bool, true, false, cond}
 use mathlib.Core.List.{List, [], ◌∷◌}
 use lib.Dec.{eqb, ltb}
+use Rattle.std.specs.Prelude.{Option, Some, None, position}
+use Rattle.std.specs.List.{position_or_len}
 use borrow.Author.Tests.{ltb-true, ltb-false}
 use Rattle.base.proofs.Lists.{decided}
 use lib.ListN.{length, get_or, take, drop, length-drop}
@@ -84,26 +86,79 @@ two_parts b l h = go (decided (ltb (length (first_part b l)) (length l)))
         let one : length (parts b l) ≡ 1 = ap length (parts_one b l (omega arith)) in
         absurd (omega arith)
 
--- where a search from an index on, in the part that is lent to it, has found a separator or the end
-module _ (b : ℕ) (l : List ℕ) (from n : ℕ) (inside : from ≤ length l) (found : n ≡ length (first_part b (take (length l - from) (drop from l)))) where
-  pub found_place : n ≡ length (first_part b (drop from l))
-  found_place = found ∙ ap (λ (r : List ℕ). length (first_part b r)) (part_to_end l (length l) from (omega arith))
+-- a search for the byte b passes the first part
+search_length : (b : ℕ) (l : List ℕ) → position_or_len (λ (x : ℕ). eqb x b) l ≡ length (first_part b l)
+search_length b =
+    parts_by b
+    (λ l p ps. position_or_len (λ (x : ℕ). eqb x b) l ≡ length p)
+    refl
+    (λ x l e. rw e)
+    (λ x l e rec. rw (e, rec) (omega arith))
+
+-- what a search found: the separator behind the first part
+module _ (b : ℕ) (l : List ℕ) where
+  abbrev pub searched : Option ℕ
+  searched = position (λ (x : ℕ). eqb x b) l
+
+  search_is : searched ≡ cond (ltb (length (first_part b l)) (length l)) (Some (length (first_part b l))) None
+  search_is = rw (search_length b l)
+
+  pub found : {n : ℕ} → searched ≡ Some n → (n ≡ length (first_part b l)) × (n < length l)
+  found {n} e = go (ltb (length (first_part b l)) (length l)) refl
+    where
+      go : (t : Bool) → ltb (length (first_part b l)) (length l) ≡ t → (n ≡ length (first_part b l)) × (n < length l)
+      go true t =
+          let place : Some (length (first_part b l)) ≡ Some n = rw t at (sym search_is ∙ e) in
+          let same : n ≡ length (first_part b l) = cc in
+          let inside : length (first_part b l) < length l = ltb-true _ _ t in
+          (same, omega arith)
+      go false t = let none : None ≡ Some n = rw t at (sym search_is ∙ e) in (cc)
+
+  -- or that there is none
+  pub not_found : searched ≡ None → length (first_part b l) ≡ length l
+  not_found e = go (ltb (length (first_part b l)) (length l)) refl
+    where
+      go : (t : Bool) → ltb (length (first_part b l)) (length l) ≡ t → length (first_part b l) ≡ length l
+      go true t = let none : Some (length (first_part b l)) ≡ None = rw t at (sym search_is ∙ e) in (cc)
+      go false t =
+          let long : length l ≤ length (first_part b l) = ltb-false _ _ t in
+          let short : length (first_part b l) ≤ length l = first_le b l in
+          omega arith
+
+-- where a search from an index on, in the part that is lent to it, found a separator
+module _ (b : ℕ) (l : List ℕ) (from : ℕ) (inside : from ≤ length l) where
+  abbrev pub lent : List ℕ
+  lent = take (length l - from) (drop from l)
+
+  pub lent_is : lent ≡ drop from l
+  lent_is = part_to_end l (length l) from (omega arith)
 
   length_left : length (drop from l) ≡ length l - from
   length_left = length-drop from l
 
-  pub found_inside : from + n ≤ length l
-  found_inside = let h : length (first_part b (drop from l)) ≤ length (drop from l) = first_le b (drop from l) in omega (arith, found_place, length_left)
+  module _ {n : ℕ} (e : searched b lent ≡ Some n) where
+    pub place : (n ≡ length (first_part b (drop from l))) × (n < length (drop from l))
+    place = found b (drop from l) (ap (searched b) (sym lent_is) ∙ e)
 
-  pub found_part : take n (drop from l) ≡ first_part b (drop from l)
-  found_part = ap (λ (k : ℕ). take k (drop from l)) found_place ∙ sym (first_take b (drop from l))
+    pub found_place : n ≡ length (first_part b (drop from l))
+    found_place = place.0
 
-  pub found_end : from + n ≡ length l → parts b (drop from l) ≡ drop from l ∷ []
-  found_end e = parts_one b (drop from l) (omega (arith, found_place, length_left))
+    pub found_inside : from + n < length l
+    found_inside = let h : n < length (drop from l) = place.1 in omega (arith, length_left)
 
-  pub found_more : from + n < length l → parts b (drop from l) ≡ take n (drop from l) ∷ parts b (drop (from + n + 1) l)
-  found_more h =
-      let p : List ℕ = first_part b (drop from l) in
-      let next : from + suc (length p) ≡ from + n + 1 = omega (arith, found_place) in
-      parts_more b (drop from l) (omega (arith, found_place, length_left))
-      ∙ ap₂ (λ (q : List ℕ) (r : List ℕ). q ∷ parts b r) (sym found_part) (drop-drop (suc (length p)) from l ∙ ap (λ (k : ℕ). drop k l) next)
+    pub found_part : take n (drop from l) ≡ first_part b (drop from l)
+    found_part = ap (λ (k : ℕ). take k (drop from l)) found_place ∙ sym (first_take b (drop from l))
+
+    pub found_more : parts b (drop from l) ≡ take n (drop from l) ∷ parts b (drop (from + n + 1) l)
+    found_more =
+        let p : List ℕ = first_part b (drop from l) in
+        let h : n < length (drop from l) = place.1 in
+        let next : from + suc (length p) ≡ from + n + 1 = omega (arith, found_place) in
+        parts_more b (drop from l) (omega (arith, found_place))
+        ∙ ap₂ (λ (q : List ℕ) (r : List ℕ). q ∷ parts b r) (sym found_part) (drop-drop (suc (length p)) from l ∙ ap (λ (k : ℕ). drop k l) next)
+
+  pub lent_none : searched b lent ≡ None → length (first_part b (drop from l)) ≡ length (drop from l)
+  lent_none e = not_found b (drop from l) (ap (searched b) (sym lent_is) ∙ e)
+
+  pub found_end : searched b lent ≡ None → parts b (drop from l) ≡ drop from l ∷ []
+  found_end e = parts_one b (drop from l) (lent_none e)

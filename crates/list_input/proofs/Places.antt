@@ -8,7 +8,8 @@ use lib.ListN.{length, get_or, take, drop, length-drop}
 use lib.Seq.{drop-drop}
 use Rattle.base.specs.Bytes.{line_feed}
 use Rattle.list_input.specs.Input.{lines, fields, is_well_formed, settings_of, given, input_of}
-use Rattle.list_input.specs.Answers.{request_of, part, request_input, LinesInside, Inside}
+use Rattle.list_input.specs.Answers.{request_at, request_of, part, request_input, LinesInside, Inside}
+use Rattle.list_input.specs.declared.Request.{Request}
 use Rattle.list_input.proofs.Parts.{first_take}
 use Rattle.list_input.proofs.Lines.{well_formed_lines, first, behind₁, second, behind₂, third, ThreeLines, three_lines}
 
@@ -53,7 +54,12 @@ module _ (bytes : List ℕ) (w : is_well_formed (lines bytes) ≡ true) where
       ap (λ (k : ℕ). take k (drop read bytes)) n ∙ ap (take (length (third bytes))) from_read ∙ sym (first_take line_feed (behind₂ bytes))
       ∙ sym third_is
 
-  lines_inside : LinesInside text (text + length (get_or (lines bytes) 1 [])) read (read + length (get_or (lines bytes) 2 [])) bytes
+  abbrev these_lines : Request
+  these_lines =
+      request_at (settings_of (fields (get_or (lines bytes) 0 []))) (length (get_or (lines bytes) 0 [])) (length (get_or (lines bytes) 1 []))
+      (length (get_or (lines bytes) 2 []))
+
+  lines_inside : LinesInside these_lines bytes
   lines_inside =
       let limits = well_formed_lines (lines bytes) w in
       let a : length (behind₁ bytes) ≡ length bytes - suc (length (first bytes)) = length-drop (suc (length (first bytes))) bytes in

@@ -2,12 +2,14 @@
 use Prim.Native.Nat.{ℕ, suc, ◌+◌, ◌-◌, ◌≤◌, ◌<◌}
 use native.Mathlib.Nat.{add-zero, zero-add, sub-zero}
 use native.Mathlib.Omega.{arith}
-use mathlib.Core.Path.{◌≡◌, refl, sym, ap, ap₂, ◌∙◌, subst}
+use mathlib.Core.Path.{◌≡◌, refl, sym, ap, ◌∙◌, subst}
 use mathlib.Core.List.{List, [], ◌∷◌, ◌++◌, append-nil, append_assoc}
 use lib.Dec.{leb-suc-zero}
-use lib.ListN.{length, set, take, drop, length-set, length-append, length-drop, take-append-drop}
-use lib.Seq.{length-take-le, take_all, drop-cons, get_or-set_same, drop-set-lt, take_at, append_snoc, drop-append-add, drop-drop}
+use lib.ListN.{length, take, drop, length-append, length-drop, take-append-drop}
+use lib.Seq.{take-length, length-take-le, take_all, take_at, append_snoc, drop-append-add, drop-drop}
 use borrow.Author.Tests.{le-leb, lt-leb}
+use borrow.Rule.Slice.PartMut.{put_mid}
+use Rattle.std.proofs.lemmas.Slice.{put_mid-paste}
 use Rattle.list_line.specs.Line.{fitting, LineWritten}
 use Rattle.list_line.specs.Writing.{over_from, Written}
 
@@ -47,6 +49,17 @@ pub wrote : (bytes : List ℕ) (at : ℕ) (old : List ℕ) → at + length bytes
 wrote bytes at old h =
     let e : fitting (length old - at) bytes ≡ bytes = fitting_all (length old - at) bytes (omega arith) in
     record { index = rw e; buffer = rw e }
+
+-- so it is where a part of the buffer takes them
+pub placed : (bytes : List ℕ) (at : ℕ) (old : List ℕ) {new : List ℕ} {k : ℕ} → new ≡ bytes → k ≡ length bytes → at + length bytes ≤ length old
+    → Written bytes at old (put_mid at k old new) (at + length bytes)
+unfolding over_from
+placed bytes at old {new} {k} e n h =
+    let w : Written bytes at old (over_from at bytes old) (at + length bytes) = wrote bytes at old h in
+    let whole : put_mid at k old new ≡ over_from at bytes old =
+    put_mid-paste at k old new bytes (length bytes) e (sym n) refl
+    ∙ ap (λ (l : List ℕ). take at old ++ l ++ drop (at + length bytes) old) (take-length bytes) in
+    record { index = w.index; buffer = whole ∙ w.buffer }
 
 -- what was written, and where, by a writer with room for its bytes
 module _ {bytes : List ℕ} {at : ℕ} {old new : List ℕ} {next : ℕ} (w : Written bytes at old new next) (room : at + length bytes ≤ length old) where
@@ -145,20 +158,6 @@ from_start {bytes} {old} {new} {next} w =
           ∙ ap (λ (n : ℕ). fitting (length old) bytes ++ drop n old) (z (length (fitting (length old) bytes)));
     }
 
--- the part that was written
-module _ {bytes old new : List ℕ} {count : ℕ} (w : LineWritten bytes old new count) where
-  pub line_part : take count new ≡ fitting (length old) bytes
-  line_part = ap (take count) w.buffer ∙ take_at (fitting (length old) bytes) (drop (length (fitting (length old) bytes)) old) count (sym w.number)
-
-  pub line_count : count ≡ length (take count new)
-  line_count = w.number ∙ sym (ap length line_part)
-
 -- the part from an index to the end, as it is lent
 pub part_to_end : (l : List ℕ) (end from : ℕ) → length l ≤ end → take (end - from) (drop from l) ≡ drop from l
 part_to_end l end from h = let e : length (drop from l) ≡ length l - from = length-drop from l in take_all (end - from) (drop from l) (omega arith)
-
--- a byte stored in front of what stands from i on
-pub drop_set : (l : List ℕ) (i b : ℕ) → i < length l → drop i (set l i b) ≡ b ∷ drop (suc i) l
-drop_set l i b h =
-    drop-cons (set l i b) i 0 (subst (λ (n : ℕ). i < n) (sym (length-set l i b)) h)
-    ∙ ap₂ (λ (a : ℕ) (r : List ℕ). a ∷ r) (get_or-set_same l i b 0 h) (drop-set-lt (suc i) l i b (omega arith))

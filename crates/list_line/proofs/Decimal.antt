@@ -2,16 +2,18 @@
 use Prim.Native.Nat.{ℕ, zero, suc, ◌+◌, ◌/◌, ◌%◌, ◌^◌, ◌≤◌, ◌<◌}
 use native.Mathlib.Nat.{pow-suc, div-lt_iff_lt-mul}
 use native.Mathlib.Omega.{arith}
-use mathlib.Core.Path.{◌≡◌, refl, sym, subst}
-use mathlib.Core.Bool.{Bool, true, false}
+use mathlib.Core.Path.{◌≡◌, refl, sym, ap, subst}
+use mathlib.Core.Bool.{Bool, true, false, false≢true}
 use mathlib.Core.List.{List, [], ◌∷◌, ◌++◌}
-use lib.Dec.{ltb}
-use lib.ListN.{length, length-append}
-use lib.IntN.{ℤ, pos, negsuc}
+use lib.Dec.{ltb, leb-zero}
+use Rattle.base.proofs.Lists.{clash}
+use lib.ListN.{length, drop, length-append, drop_of_length-le}
+use lib.IntN.{ℤ, pos, negsuc, nat_abs}
+use lib.Signed.{le_z}
 use borrow.Author.Tests.{lt-ltb, le-ltb, ltb-true, ltb-false}
 use Rattle.list_line.specs.Line.{fitting, digits_before, decimal, signed, shown_score, line}
 use Rattle.list_line.proofs.Buffers.{fitting_all}
-use Rattle.base.specs.Bytes.{slash, digit}
+use Rattle.base.specs.Bytes.{minus, slash, digit}
 use Rattle.mappings.specs.declared.Score.{Score}
 use Rattle.mappings.specs.declared.Score.TheVariants.{Number, Fraction}
 use Rattle.strands.specs.declared.Strand.{Strand}
@@ -45,6 +47,32 @@ digits_by P last more (suc places) n rest h = go (λ k. digits_by P last more pl
     go rec false e =
         let large : 10 ≤ n = ltb-false n 10 e in
         subst (λ (l : List ℕ). P n rest l) (sym (digits_more (suc places) n rest large)) (more n rest _ large (rec (tenth (suc places) n h)))
+
+-- ---- the sign
+
+pub signed_above : (z : ℤ) → le_z (pos 0) z ≡ true → decimal (nat_abs z) ≡ signed z
+unfolding signed
+signed_above (pos n) e = refl
+signed_above (negsuc n) e = absurd (false≢true e)
+
+pub signed_below : (z : ℤ) → le_z (pos 0) z ≡ false → minus ∷ decimal (nat_abs z) ≡ signed z
+unfolding signed
+signed_below (pos n) e = clash (leb-zero n) e
+signed_below (negsuc n) e = refl
+
+-- ---- digits written from the last to the first
+
+-- where the digits from i on are written and this much of n is left
+pub record Left (n : ℕ) (digits : List ℕ) (rest i : ℕ) : Type 0 where
+  pub inside : i ≤ 10
+  pub small : rest < 10 ^ i
+  pub same : digits_before i rest (drop i digits) ≡ decimal n
+
+pub left_all : (n : ℕ) (digits : List ℕ) → length digits ≡ 10 → n < 2 ^ 32 → Left n digits n 10
+unfolding decimal
+left_all n digits long fits =
+    let h : length digits ≤ 10 = omega arith in
+    record { inside = omega arith; small = omega arith; same = ap (digits_before 10 n) (drop_of_length-le digits h) }
 
 -- ---- lengths
 

@@ -4,3 +4,4 @@ pub mod Cases
 pub mod Buffers
 pub mod Decimal
 pub mod Writers
+pub mod Pieces

@@ -1,6 +1,5 @@
 // Writers of bytes, of numbers and of the printed line into a lent buffer. Each writes all or nothing.
-ghost use Rattle.std.specs.Prelude.{◌≡◌, false, [], ◌∷◌, ◌++◌, ◌≤◌, length, drop, pos, nat_abs};
-ghost use Rattle.std.specs.Int.Signed.{le_z};
+ghost use Rattle.std.specs.Prelude.{◌≡◌, [], ◌∷◌, ◌++◌, ◌≤◌, length, drop};
 ghost use Rattle.base.specs.Bytes.{slash};
 ghost use Rattle.list_line.specs.Line.{decimal, signed, shown_score, sign, line, fitting, LineWritten};
 ghost use Rattle.list_line.specs.Writing.{Written};
@@ -13,46 +12,34 @@ use strands::Strand;
 pub fn put_bytes(out: &mut [u8], at: usize, bytes: &[u8]) -> usize
     ensures { Written bytes.now at out.old out.new result }
 {
-    if out.len() < at {
+    if at > out.len() || bytes.len() > out.len() - at {
         return at;
     }
-    if out.len() - at < bytes.len() {
-        return at;
-    }
-    let mut j = 0;
-    while j < bytes.len() {
-        out[at + j] = bytes[j];
-        j += 1;
-    }
-    at + j
+    let next = at + bytes.len();
+    out[at..next].copy_from_slice(bytes);
+    next
 }
 
 // The same for one byte.
 pub fn put_byte(out: &mut [u8], at: usize, b: u8) -> usize
     ensures { Written (b ∷ []) at out.old out.new result }
 {
-    if out.len() <= at {
-        return at;
-    }
-    out[at] = b;
-    at + 1
+    put_bytes(out, at, &[b])
 }
 
 // The decimal digits of n at the end of ten bytes; answers where they begin. They are written backwards, since the lowest is known first.
-fn write_digits(digits: &mut [u8], n: u32) -> usize
-    requires { length digits.old ≡ 10 }
+fn write_digits(digits: &mut [u8; 10], n: u32) -> usize
     ensures { (result ≤ 10) × (drop result digits.new ≡ decimal n) }
 {
     let mut rest = n;
-    let mut i: usize = 10;
-    while 10 <= rest {
-        i -= 1;
+    for i in (0..10).rev() {
         digits[i] = ZERO + (rest % 10) as u8;
-        rest = rest / 10;
+        rest /= 10;
+        if rest == 0 {
+            return i;
+        }
     }
-    i -= 1;
-    digits[i] = ZERO + rest as u8;
-    i
+    0
 }
 
 // A number in decimal, as `put_bytes` writes bytes.
@@ -64,29 +51,21 @@ pub fn put_decimal(out: &mut [u8], at: usize, n: u32) -> usize
     put_bytes(out, at, &digits[from..])
 }
 
-// A number below 0 without its sign, by way of 64 bits: the lowest number has no counterpart in 32.
-fn magnitude(z: i32) -> u32
-    requires { le_z (pos 0) z ≡ false }
-    ensures { result ≡ nat_abs z }
-{
-    (-(z as i64)) as u32
-}
-
-// A signed number in decimal, as `put_bytes` writes bytes.
+// A signed number in decimal, as `put_bytes` writes bytes. Minus and digits stand in a local buffer first: what does not fit is not
+// written in part.
 pub fn put_signed(out: &mut [u8], at: usize, z: i32) -> usize
     ensures { Written (signed z) at out.old out.new result }
 {
-    if 0 <= z {
+    if z >= 0 {
         return put_decimal(out, at, z as u32);
     }
-    let mut digits = [0u8; 11];
-    let from = write_digits(&mut digits[1..], magnitude(z));
-    digits[from] = MINUS;
-    put_bytes(out, at, &digits[from..])
+    let mut text = [0u8; 11];
+    let mut end = put_byte(&mut text, 0, MINUS);
+    end = put_decimal(&mut text, end, z.unsigned_abs());
+    put_bytes(out, at, &text[..end])
 }
 
-// A fraction as its two numbers with a slash between them, as `put_bytes` writes bytes. Both stand in a local buffer first: what does not fit
-// is not written in part.
+// A fraction as its two numbers with a slash between them, as `put_bytes` writes bytes; by a local buffer, as in `put_signed`.
 fn put_fraction(out: &mut [u8], at: usize, m: u32, divisor: u32) -> usize
     ensures { Written (decimal m ++ slash ∷ decimal divisor) at out.old out.new result }
 {

@@ -2,13 +2,15 @@
 use Prim.Native.Nat.{ℕ, suc, ◌+◌, ◌-◌, ◌≤◌, ◌<◌}
 use native.Mathlib.Nat.{le_refl, sub-zero}
 use native.Mathlib.Omega.{arith}
-use mathlib.Core.Path.{◌≡◌, refl, sym, ap, ◌∙◌}
+use mathlib.Core.Path.{◌≡◌, refl, sym, ap, ◌∙◌, subst}
 use mathlib.Core.Logic.{inl, inr}
 use mathlib.Core.Bool.{Bool, true, false}
 use mathlib.Core.List.{List, [], ◌∷◌, ◌++◌, append_assoc, append-nil}
 use lib.ListN.{length, take, drop, length-append}
 use borrow.Author.Tests.{le-ltb, lt-ltb, le-leb, lt-leb}
+use Rattle.std.specs.Prelude.{Result, Ok, Err}
 use Rattle.base.specs.Limits.{work_words, hit_limit}
+use Rattle.base.specs.declared.refusal.Refusal.{Refusal}
 use Rattle.mappings.specs.declared.Score.{Score}
 use Rattle.mappings.specs.Score.{Task}
 use Rattle.mappings.specs.Cells.{Mapping, hit_count}
@@ -16,7 +18,7 @@ use Rattle.mappings.specs.Rule.{Answer, found, finished, refused, reported, rule
 use Rattle.mappings.proofs.Rule.{total}
 use Rattle.session_start.specs.WorkWords.{session_words}
 use Rattle.mapper.specs.declared.answer.Stepped.{Stepped}
-use Rattle.mapper.specs.declared.answer.Stepped.TheVariants.{Found, Finished, Spent, TooFewWords, BadWords}
+use Rattle.mapper.specs.declared.answer.Stepped.TheVariants.{Found, Finished, Spent}
 use Rattle.mapper.specs.Answers.{answer_of}
 use Rattle.mapper.specs.Step.{too_few_words}
 use Rattle.mapper.specs.Promise.{Accepts, StepPromise}
@@ -90,16 +92,20 @@ going_start work places k size strand count out = record {
 
 -- ---- answers
 
+-- a step's promise for the answer that it gave
+pub answered : {work : List ℕ} {B : ℕ} {r answer : Result Stepped Refusal} {work' : List ℕ} → StepPromise work B r work' → r ≡ answer
+    → StepPromise work B answer work'
+answered {work} {B} {work' = work'} promise e = subst (λ (a : Result Stepped Refusal). StepPromise work B a work') e promise
+
 -- neither found nor finished
-abbrev pub Other : Stepped → Type 0
-Other (Found a b score m cells) = ⊥
-Other (Finished cells) = ⊥
-Other (Spent cells) = Unit {0}
-Other TooFewWords = Unit {0}
-Other BadWords = Unit {0}
+abbrev pub Other : Result Stepped Refusal → Type 0
+Other (Ok (Found a b score m cells)) = ⊥
+Other (Ok (Finished cells)) = ⊥
+Other (Ok (Spent cells)) = Unit {0}
+Other (Err refusal) = Unit {0}
 
 -- a step on words that it refuses
-refused_step : {work : List ℕ} {B : ℕ} {answer : Stepped} {work' : List ℕ} → StepPromise work B answer work' → refused_words work ≡ true
+refused_step : {work : List ℕ} {B : ℕ} {answer : Result Stepped Refusal} {work' : List ℕ} → StepPromise work B answer work' → refused_words work ≡ true
     → ((n : ℕ) × (answer_of answer ≡ refused n)) × (work' ≡ work)
 unfolding refused_words
 refused_step {work} {B} {answer} {work'} promise e = go (too_few_words work) refl
@@ -174,7 +180,7 @@ module _ (work₀ places : List ℕ) (k size : ℕ) (strand : Strand) (found₀ 
     (inside : at ≤ length out)
     (same : length out ≡ length out₀)
     (room : line_room ≤ length out - at) (going : Going work₀ places k size strand found₀ out₀ out work at count) where
-  refused_now : (answer : Stepped) (work' : List ℕ) → StepPromise work step_budget answer work' → refused_words work₀ ≡ true
+  refused_now : (answer : Result Stepped Refusal) (work' : List ℕ) → StepPromise work step_budget answer work' → refused_words work₀ ≡ true
       → ((n : ℕ) × (answer_of answer ≡ refused n)) × (work' ≡ work)
   refused_now answer work' promise e = refused_step promise (ap refused_words (going.unmoved e).2 ∙ e)
 
@@ -216,7 +222,7 @@ module _ (work₀ places : List ℕ) (k size : ℕ) (strand : Strand) (found₀ 
     limits : Admitted task (length before) (hit_count task ∷ [])
     limits = admitted task (length before) (hit_count task ∷ []) p.accepts.accepts
 
-    ruled : (answer : Stepped) (work' : List ℕ) → StepPromise work step_budget answer work'
+    ruled : (answer : Result Stepped Refusal) (work' : List ℕ) → StepPromise work step_budget answer work'
         → (rule_answer task q step_budget ≡ answer_of answer) × (work' ≡ session_words task before (q + reported (answer_of answer)))
     ruled answer work' promise =
         let s = promise.session task before q p.accepts on.among on.words in
@@ -224,12 +230,12 @@ module _ (work₀ places : List ℕ) (k size : ℕ) (strand : Strand) (found₀ 
 
     -- ---- found
 
-    module _ (a b : ℕ) (score : Score) (m cells : ℕ) (work' : List ℕ) (promise : StepPromise work step_budget (Found a b score m cells) work') where
+    module _ (a b : ℕ) (score : Score) (m cells : ℕ) (work' : List ℕ) (promise : StepPromise work step_budget (Ok (Found a b score m cells)) work') where
       abbrev mapping : Mapping
       mapping = record { a = a; b = b; score = score; m = m }
 
       rule : rule_answer task q step_budget ≡ found mapping cells
-      rule = (ruled (Found a b score m cells) work' promise).0
+      rule = (ruled (Ok (Found a b score m cells)) work' promise).0
 
       within : (0 < cells) × (q + cells ≤ total task)
       within = found_within task q step_budget on.among mapping cells rule
@@ -272,7 +278,7 @@ module _ (work₀ places : List ℕ) (k size : ℕ) (strand : Strand) (found₀ 
             onward = let o = on.onward in omega arith;
             among = within.1;
             counted = let w = within in let c = on.counted in omega arith;
-            words = (ruled (Found a b score m cells) work' promise).1;
+            words = (ruled (Ok (Found a b score m cells)) work' promise).1;
             lines = let l = on.lines in let o = one_more in omega arith;
             place = on_place ∙ on.place;
             tally = let t = on.tally in let l : length (finals_after task q) ≡ suc (length (finals_after task (q + cells))) = ap length finals in omega arith;
@@ -300,7 +306,7 @@ module _ (work₀ places : List ℕ) (k size : ℕ) (strand : Strand) (found₀ 
               onward = let o = on.onward in omega arith;
               among = w.1;
               counted = let c = on.counted in omega arith;
-              words = (ruled (Found a b score m cells) work' promise).1;
+              words = (ruled (Ok (Found a b score m cells)) work' promise).1;
               found_is = let l = on.lines in omega arith;
               ends =
                   inr
@@ -322,11 +328,11 @@ module _ (work₀ places : List ℕ) (k size : ℕ) (strand : Strand) (found₀ 
 
     -- ---- finished
 
-    module _ (cells : ℕ) (work' : List ℕ) (promise : StepPromise work step_budget (Finished cells) work') where
+    module _ (cells : ℕ) (work' : List ℕ) (promise : StepPromise work step_budget (Ok (Finished cells)) work') where
       finished_piece : (r : Filled) → r.written ≡ at → r.found ≡ count → r.left ≡ 1
           → (q' : ℕ) × Piece task places k size strand q₀ found₀ out₀ r out q' before work'
       finished_piece r ew ef el =
-          let f = finished_next task q step_budget on.among cells (ruled (Finished cells) work' promise).0 in
+          let f = finished_next task q step_budget on.among cells (ruled (Ok (Finished cells)) work' promise).0 in
           let none : length (finals_after task q) ≡ 0 = ap length f.0 in
           let none_more : lines_in places k size strand (length out₀ - at) count (finals_after task q) ≡ 0 =
           ap (lines_in places k size strand (length out₀ - at) count) f.0 in (
@@ -335,7 +341,7 @@ module _ (work₀ places : List ℕ) (k size : ℕ) (strand : Strand) (found₀ 
               onward = let o = on.onward in omega arith;
               among = omega (arith, f.1);
               counted = let c = on.counted in omega arith;
-              words = (ruled (Finished cells) work' promise).1;
+              words = (ruled (Ok (Finished cells)) work' promise).1;
               found_is = let l = on.lines in omega arith;
               ends =
                   inl
@@ -355,32 +361,31 @@ module _ (work₀ places : List ℕ) (k size : ℕ) (strand : Strand) (found₀ 
 
     -- ---- no other answer
 
-    not_other : (answer : Stepped) → Other answer → (work' : List ℕ) → StepPromise work step_budget answer work' → ⊥
-    not_other (Found a b score m cells) o work' promise = o
-    not_other (Finished cells) o work' promise = o
-    not_other (Spent n) o work' promise =
+    not_other : (answer : Result Stepped Refusal) → Other answer → (work' : List ℕ) → StepPromise work step_budget answer work' → ⊥
+    not_other (Ok (Found a b score m cells)) o work' promise = o
+    not_other (Ok (Finished cells)) o work' promise = o
+    not_other (Ok (Spent n)) o work' promise =
         let few : total task ≤ cell_limit = few_cells (hit_count task) limits.few_hits in
-        never_spent task q step_budget on.among n (omega arith) (ruled (Spent n) work' promise).0
-    not_other TooFewWords o work' promise = never_refused task q step_budget on.among 10 (ruled TooFewWords work' promise).0
-    not_other BadWords o work' promise = never_refused task q step_budget on.among 15 (ruled BadWords work' promise).0
+        never_spent task q step_budget on.among n (omega arith) (ruled (Ok (Spent n)) work' promise).0
+    not_other (Err refusal) o work' promise = never_refused task q step_budget on.among _ (ruled (Err refusal) work' promise).0
 
-  not_found : (a b : ℕ) (score : Score) (m cells : ℕ) (work' : List ℕ) → StepPromise work step_budget (Found a b score m cells) work'
+  not_found : (a b : ℕ) (score : Score) (m cells : ℕ) (work' : List ℕ) → StepPromise work step_budget (Ok (Found a b score m cells)) work'
       → refused_words work₀ ≡ true → ⊥
   not_found a b score m cells work' promise e =
-      let r = refused_now (Found a b score m cells) work' promise e in
+      let r = refused_now (Ok (Found a b score m cells)) work' promise e in
       let d : found (record { a = a; b = b; score = score; m = m }) cells ≡ refused r.0.0 = r.0.1 in
       let z : ◌≡◌ {A = ℕ} 0 1 = cc in
       omega arith
 
-  not_finished : (cells : ℕ) (work' : List ℕ) → StepPromise work step_budget (Finished cells) work' → refused_words work₀ ≡ true → ⊥
+  not_finished : (cells : ℕ) (work' : List ℕ) → StepPromise work step_budget (Ok (Finished cells)) work' → refused_words work₀ ≡ true → ⊥
   not_finished cells work' promise e =
-      let r = refused_now (Finished cells) work' promise e in
+      let r = refused_now (Ok (Finished cells)) work' promise e in
       let d : finished cells ≡ refused r.0.0 = r.0.1 in
       let z : ◌≡◌ {A = ℕ} 0 1 = cc in
       omega arith
 
   pub going_found : (a b : ℕ) (score : Score) (m cells next : ℕ) (out' work' : List ℕ)
-      → StepPromise work step_budget (Found a b score m cells) work'
+      → StepPromise work step_budget (Ok (Found a b score m cells)) work'
       → MappingWritten places k size strand a b score m at out out' next → count < found_limit → at < next
       → Going work₀ places k size strand found₀ out₀ out' work' next (count + 1)
   going_found a b score m cells next out' work' promise put few further = record {
@@ -394,7 +399,7 @@ module _ (work₀ places : List ℕ) (k size : ℕ) (strand : Strand) (found₀ 
 
   module _ (number : length work ≡ length work₀) (r : Filled) where
     -- a mapping whose line is not written
-    pub fills_stopped : (a b : ℕ) (score : Score) (m cells : ℕ) (work' : List ℕ) → StepPromise work step_budget (Found a b score m cells) work'
+    pub fills_stopped : (a b : ℕ) (score : Score) (m cells : ℕ) (work' : List ℕ) → StepPromise work step_budget (Ok (Found a b score m cells)) work'
         → is_printed places k size count (record { a = a; b = b; score = score; m = m }) ≡ false → (out' : List ℕ) → out' ≡ out
         → r.written ≡ at → r.found ≡ count → r.left ≡ 0 → Fills work₀ places k size strand found₀ out₀ r work' out'
     fills_stopped a b score m cells work' promise unprinted out' eo ew ef el =
@@ -403,7 +408,7 @@ module _ (work₀ places : List ℕ) (k size : ℕ) (strand : Strand) (found₀ 
         (omega arith) (omega arith) (ap (drop r.written) eo) (omega arith) (λ e. absurd (not_found a b score m cells work' promise e))
         (λ task before q₀ p. stuck_piece task before q₀ p a b score m cells work' promise unprinted out' eo r ew ef el)
 
-    pub fills_finished : (cells : ℕ) (work' : List ℕ) → StepPromise work step_budget (Finished cells) work'
+    pub fills_finished : (cells : ℕ) (work' : List ℕ) → StepPromise work step_budget (Ok (Finished cells)) work'
         → r.written ≡ at → r.found ≡ count → r.left ≡ 1 → Fills work₀ places k size strand found₀ out₀ r work' out
     fills_finished cells work' promise ew ef el =
         fills work₀ places k size strand found₀ out₀ out work at count going same number r work' out promise.number
@@ -411,7 +416,7 @@ module _ (work₀ places : List ℕ) (k size : ℕ) (strand : Strand) (found₀ 
         (omega arith) refl (omega arith) (λ e. absurd (not_finished cells work' promise e))
         (λ task before q₀ p. finished_piece task before q₀ p cells work' promise r ew ef el)
 
-    pub fills_other : (answer : Stepped) → Other answer → (work' : List ℕ) → StepPromise work step_budget answer work'
+    pub fills_other : (answer : Result Stepped Refusal) → Other answer → (work' : List ℕ) → StepPromise work step_budget answer work'
         → r.written ≡ at → r.found ≡ count
         → r.left ≡ 0 → Fills work₀ places k size strand found₀ out₀ r work' out
     fills_other answer other work' promise ew ef el =

@@ -1,6 +1,6 @@
 -- The pieces in which the lines of a session's mappings are printed, and what each leaves to be printed.
 use Rattle.std.specs.Prelude.{ℕ, zero, suc, ◌+◌, ◌-◌, ◌*◌, ◌/◌, ◌≤◌, ◌<◌, ◌≡◌, ◌⊎◌, Bool, true, false, cond, ◌&&◌}
-use Rattle.std.specs.Prelude.{◌||◌, List, [], ◌∷◌, ◌++◌, map, leb, ltb, length, get_or, take, drop}
+use Rattle.std.specs.Prelude.{◌||◌, List, [], ◌∷◌, ◌++◌, map, leb, ltb, length, get_or, take, drop, Option, Some}
 use Rattle.base.specs.Lists.{keep}
 use Rattle.base.specs.Limits.{hit_limit, work_words, text_limit, pattern_limit, word_limit}
 use Rattle.mappings.specs.declared.Score.{Score}
@@ -40,11 +40,10 @@ is_held places k size a b m =
     && leb m (length_of a b)
     && leb m size
 
--- what `end_of` answers: 0 where the line's numbers do not hold it
-pub record EndOf (places : List ℕ) (k size a b end : ℕ) : Type 0 where
-  pub inside : 0 < end
-      → (a ≤ b) × (b < length places) × (b - a < text_limit) × (size ≤ pattern_limit) × (end ≤ word_limit) × (end ≡ get_or places b 0 + k)
-  pub held : Holds places k size a b → end ≡ get_or places b 0 + k
+-- what `last_letter` answers: none where the line's numbers do not hold it
+pub record LastLetter (places : List ℕ) (k size a b : ℕ) (last : Option ℕ) : Type 0 where
+  pub inside : (n : ℕ) → last ≡ Some n → Holds places k size a b × (n ≡ get_or places b 0 + k - 1)
+  pub held : Holds places k size a b → last ≡ Some (get_or places b 0 + k - 1)
 
 -- what `put_mapping` leaves: the mapping's line where its numbers hold it, else nothing
 pub record MappingWritten (places : List ℕ) (k size : ℕ) (strand : Strand) (a b : ℕ) (score : Score) (m at : ℕ) (before after : List ℕ)

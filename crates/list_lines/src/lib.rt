@@ -2,5 +2,6 @@
 #![tactic(auto)]
 
 pub mod filling;
+pub mod listing;
 mod mapping;
 pub mod words;

@@ -1,41 +1,37 @@
 // The line of a mapping, from what a step hands out and what belongs to its session.
-ghost use Rattle.list_lines.specs.Pieces.{EndOf, MappingWritten};
+ghost use Rattle.list_lines.specs.Pieces.{LastLetter, MappingWritten};
 
+use crate::listing::Listing;
 use base::{PATTERN_LIMIT, TEXT_LIMIT, WORD_LIMIT};
 use list_line::writing::{line, put_bytes};
 use mappings::Score;
 use per_mille::per_mille;
-use session_words::{wide, wider};
-use strands::Strand;
 
 // No line is longer.
 pub const LINE_ROOM: usize = 68;
 
-// The position of entry `to` and k; or 0 where the line's numbers would not hold what [from, to] asks, which no session hands out.
-fn end_of(positions: &[u32], k: u32, size: usize, from: usize, to: usize) -> u64
-    ensures { EndOf positions.now k size from to result }
+// The last letter of the k-mer at entry `to`; None where the line's numbers would not hold what [from, to] asks, which no session hands out.
+fn last_letter(listing: Listing, from: usize, to: usize) -> Option<u32>
+    ensures { LastLetter listing.entry.positions.now listing.entry.k listing.entry.size from to result }
 {
-    if to < from {
-        return 0;
+    let Listing {
+        positions,
+        k,
+        size,
+        ..
+    } = listing;
+    if to < from || positions.len() <= to || TEXT_LIMIT <= to - from || PATTERN_LIMIT < size {
+        return None;
     }
-    if positions.len() <= to {
-        return 0;
+    let end = positions[to] as u64 + k as u64;
+    if end == 0 || WORD_LIMIT < end {
+        return None;
     }
-    if TEXT_LIMIT <= to - from {
-        return 0;
-    }
-    if PATTERN_LIMIT < size {
-        return 0;
-    }
-    let end = wider(positions[to]) + wider(k);
-    if WORD_LIMIT < end {
-        return 0;
-    }
-    end
+    Some((end - 1) as u32)
 }
 
 // A mapping as a step hands it out.
-#[derive(Clone, Copy)]
+#[derive(Clone, Copy, Debug, PartialEq, Eq)]
 pub struct Mapping {
     pub score: Score,
     pub a: u32,
@@ -44,40 +40,28 @@ pub struct Mapping {
 }
 
 // The line of a mapping. What no session hands out has none.
-pub fn put_mapping(
-    out: &mut [u8],
-    at: usize,
-    positions: &[u32],
-    k: u32,
-    size: usize,
-    strand: Strand,
-    mapping: Mapping,
-) -> usize
-    ensures { MappingWritten positions.now k size strand mapping.a mapping.b mapping.score mapping.m at out.old
-        out.new result }
+pub fn put_mapping(out: &mut [u8], at: usize, listing: Listing, mapping: Mapping) -> usize
+    ensures { MappingWritten listing.entry.positions.now listing.entry.k listing.entry.size listing.entry.strand mapping.a mapping.b mapping.score mapping.m
+        at out.old out.new result }
 {
-    let from = wide(mapping.a);
-    let to = wide(mapping.b);
-    let score = mapping.score;
-    let m = mapping.m;
-    let end = end_of(positions, k, size, from, to);
-    if end < 1 {
+    let Mapping { score, a, b, m } = mapping;
+    let from = a as usize;
+    let to = b as usize;
+    let Some(last) = last_letter(listing, from, to) else {
         return at;
-    }
-    let thousandths = per_mille(m, (to - from + 1) as u32, size as u32);
-    if thousandths < 0 {
+    };
+    let Ok(thousandths) = per_mille(m, (to - from + 1) as u32, listing.size as u32) else {
         return at;
-    }
-    let first = positions[from];
+    };
     let mut text = [0u8; LINE_ROOM];
     let part = line(
         &mut text,
-        first,
-        (end - 1) as u32,
+        listing.positions[from],
+        last,
         score,
         m,
-        thousandths as u32,
-        strand,
+        thousandths,
+        listing.strand,
     );
     put_bytes(out, at, part)
 }

@@ -1,55 +1,50 @@
 -- From the two lines to the session: what the two sketches answer and leave, and what strike and start make of them.
 use Prim.Native.Nat.{ℕ, ◌≤◌}
+use native.Mathlib.Omega.{arith}
 use mathlib.Core.Path.{◌≡◌, sym, ap, ◌∙◌}
-use mathlib.Core.Logic.{◌≢◌}
 use mathlib.Core.List.{List, [], ◌∷◌}
 use lib.ListN.{length, take}
+use Rattle.std.specs.Prelude.{Result, Ok, Err}
 use Rattle.base.specs.Limits.{line_limit}
 use Rattle.base.specs.Replies.{Reply, accepted, after}
+use Rattle.base.specs.Refusals.{reply_of, refused_by}
+use Rattle.base.specs.declared.refusal.Refusal.{Refusal}
 use Rattle.kmers.specs.Kmers.{Entry, codes, positions, entries}
 use Rattle.minimizers.specs.Sketch.{sketch}
 use Rattle.sketch.specs.Replies.{sketch_reply, sketch_codes, sketch_positions}
-use Rattle.sketch.specs.Answers.{reply_of, Sketches}
-use Rattle.sketch.specs.declared.Sketched.{Sketched}
+use Rattle.sketch.specs.Answers.{Sketches}
 use Rattle.kmers.proofs.Entries.{entries_same, length_codes, length_positions}
 use Rattle.strike.specs.Strike.{struck}
 use Rattle.sketch.proofs.Accepted.{Held, sketch_held}
 use Rattle.session_start.specs.Start.{start_reply, start_words}
 use Rattle.requests.specs.declared.Settings.{Settings}
 use Rattle.requests.specs.Requests.{text_of, pattern_of, task_of}
-use Rattle.answers.specs.Numbers.{number_of, value_of}
-use Rattle.answers.proofs.Accepted.{sketch_tells}
 use Rattle.list_open.specs.Calls.{and_then, striking_of, sketches_reply, striking_reply, pattern_reply, calls_reply}
-use Rattle.list_open.specs.Opening.{opened_of, positions_after, work_after, Opens, OpensSketches}
-use Rattle.list_open.specs.declared.calls.Opened.{Opened}
-use Rattle.list_open.specs.declared.calls.Opened.TheVariants.{Refused}
-use Rattle.list_open.proofs.Replies.{and_refused, refused_opened, refused_after, refused_where, front_over}
+use Rattle.list_open.specs.Opening.{opened_by, opened_of, positions_after, work_after, where_accepted, Opens, OpensSketches}
+use Rattle.list_open.proofs.Replies.{front_over}
 
--- ---- one sketch in two buffers of 4,096 words, and its answer as numbers
+-- ---- one sketch in two buffers of 4,096 words
 
-module _ (k w : ℕ) (letters codes₀ places₀ codes₁ places₁ : List ℕ) (r : Sketched)
-    (made : Sketches k w letters codes₀ places₀ r codes₁ places₁) (long : length codes₀ ≡ line_limit) (long' : length places₀ ≡ line_limit)
-    (n m : ℕ) (number : n ≡ number_of (reply_of r)) (count : m ≡ value_of (reply_of r)) where
+module _ (k w : ℕ) (letters codes₀ places₀ codes₁ places₁ : List ℕ) (long : length codes₀ ≡ line_limit) (long' : length places₀ ≡ line_limit) where
   abbrev reply : Reply
   reply = sketch_reply k w letters line_limit line_limit
 
-  replied : reply_of r ≡ reply
-  replied = rw (long, long') at made.answer
+  pub sketch_replied : (r : Result ℕ Refusal) → Sketches k w letters codes₀ places₀ r codes₁ places₁ → reply_of r ≡ reply
+  sketch_replied r made = rw (long, long') at made.answer
 
-  pub sketch_number : n ≡ number_of reply
-  sketch_number = number ∙ ap number_of replied
-
-  module _ (zero : n ≡ 0) where
+  module _ (m : ℕ) (made : Sketches k w letters codes₀ places₀ (Ok m) codes₁ places₁) where
     pub sketch_accepts : reply ≡ accepted (m ∷ [])
-    sketch_accepts =
-        (sketch_tells k w letters line_limit line_limit).tells (sym sketch_number ∙ zero)
-        ∙ ap (λ (i : ℕ). accepted (i ∷ [])) (sym (count ∙ ap value_of replied))
+    sketch_accepts = sym (sketch_replied (Ok m) made)
 
     held : Held (length (sketch k w letters)) line_limit line_limit m
     held = sketch_held k w letters line_limit line_limit m sketch_accepts
 
-    pub sketch_inside : m ≤ line_limit
-    sketch_inside = held.in_codes
+    -- the entries lie within both buffers
+    pub codes_hold : length codes₁ ≡ length codes₀ → m ≤ length codes₁
+    codes_hold l = omega (arith, held.in_codes, long)
+
+    pub places_hold : length places₁ ≡ length places₀ → m ≤ length places₁
+    places_hold l = omega (arith, held.in_codes, long')
 
     pub codes_front : take m codes₁ ≡ codes (sketch k w letters)
     unfolding sketch_codes
@@ -88,30 +83,32 @@ module _ (s : Settings) (text read places work : List ℕ) where
   read_strike = striking_of text_sketch read_sketch s.c line_limit
 
   -- a sketch refuses, and so do all calls
-  sketch_refused : (n : ℕ) (reply : Reply) → sketches_reply s text read ≡ reply → n ≡ number_of reply → n ≢ 0
-      → Opens s text read places work (Refused n) places work
+  sketch_refused : (e : Refusal) → sketches_reply s text read ≡ refused_by e → Opens s text read places work (Err e) places work
   unfolding opened_of positions_after work_after calls_reply pattern_reply striking_reply
-  sketch_refused n reply e f h =
-      let not_zero : number_of reply ≢ 0 = λ z. h (f ∙ z) in
-      let struck : and_then (sketches_reply s text read) text_strike ≡ reply =
-      ap (λ (a : Reply). and_then a text_strike) e ∙ and_refused reply text_strike not_zero in
-      let calls : and_then (and_then (sketches_reply s text read) text_strike) read_strike ≡ reply =
-      ap (λ (a : Reply). and_then a read_strike) struck ∙ and_refused reply read_strike not_zero in
+  sketch_refused e h =
+      let back = sym h in
       record {
-        answer = rw calls (ap Refused f
-            ∙ refused_opened reply (start_reply (task_of s text read) (length work)) (length (pattern_of s text read)) not_zero);
-        positions_after = rw struck (refused_after reply (positions (text_of s text)) places not_zero);
-        work_after = rw calls (refused_where reply (start_words (task_of s text read) work) work not_zero);
+        answer =
+            ap
+            (λ (a : Reply). opened_by
+            (and_then (and_then (and_then a text_strike) read_strike) (start_reply (task_of s text read) (length work)))
+            (length (pattern_of s text read)))
+            back;
+        positions_after = ap (λ (a : Reply). after (and_then a text_strike) (positions (text_of s text)) places) back;
+        work_after =
+            ap
+            (λ (a : Reply). where_accepted (and_then (and_then a text_strike) read_strike) (start_words (task_of s text read) work) work)
+            back;
       }
 
-  pub text_refused : (n : ℕ) → n ≡ number_of of_text → n ≢ 0 → Opens s text read places work (Refused n) places work
+  pub text_refused : (e : Refusal) → refused_by e ≡ of_text → Opens s text read places work (Err e) places work
   unfolding sketches_reply
-  text_refused n e h = sketch_refused n of_text (and_refused of_text of_read (λ z. h (e ∙ z))) e h
+  text_refused e h = sketch_refused e (ap (λ (a : Reply). and_then a of_read) (sym h))
 
   module _ (i : ℕ) (text-accepts : of_text ≡ accepted (i ∷ [])) where
-    pub read_refused : (n : ℕ) → n ≡ number_of of_read → n ≢ 0 → Opens s text read places work (Refused n) places work
+    pub read_refused : (e : Refusal) → refused_by e ≡ of_read → Opens s text read places work (Err e) places work
     unfolding sketches_reply
-    read_refused n e h = sketch_refused n of_read (ap (λ (a : Reply). and_then a of_read) text-accepts) e h
+    read_refused e h = sketch_refused e (ap (λ (a : Reply). and_then a of_read) text-accepts ∙ sym h)
 
     module _ (j : ℕ) (read-accepts : of_read ≡ accepted (j ∷ [])) where
       striking : (room : ℕ) → striking_reply s text read room ≡ striking_of text_sketch text_sketch s.c room
@@ -121,7 +118,7 @@ module _ (s : Settings) (text read places work : List ℕ) where
           ∙ ap (λ (a : Reply). and_then a (striking_of text_sketch text_sketch s.c room)) read-accepts
 
       -- both sketches are accepted: the rest is the strikes' and start's
-      opens_sketches : (r : Opened) (places' work' : List ℕ)
+      opens_sketches : (r : Result ℕ Refusal) (places' work' : List ℕ)
           → OpensSketches (codes text_sketch) (positions text_sketch) (codes read_sketch) (positions read_sketch) s places work r places' work'
           → Opens s text read places work r places' work'
       unfolding opened_of positions_after work_after calls_reply pattern_reply task_of text_of pattern_of struck
@@ -136,7 +133,7 @@ module _ (s : Settings) (text read places work : List ℕ) where
           }
 
       pub opens_fronts : (cs ps rcs rps : List ℕ) → cs ≡ codes text_sketch → ps ≡ positions text_sketch → rcs ≡ codes read_sketch
-          → rps ≡ positions read_sketch → (r : Opened) (places' work' : List ℕ)
+          → rps ≡ positions read_sketch → (r : Result ℕ Refusal) (places' work' : List ℕ)
           → OpensSketches cs ps rcs rps s places work r places' work'
           → Opens s text read places work r places' work'
       opens_fronts cs ps rcs rps e f g h r places' work' o = opens_sketches r places' work' (rw (e, f, g, h) at o)

@@ -1,27 +1,24 @@
 -- Which piece comes next: each way out of `fill` meets its contract, by what is left of the two sessions.
-use Prim.Native.Nat.{ℕ, suc, ◌+◌, ◌≤◌, ◌<◌}
+use Prim.Native.Nat.{ℕ, ◌+◌, ◌≤◌, ◌<◌}
 use native.Mathlib.Omega.{arith}
 use mathlib.Core.Path.{◌≡◌, refl, ap, ◌∙◌, subst}
 use mathlib.Core.Logic.{◌⊎◌, inl, inr, ◌≢◌}
 use mathlib.Core.Bool.{Bool, cond}
 use mathlib.Core.List.{List}
 use lib.ListN.{length, get_or}
-use borrow.Author.Tests.{eq-eqb, ne_eqb}
+use borrow.Author.Tests.{ne_eqb}
 use Rattle.mappings.specs.Cells.{cell_count}
 use Rattle.session_words.specs.FirstWords.{passed_at}
 use Rattle.strands.specs.declared.Strand.TheVariants.{Forward, Reverse}
 use Rattle.list_line.proofs.Writers.{written_inside}
 use Rattle.list_lines.specs.Pieces.{cells_left, cell_limit, Fills}
 use Rattle.list_lines.specs.declared.filling.Filled.{Filled}
-use Rattle.list_lines.proofs.Left.{few_cells, left_some, left_few}
+use Rattle.list_lines.proofs.Left.{few_cells, left_some}
 use Rattle.list_output.specs.Filling.{left_with, Last, FillsRun}
 
 -- what is left of one session with the other's
 pub with_other : (left other : ℕ) → left ≢ 0 → left_with left other ≡ left + other
 with_other left other some = ap (λ (b : Bool). cond b 0 (left + other)) (ne_eqb left 0 some)
-
-pub with_none : (left other : ℕ) → left ≡ 0 → left_with left other ≡ 0
-with_none left other none = ap (λ (b : Bool). cond b 0 (left + other)) (eq-eqb left 0 none)
 
 -- so few cells are passed where some are left
 pub few_passed : (work : List ℕ) (left : ℕ) → left ≡ cells_left work → left ≢ 0 → get_or work passed_at 0 ≤ cell_limit
@@ -29,9 +26,6 @@ few_passed work left e some =
     let s = left_some work (omega arith) in
     let most : cell_count _ ≤ cell_limit = few_cells _ s.few_hits in
     omega (arith, s.among)
-
-pub few_left : (work : List ℕ) (left : ℕ) → left ≡ cells_left work → left ≤ suc cell_limit
-few_left work left e = let most : cells_left work ≤ suc cell_limit = left_few work in omega arith
 
 module _ (forward reverse places : List ℕ) (k size size' found : ℕ) (out : List ℕ) (ahead behind : ℕ) (ea : ahead ≡ cells_left forward)
     (eb : behind ≡ cells_left reverse) (r : Filled) where

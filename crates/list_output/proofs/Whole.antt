@@ -5,6 +5,7 @@ use native.Mathlib.Nat.{zero-add}
 use mathlib.Core.Path.{◌≡◌, refl, sym, ap, ap₂, ◌∙◌, subst}
 use mathlib.Core.Logic.{inl, inr}
 use mathlib.Core.List.{List, [], ◌∷◌, ◌++◌, append_assoc, append-nil}
+use Rattle.std.specs.Prelude.{Option, Some, None}
 use lib.ListN.{length, take, length-append, length-map}
 use Rattle.base.specs.Replies.{Reply, accepted, refused, over}
 use Rattle.base.specs.Limits.{work_words, line_limit}
@@ -31,22 +32,32 @@ use Rattle.list_open.specs.Calls.{calls_reply}
 use Rattle.list_open.specs.Opening.{work_after, where_accepted}
 use Rattle.list_open.proofs.Accepted.{and_accepted}
 use Rattle.list_sessions.specs.Calls.{strands_reply}
-use Rattle.list_sessions.specs.Sessions.{sessions_by, sessions_of, places_after, forward_after, reverse_after}
+use Rattle.list_sessions.specs.Sessions.{Outcome, no_input, refused_with, both, sessions_by, sessions_of, places_after, forward_after, reverse_after}
 use Rattle.list_sessions.specs.declared.Sessions.{Sessions}
-use Rattle.list_sessions.specs.declared.Sessions.TheVariants.{Malformed, Refused, Both}
 use Rattle.list_printed.specs.Output.{header_line, last_line, final_cells, strand_lines, found_on, cells_on, unless_refused, list_of, printed_for, output_of}
 use Rattle.list_output.specs.Beginning.{first_line, BeginsWith, Begins}
-use Rattle.list_output.specs.Whole.{Further, no_more, one_more, Run, InHand, rest_of}
+use Rattle.list_output.specs.Whole.{Further, no_more, one_more, Following, Run, InHand, rest_of}
 use Rattle.list_output.specs.declared.beginning.Begun.{Begun}
 use Rattle.list_output.proofs.Next.{After, left_in_hand, next_prints}
 use Rattle.list_output.proofs.Threshold.{threshold_fits}
 use Rattle.list_output.proofs.OpenedSession.{start_accepts, places_are, words_are, session_belongs, lines_same}
 
 -- no first line is longer than 64 bytes
-first_short : (o : Sessions) → length (first_line o) ≤ 64
-first_short Malformed = omega arith
-first_short (Refused number) = let a : length (decimal number) ≤ 10 = length_decimal number in simp length-append (omega arith)
-first_short (Both k size size') = omega arith
+first_short : (o : Outcome) → length (first_line o) ≤ 64
+first_short no_input = omega arith
+first_short (refused_with number) = let a : length (decimal number) ≤ 10 = length_decimal number in simp length-append (omega arith)
+first_short (both k size size') = omega arith
+
+-- all is printed by the first piece, or it leaves what the sessions have to print
+abbrev pub AfterFirst : List ℕ → List ℕ → List ℕ → List ℕ → Option Sessions → ℕ → List ℕ → Type 0
+AfterFirst bytes places forward reverse None left done = done ≡ output_of bytes
+AfterFirst bytes places forward reverse (Some s) left done = After bytes places forward reverse s.k s.size s.reverse_size 0 left done
+
+pub after_sessions : {bytes places forward reverse : List ℕ} {o : Option Sessions} {s : Sessions} {left : ℕ} {done : List ℕ} → o ≡ Some s
+    → AfterFirst bytes places forward reverse o left done
+    → After bytes places forward reverse s.k s.size s.reverse_size 0 left done
+after_sessions {bytes} {places} {forward} {reverse} {left = left} {done = done} e a =
+    subst (λ (o : Option Sessions). AfterFirst bytes places forward reverse o left done) e a
 
 -- ---- what is left after the header
 
@@ -95,7 +106,7 @@ module _ (s : Settings) (text read places forward reverse values values' : List 
 module _ (bytes places forward reverse out : List ℕ) (room : length places ≡ line_limit) (lent : length forward ≡ work_words)
     (lent' : length reverse ≡ work_words) (long : line_room ≤ length out) where
   module _ (r : Begun) (out' : List ℕ) where
-    first_printed : (o : Sessions) (forward' reverse' : List ℕ) → BeginsWith o forward' reverse' out r out'
+    first_printed : (o : Outcome) (forward' reverse' : List ℕ) → BeginsWith o forward' reverse' out r out'
         → take r.written out' ≡ first_line o
     first_printed o forward' reverse' b = take_written b.first (let l : length (first_line o) ≤ 64 = first_short o in omega arith)
 
@@ -115,10 +126,10 @@ module _ (bytes places forward reverse out : List ℕ) (room : length places ≡
       abbrev size' : ℕ
       size' = length (pattern_of s text (reverse_complement read))
 
-      abbrev both : Reply
-      both = strands_reply s text read (length places) (length forward) (length reverse)
+      abbrev of_strands : Reply
+      of_strands = strands_reply s text read (length places) (length forward) (length reverse)
 
-      printed : (reply : Reply) → both ≡ reply → output_of bytes ≡ unless_refused reply (list_of s text read)
+      printed : (reply : Reply) → of_strands ≡ reply → output_of bytes ≡ unless_refused reply (list_of s text read)
       unfolding output_of
       printed reply e =
           let calls : strands_reply s text read line_limit work_words work_words ≡ reply = rw (room, lent, lent') at e in
@@ -129,11 +140,11 @@ module _ (bytes places forward reverse out : List ℕ) (room : length places ≡
       unfolding task_of
       accepts_start mapped work e = record { accepts = e; threshold_fits = threshold_fits bytes s text read input }
 
-      opened : (reply : Reply) → both ≡ reply → BeginsWith (sessions_by reply s.k size size') forward' reverse' out r out'
-          → After bytes places' forward' reverse' r.k r.size r.reverse_size 0 r.left (take r.written out')
+      opened : (reply : Reply) → of_strands ≡ reply → BeginsWith (sessions_by reply s.k size size') forward' reverse' out r out'
+          → AfterFirst bytes places' forward' reverse' r.sessions r.left (take r.written out')
       unfolding strands_reply places_after forward_after reverse_after
       opened (refused number values) e b =
-          inl (b.left_is, first_printed (Refused number) forward' reverse' b ∙ sym (printed (refused number values) e))
+          rw b.sessions_are (first_printed (refused_with number) forward' reverse' b ∙ sym (printed (refused number values) e))
       opened (accepted values) e b =
           let back : List ℕ = reverse_complement read in
           let calls =
@@ -164,35 +175,36 @@ module _ (bytes places forward reverse out : List ℕ) (room : length places ≡
           } in
           let rest : take r.written out' ++ rest_of (task_of s text read) (task_of s text back) places' s.k size size' 0 0 0 ≡ output_of bytes =
           ap (λ (l : List ℕ). l ++ rest_of (task_of s text read) (task_of s text back) places' s.k size size' 0 0 0)
-          (first_printed (Both s.k size size') forward' reverse' b)
+          (first_printed (both s.k size size') forward' reverse' b)
           ∙ ap (λ (l : List ℕ). header_line ++ rest_of (task_of s text read) (task_of s text back) l s.k size size' 0 0 0) stands
           ∙ list_rest s text read places forward reverse calls.0.0 values one two
           ∙ sym (printed (accepted values) e) in
-          inr
+          rw b.sessions_are
+          (inr
           (record {
             task = task_of s text read;
             task' = task_of s text back;
             q = 0;
             q' = 0;
-            ahead = rw (b.k_is, b.size_is) hand;
-            behind = rw (b.k_is, b.reverse_size_is) hand';
+            ahead = hand;
+            behind = hand';
             counted = zero-le;
             remaining = b.left_is ∙ ap₂ ◌+◌ (left_in_hand hand) (left_in_hand hand');
-            rest = rw (b.k_is, b.size_is, b.reverse_size_is) rest;
-          })
+            rest = rest;
+          }))
 
     by_input : (input : Input) → input_of bytes ≡ input
         → BeginsWith (sessions_of input (length places) (length forward) (length reverse)) (forward_after input (length places) forward)
         (reverse_after input (length places) (length forward) reverse) out r out'
-        → After bytes (places_after input places) (forward_after input (length places) forward)
-        (reverse_after input (length places) (length forward) reverse) r.k r.size r.reverse_size 0 r.left (take r.written out')
+        → AfterFirst bytes (places_after input places) (forward_after input (length places) forward)
+        (reverse_after input (length places) (length forward) reverse) r.sessions r.left (take r.written out')
     unfolding output_of sessions_of
-    by_input malformed e b = inl (b.left_is, first_printed Malformed _ _ b ∙ sym (ap printed_for e))
+    by_input malformed e b = rw b.sessions_are (first_printed no_input _ _ b ∙ sym (ap printed_for e))
     by_input (given s text read) e b = opened s text read e (strands_reply s text read (length places) (length forward) (length reverse)) refl b
 
     -- the first piece, with room for any first line
     pub begin_prints : (places' forward' reverse' : List ℕ) → Begins bytes places forward reverse out r places' forward' reverse' out'
-        → After bytes places' forward' reverse' r.k r.size r.reverse_size 0 r.left (take r.written out')
+        → AfterFirst bytes places' forward' reverse' r.sessions r.left (take r.written out')
     begin_prints places' forward' reverse' b =
         rw (b.positions_after, b.forward_after, b.reverse_after)
         (by_input (input_of bytes) refl (rw (b.forward_after, b.reverse_after) at b.begun))
@@ -214,6 +226,13 @@ further_prints bytes places k size size' {forward} {reverse} {found} {left} done
     let on = next_prints bytes places forward reverse k size size' found left done a some out r forward' reverse' out' long fills in
     sym (append_assoc done (take r.written out') rest) ∙ further_prints bytes places k size size' (done ++ take r.written out') on.1 next
 
+-- the pieces behind the first, and the first, are the output
+following_prints : (bytes places : List ℕ) (o : Option Sessions) (forward reverse : List ℕ) (left : ℕ) (rest done : List ℕ)
+    → AfterFirst bytes places forward reverse o left done → Following places o forward reverse left rest
+    → done ++ rest ≡ output_of bytes
+following_prints bytes places None forward reverse left rest done a none = ap (λ (l : List ℕ). done ++ l) none ∙ append-nil done ∙ a
+following_prints bytes places (Some s) forward reverse left rest done a further = further_prints bytes places s.k s.size s.reverse_size done a further
+
 -- the pieces of a run, one after the other, are the output for its whole input
 pub what_is_printed : (input printed : List ℕ) → Run input printed → printed ≡ output_of input
 what_is_printed input printed run =
@@ -222,6 +241,6 @@ what_is_printed input printed run =
     begin_prints bytes run.places run.forward run.reverse run.out run.room run.lent run.lent' run.long run.begun run.out'
     run.places' run.forward' run.reverse' run.first in
     run.whole
-    ∙ further_prints bytes run.places' run.begun.k run.begun.size run.begun.reverse_size (take run.begun.written run.out') began
-    run.further
+    ∙ following_prints bytes run.places' run.begun.sessions run.forward' run.reverse' run.begun.left run.rest (take run.begun.written run.out')
+    began run.further
     ∙ first_bytes input_limit input (omega arith)

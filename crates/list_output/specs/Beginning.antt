@@ -1,47 +1,34 @@
 -- The first piece of the output, and what it leaves to be printed.
-use Rattle.std.specs.Prelude.{ℕ, ◌+◌, ◌≡◌, List, length}
+use Rattle.std.specs.Prelude.{ℕ, ◌+◌, ◌≡◌, List, length, Option, Some, None}
 use Rattle.list_input.specs.Input.{input_of}
 use Rattle.list_line.specs.Writing.{Written}
 use Rattle.list_lines.specs.Pieces.{cells_left}
-use Rattle.list_sessions.specs.Sessions.{sessions_of, places_after, forward_after, reverse_after}
+use Rattle.list_sessions.specs.Sessions.{Outcome, no_input, refused_with, both, sessions_of, places_after, forward_after, reverse_after}
 use Rattle.list_sessions.specs.declared.Sessions.{Sessions}
-use Rattle.list_sessions.specs.declared.Sessions.TheVariants.{Malformed, Refused, Both}
 use Rattle.list_printed.specs.Output.{header_line, malformed_line, refused_line}
 use Rattle.list_output.specs.declared.beginning.Begun.{Begun}
 
-abbrev pub first_line : Sessions → List ℕ
-first_line Malformed = malformed_line
-first_line (Refused number) = refused_line number
-first_line (Both k size size') = header_line
+abbrev pub first_line : Outcome → List ℕ
+first_line no_input = malformed_line
+first_line (refused_with number) = refused_line number
+first_line (both k size size') = header_line
 
-abbrev pub k_of : Sessions → ℕ
-k_of Malformed = 0
-k_of (Refused number) = 0
-k_of (Both k size size') = k
-
--- the number of entries of the pattern, and of that of the other strand
-abbrev pub size_of : Sessions → ℕ
-size_of Malformed = 0
-size_of (Refused number) = 0
-size_of (Both k size size') = size
-
-abbrev pub reverse_size_of : Sessions → ℕ
-reverse_size_of Malformed = 0
-reverse_size_of (Refused number) = 0
-reverse_size_of (Both k size size') = size'
+-- the two sessions whose lines are still to be printed, where there are any
+abbrev pub sessions_in : Outcome → Option Sessions
+sessions_in no_input = None
+sessions_in (refused_with number) = None
+sessions_in (both k size size') = Some (record { k = k; size = size; reverse_size = size' })
 
 -- the cells that remain and one more for each session, where two are opened; else nothing is left to print
-abbrev pub left_of : Sessions → List ℕ → List ℕ → ℕ
-left_of Malformed forward reverse = 0
-left_of (Refused number) forward reverse = 0
-left_of (Both k size size') forward reverse = cells_left forward + cells_left reverse
+abbrev pub left_of : Outcome → List ℕ → List ℕ → ℕ
+left_of no_input forward reverse = 0
+left_of (refused_with number) forward reverse = 0
+left_of (both k size size') forward reverse = cells_left forward + cells_left reverse
 
 -- the answer o of the calls, as `begin` hands it on
-pub record BeginsWith (o : Sessions) (forward' reverse' out : List ℕ) (r : Begun) (out' : List ℕ) : Type 0 where
+pub record BeginsWith (o : Outcome) (forward' reverse' out : List ℕ) (r : Begun) (out' : List ℕ) : Type 0 where
   pub first : Written (first_line o) 0 out out' r.written
-  pub k_is : r.k ≡ k_of o
-  pub size_is : r.size ≡ size_of o
-  pub reverse_size_is : r.reverse_size ≡ reverse_size_of o
+  pub sessions_are : r.sessions ≡ sessions_in o
   pub left_is : r.left ≡ left_of o forward' reverse'
 
 -- what `begin` answers and leaves

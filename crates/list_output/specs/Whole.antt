@@ -1,5 +1,5 @@
 -- A run of `maplist`: the pieces that it writes, one after the other, and what is left of the output after each.
-use Rattle.std.specs.Prelude.{ℕ, suc, ◌+◌, ◌-◌, ◌≤◌, ◌<◌, ◌≡◌, List, [], ◌++◌, length, take}
+use Rattle.std.specs.Prelude.{ℕ, suc, ◌+◌, ◌-◌, ◌≤◌, ◌<◌, ◌≡◌, List, [], ◌++◌, length, take, Option, Some, None}
 use Rattle.base.specs.Limits.{work_words, line_limit}
 use Rattle.mappings.specs.Score.{Task}
 use Rattle.mappings.specs.Cells.{hit_count, cell_count}
@@ -9,6 +9,7 @@ use Rattle.strands.specs.declared.Strand.TheVariants.{Forward, Reverse}
 use Rattle.list_input.specs.Input.{input_limit}
 use Rattle.list_lines.specs.Pieces.{line_room, finals_after, lines_after, Belongs}
 use Rattle.list_lines.specs.declared.filling.Filled.{Filled}
+use Rattle.list_sessions.specs.declared.Sessions.{Sessions}
 use Rattle.list_printed.specs.Output.{last_line, output_of}
 use Rattle.list_output.specs.Beginning.{Begins}
 use Rattle.list_output.specs.Filling.{FillsRun}
@@ -24,6 +25,11 @@ pub data Further (places : List ℕ) (k size size' : ℕ) : List ℕ → List �
       → FillsRun forward reverse places k size size' found out r forward' reverse' out'
       → Further places k size size' forward' reverse' r.found r.left rest
       → Further places k size size' forward reverse found left (take r.written out' ++ rest)
+
+-- the pieces behind the first: none, where there are no sessions
+abbrev pub Following : List ℕ → Option Sessions → List ℕ → List ℕ → ℕ → List ℕ → Type 0
+Following places None forward reverse left rest = rest ≡ []
+Following places (Some s) forward reverse left rest = Further places s.k s.size s.reverse_size forward reverse 0 left rest
 
 -- a run on this input, and all that it writes: the first piece as `begin` writes it for the first bytes of the input, then the others
 pub record Run (input printed : List ℕ) : Type 0 where
@@ -42,7 +48,7 @@ pub record Run (input printed : List ℕ) : Type 0 where
   pub out' : List ℕ
   pub first : Begins (take input_limit input) places forward reverse out begun places' forward' reverse' out'
   pub rest : List ℕ
-  pub further : Further places' begun.k begun.size begun.reverse_size forward' reverse' 0 begun.left rest
+  pub further : Following places' begun.sessions forward' reverse' begun.left rest
   pub whole : printed ≡ take begun.written out' ++ rest
 
 -- a session in some work words, after q cells

@@ -5,7 +5,9 @@ ghost use Rattle.list_output.specs.Filling.{left_with, Last, FillsRun};
 
 use crate::lines::put_last;
 use list_lines::filling::{Filled, fill_lines};
+use list_lines::listing::Listing;
 use list_lines::words::{cells_left, cells_passed};
+use list_sessions::Sessions;
 use strands::Strand;
 
 // Nothing is printed, and nothing can follow.
@@ -48,42 +50,40 @@ fn fill_last(found: u32, cells: u32, out: &mut [u8]) -> Filled
 
 // Writes the next piece: lines of the forward session while cells of it remain, then lines of the other one, and at last the last line. Where not
 // even one line surely fits nothing is written, and as much is left as before: a caller that goes on until nothing is left lends more.
+#[tactic(auto, using(list_lines::proofs::Left::left_few))]
 pub fn fill(
     forward: &mut [u32],
     reverse: &mut [u32],
     positions: &[u32],
-    k: u32,
-    size: usize,
-    reverse_size: usize,
+    sessions: Sessions,
     found: u32,
     out: &mut [u8],
 ) -> Filled
-    ensures { FillsRun forward.old reverse.old positions.now k size reverse_size found out.old result
+    ensures { FillsRun forward.old reverse.old positions.now sessions.k sessions.size sessions.reverse_size found out.old result
         forward.new reverse.new out.new }
 {
     let ahead = cells_left(forward);
     let behind = cells_left(reverse);
-    if ahead == 0 {
-        return nothing(found);
-    }
-    if behind == 0 {
+    if ahead == 0 || behind == 0 {
         return nothing(found);
     }
     if 1 < ahead {
-        let part = fill_lines(forward, positions, k, size, Strand::Forward, found, out);
-        return beside(part, behind);
+        let listing = Listing {
+            positions,
+            k: sessions.k,
+            size: sessions.size,
+            strand: Strand::Forward,
+        };
+        return beside(fill_lines(forward, listing, found, out), behind);
     }
     if 1 < behind {
-        let part = fill_lines(
-            reverse,
+        let listing = Listing {
             positions,
-            k,
-            reverse_size,
-            Strand::Reverse,
-            found,
-            out,
-        );
-        return beside(part, ahead);
+            k: sessions.k,
+            size: sessions.reverse_size,
+            strand: Strand::Reverse,
+        };
+        return beside(fill_lines(reverse, listing, found, out), ahead);
     }
     fill_last(found, cells_passed(forward) + cells_passed(reverse), out)
 }

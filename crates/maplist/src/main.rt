@@ -32,6 +32,9 @@ fn main() {
     if !io::write_all(1, &out[..begun.written]) {
         return;
     }
+    let Some(sessions) = begun.sessions else {
+        return;
+    };
     let mut left = begun.left;
     let mut found = 0;
     while 0 < left {
@@ -39,9 +42,7 @@ fn main() {
             &mut forward,
             &mut reverse,
             &positions,
-            begun.k,
-            begun.size,
-            begun.reverse_size,
+            sessions,
             found,
             &mut out,
         );

@@ -1,11 +1,11 @@
 -- What start's acceptance says of the task and of the work words.
 use Prim.Native.Nat.{ℕ, ◌≤◌}
-use mathlib.Core.Path.{◌≡◌}
+use mathlib.Core.Path.{◌≡◌, sym, ◌∙◌}
 use mathlib.Core.Bool.{false, ◌||◌}
 use mathlib.Core.List.{List, [], ◌∷◌}
 use lib.Dec.{ltb, eqb}
 use lib.ListN.{length}
-use borrow.Author.Tests.{ltb-false}
+use borrow.Author.Tests.{le-ltb, ltb-false}
 use Rattle.base.specs.Limits.{outside, text_limit, pattern_limit, weight_limit, divisor_limit, hit_limit, work_words}
 use Rattle.base.specs.Replies.{Reply, accepted}
 use Rattle.base.proofs.Lists.{or_neither}
@@ -18,6 +18,7 @@ use Rattle.mappings.proofs.Range.{SmallNumbers, Limited}
 use Rattle.session_start.specs.Numbers.{first_number, second_number, kind_number}
 use Rattle.session_start.specs.Start.{bad_weights, bad_fraction, judged, start_reply}
 use Rattle.mapper.specs.Step.{bad_scoring}
+use Rattle.mapper.specs.Promise.{Accepts}
 
 -- the numbers of a scoring are within their limits, and its words are such as step accepts
 pub record Judged (scoring : Scoring) : Type 0 where
@@ -77,3 +78,12 @@ admitted task lent values e =
       many_words = ltb-false lent work_words d.0;
       answered = let g : accepted (hit_count task ∷ []) ≡ accepted values = f.1 in (cc);
     }
+
+-- start accepts with any other words too, where they are enough
+pub accepts_in : (task : Task) (before : List ℕ) → Accepts task before → (other : List ℕ) → work_words ≤ length other → Accepts task other
+unfolding start_reply
+accepts_in task before a other l =
+    let d = admitted task (length before) (hit_count task ∷ []) a.accepts in
+    let e : ltb (length other) work_words ≡ ltb (length before) work_words =
+    le-ltb (length other) work_words l ∙ sym (le-ltb (length before) work_words d.many_words) in
+    record { accepts = rw e a.accepts; threshold_fits = a.threshold_fits }

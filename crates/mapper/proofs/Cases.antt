@@ -1,10 +1,12 @@
 -- When step refuses, and what the deciding test answers, at the limits: each is computed from the definitions.
+use Rattle.std.specs.Prelude.{Result}
 use Prim.Native.Nat.{ℕ}
 use mathlib.Core.Bool.{true, false}
 use mathlib.Core.Path.{◌≡◌, refl}
 use mathlib.Core.List.{List, [], ◌∷◌}
 use lib.IntN.{pos, negsuc}
 use lib.ListN.{replicate}
+use Rattle.base.specs.declared.refusal.Refusal.{Refusal}
 use Rattle.mappings.specs.declared.Score.TheVariants.{Number, Fraction}
 use Rattle.mappings.specs.declared.Scoring.{Scoring}
 use Rattle.mappings.specs.declared.Scoring.TheVariants.{Linear, Jaccard}
@@ -16,7 +18,7 @@ use Rattle.mapper.specs.Step.{too_few_words, bad_words}
 use Rattle.mapper.specs.Answers.{answer_of}
 use Rattle.mapper.specs.Promise.{StepPromise}
 use Rattle.mapper.specs.Deciding.{is_scorable, candidate_score, decides, decided}
-use Rattle.mapper.specs.declared.update.Terms.{Terms}
+use Rattle.mapper.specs.declared.terms.Terms.{Terms}
 use Rattle.mapper.specs.declared.answer.Stepped.{Stepped}
 use Rattle.mapper.specs.declared.answer.Stepped.TheVariants.{Found, Spent}
 
@@ -25,7 +27,7 @@ pub record StepRefusals : Type 0 where
   pub few : too_few_words (replicate 16383 0) ≡ true
   pub enough : too_few_words (replicate 16384 0) ≡ false
   -- 10 goes before 15: one word, h over 2,048
-  pub few_first : (budget : ℕ) (answer : Stepped) (after : List ℕ) → StepPromise (2049 ∷ []) budget answer after → answer_of answer ≡ refused 10
+  pub few_first : (budget : ℕ) (answer : Result Stepped Refusal) (after : List ℕ) → StepPromise (2049 ∷ []) budget answer after → answer_of answer ≡ refused 10
   -- 15: h over 2,048; u or v outside 1–1,000
   pub hits : bad_words (2049 ∷ 1 ∷ 1 ∷ 0 ∷ 0 ∷ []) ≡ true
   pub u_low : bad_words (1 ∷ 0 ∷ 1 ∷ 0 ∷ 0 ∷ []) ≡ true

@@ -20,8 +20,8 @@ use Rattle.session_start.specs.WorkWords.{session_words}
 use Rattle.session_start.proofs.WorkWords.{Holds, words_hold, take_session}
 use Rattle.mapper.specs.Promise.{Accepts}
 use Rattle.mapper.specs.Sessions.{Ran, none, then, words_after}
-use Rattle.mapper.proofs.Accepted.{Admitted, admitted}
-use Rattle.mapper.proofs.Demand3.{accepts_in, fresh, ran_on, beyond_session, demand3_codes}
+use Rattle.mapper.proofs.Accepted.{Admitted, admitted, accepts_in}
+use Rattle.mapper.proofs.Demand3.{fresh, ran_on, beyond_session, demand3_codes}
 
 -- ---- words beyond the first 16,384
 

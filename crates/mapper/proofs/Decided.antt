@@ -22,7 +22,7 @@ use Rattle.mappings.proofs.Integers.{unbiased_biased_z}
 use Rattle.session_start.specs.ScoreWords.{threshold_word}
 use Rattle.session_start.specs.Numbers.{first_number, second_number, kind_number}
 use Rattle.session_rule.specs.Lines.{shared_at}
-use Rattle.mapper.specs.declared.update.Terms.{Terms}
+use Rattle.mapper.specs.declared.terms.Terms.{Terms}
 use Rattle.mapper.specs.declared.answer.Stepped.TheVariants.{Found}
 use Rattle.mapper.specs.Deciding.{is_small, is_scorable, candidate_score, decides, decided}
 use Rattle.mapper.specs.Walking.{scoring_in}

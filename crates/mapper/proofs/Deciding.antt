@@ -1,18 +1,21 @@
 -- What the deciding test asks and says: a scoring and counts such as sessions have.
-use Prim.Native.Nat.{ℕ, ◌-◌, ◌≤◌, ◌<◌}
+use Prim.Native.Nat.{ℕ, suc, ◌+◌, ◌-◌, ◌*◌, ◌≤◌, ◌<◌}
+use native.Mathlib.Nat.{mul-le-mul}
 use native.Mathlib.Omega.{arith}
 use mathlib.Core.Path.{◌≡◌}
 use mathlib.Core.Bool.{Bool, true, false, cond, ◌&&◌}
 use lib.Dec.{leb, ltb, eqb}
+use lib.IntN.{ℤ}
 use borrow.Author.Tests.{le-leb, leb-true, lt-ltb, ltb-true}
 use Rattle.base.proofs.Lists.{and_left, and_right}
-use Rattle.base.specs.Limits.{text_limit, weight_limit, pattern_limit, word_limit}
+use Rattle.base.specs.Limits.{text_limit, weight_limit, divisor_limit, pattern_limit, word_limit}
 use Rattle.mappings.specs.declared.Scoring.{Scoring}
 use Rattle.mappings.specs.declared.Scoring.TheVariants.{Linear, Jaccard}
-use Rattle.mappings.specs.Score.{length_of}
+use Rattle.mappings.specs.declared.Score.TheVariants.{Number, Fraction}
+use Rattle.mappings.specs.Score.{length_of, linear, divisor}
 use Rattle.mappings.specs.Unbiased.{unbiased}
 use Rattle.session_rule.specs.Lines.{gain_of, loss_of}
-use Rattle.mapper.specs.declared.update.Terms.{Terms}
+use Rattle.mapper.specs.declared.terms.Terms.{Terms}
 use Rattle.mapper.specs.declared.answer.Stepped.TheVariants.{Found, Spent}
 use Rattle.mapper.specs.Deciding.{is_small, is_scorable, candidate_score, decides, decided}
 use Rattle.mapper.specs.Walking.{scoring_in}
@@ -36,6 +39,15 @@ module _ (x y limit : ℕ) where
   pub both_say : (leb x limit && leb y limit) ≡ true → (x ≤ limit) × (y ≤ limit)
   both_say t =
       (leb-true x limit (and_left (leb x limit) (leb y limit) t), leb-true y limit (and_right (leb x limit) (leb y limit) t))
+
+-- the numbers of a linear scoring, and of a threshold f/g
+pub linear_small : (scoring : Scoring) (u v : ℕ) (threshold : ℤ) → is_small scoring ≡ true → scoring ≡ Linear u v threshold
+    → (u ≤ weight_limit) × (v ≤ weight_limit)
+linear_small scoring u v threshold t e = both_say u v weight_limit (rw e at t)
+
+pub fraction_small : (scoring : Scoring) (f g : ℕ) → is_small scoring ≡ true → scoring ≡ Jaccard f g
+    → (f ≤ divisor_limit) × (g ≤ divisor_limit)
+fraction_small scoring f g t e = both_say f g divisor_limit (rw e at t)
 
 -- ---- a scoring and counts of a session
 
@@ -85,3 +97,22 @@ module _ (terms : Terms) (a b m : ℕ) where
   pub decided_spent : (cells : ℕ) → decides terms a b m ≡ false → decided terms a b m cells ≡ Spent cells
   unfolding decided
   decided_spent cells t = rw t
+
+-- ---- the score, as the code computes it
+
+module _ (terms : Terms) (a b m : ℕ) (ordered : a ≤ b) where
+  pub linear_score : (u v : ℕ) (threshold : ℤ) → terms.scoring ≡ Linear u v threshold
+      → candidate_score terms a b m ≡ Number (linear u v terms.size m (b - a + 1))
+  unfolding candidate_score length_of
+  linear_score u v threshold e = let len : b - a + 1 ≡ suc b - a = omega arith in rw (e, len)
+
+  pub fraction_score : (f g : ℕ) → terms.scoring ≡ Jaccard f g
+      → candidate_score terms a b m ≡ Fraction m (b - a + 1 + terms.size - m)
+  unfolding candidate_score length_of divisor
+  fraction_score f g e = let len : b - a + 1 ≡ suc b - a = omega arith in rw (e, len)
+
+-- a number of the threshold times m or a divisor
+pub product : (x y : ℕ) → x ≤ divisor_limit → y ≤ text_limit + pattern_limit → x * y < word_limit
+product x y h k =
+    let most : x * y ≤ divisor_limit * (text_limit + pattern_limit) = mul-le-mul {m₂ = text_limit + pattern_limit} h k in
+    omega (arith, most)

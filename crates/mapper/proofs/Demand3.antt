@@ -1,5 +1,6 @@
 -- Demand 3, whole: for every list of steps from a fresh session, as step promises each; over any codes that start accepts, and over the
 -- letters of text and read.
+use Rattle.std.specs.Prelude.{Result}
 use Prim.Native.Nat.{ℕ, zero, suc, ◌+◌, ◌-◌, ◌≤◌, ◌<◌}
 use native.Mathlib.Nat.{not-suc-le-zero, le_of_suc-le-suc}
 use native.Mathlib.Omega.{arith}
@@ -11,6 +12,7 @@ use lib.ListN.{length, take, drop, length-take, length-drop, take-append-drop, d
 use lib.Seq.{ext_get_or, get_or-drop, length-take-le, take_all}
 use borrow.Author.Tests.{lt-ltb, le-ltb, ltb-true, ltb-false}
 use Rattle.base.specs.Replies.{accepted}
+use Rattle.base.specs.declared.refusal.Refusal.{Refusal}
 use Rattle.kmers.specs.Kmers.{Entry, codes}
 use Rattle.minimizers.specs.Sketch.{sketch}
 use Rattle.sketch.specs.Replies.{sketch_codes, sketch_positions}
@@ -36,7 +38,7 @@ use Rattle.mapper.specs.Step.{too_few_words}
 use Rattle.mapper.specs.Promise.{Accepts, StepPromise}
 use Rattle.mapper.specs.Sessions.{Ran, none, then, words_after, Lent, AllAccept, FirstWords, Demand3}
 use Rattle.mapper.specs.Sessions.{text_codes, text_positions, read_codes, read_positions, struck_codes, pattern_codes, start_task}
-use Rattle.mapper.proofs.Accepted.{Admitted, admitted}
+use Rattle.mapper.proofs.Accepted.{Admitted, admitted, accepts_in}
 
 -- ---- one step of a list
 
@@ -47,19 +49,11 @@ module _ (task : Task) (before : List ℕ) (a : Accepts task before) where
   number : (q : ℕ) → length (session_words task before q) ≡ length before
   number q = session_number task before q limits.few_hits limits.many_words
 
-  -- start accepts with any other words too, where they are enough
-  pub accepts_in : (other : List ℕ) → work_words ≤ length other → Accepts task other
-  unfolding start_reply
-  accepts_in other l =
-      let e : ltb (length other) work_words ≡ ltb (length before) work_words =
-      le-ltb (length other) work_words l ∙ sym (le-ltb (length before) work_words limits.many_words) in
-      record { accepts = rw e a.accepts; threshold_fits = a.threshold_fits }
-
   -- what a step of a list answers and leaves, where q cells have been passed
   abbrev StepsOn : ℕ → Step → Answer → List ℕ → Type 0
   StepsOn q step answer words = (answer ≡ step_answer task q step) × (words ≡ session_words task before (q + reported (step_answer task q step)))
 
-  module _ (q : ℕ) (step : Step) (answer : Stepped) (words : List ℕ)
+  module _ (q : ℕ) (step : Step) (answer : Result Stepped Refusal) (words : List ℕ)
       (promise : StepPromise (take step.lent (session_words task before q)) step.budget answer words) where
     refused_step : step.lent < work_words → StepsOn q step (answer_of answer) (words ++ drop step.lent (session_words task before q))
     unfolding step_answer is_accepted too_few_words
@@ -95,7 +89,7 @@ module _ (task : Task) (before : List ℕ) (a : Accepts task before) where
         go false e =
             let m : step.lent ≤ length before = ltb-false (length before) step.lent e in
             let p =
-            promise.session task (take step.lent before) q (accepts_in (take step.lent before) (rw (length-take-le step.lent before m) l)) k
+            promise.session task (take step.lent before) q (accepts_in task before a (take step.lent before) (rw (length-take-le step.lent before m) l)) k
             (take_session task limits.few_hits before step.lent l m q) in (
               p.0,
               ap₂ (λ (xs ys : List ℕ). xs ++ ys) (p.1 ∙ sym (take_session task limits.few_hits before step.lent l m q'))

@@ -27,7 +27,7 @@ use Rattle.session_cells.specs.Leaving.{is_lowered, left_starts}
 use Rattle.session_cells.proofs.Leaving.{length_left, get_d_left}
 use Rattle.session_rule.proofs.Chunk.{PartHolds, SameOutside}
 use Rattle.session_rule.proofs.Leaving.{left_start}
-use Rattle.mapper.specs.declared.place.Place.{Place}
+use Rattle.mapper.specs.Walking.{Place}
 use Rattle.mapper.specs.Walking.{middle, part_of, with_part, starts_length, left_words, saved}
 use Rattle.mapper.proofs.Middles.{middle_number, middle_word, same_number, inner_word, outer_word}
 use Rattle.mapper.proofs.Walking.{saved_other, saved_behind}

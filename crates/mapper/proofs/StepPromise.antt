@@ -1,35 +1,39 @@
 -- Step keeps its promise, way by way: refused for too few words or for bad ones, words that no session has, and the walk.
+use Rattle.std.specs.Prelude.{Result, Ok, Err}
 use Prim.Native.Nat.{ℕ, zero, suc, ◌+◌, ◌-◌, ◌≤◌, ◌<◌}
 use native.Mathlib.Nat.{le_refl}
 use native.Mathlib.Omega.{arith}
-use mathlib.Core.Path.{◌≡◌, refl, sym, ap, ◌∙◌, subst}
+use mathlib.Core.Path.{◌≡◌, refl, sym, ap, ap₂, ◌∙◌, subst}
 use mathlib.Core.Logic.{◌⊎◌, inl, inr}
 use mathlib.Core.Bool.{Bool, true, false, cond}
-use mathlib.Core.List.{List, [], ◌∷◌}
+use mathlib.Core.List.{List, [], ◌∷◌, ◌++◌}
 use lib.Dec.{ltb}
-use lib.ListN.{length, get_or}
+use lib.ListN.{length, get_or, take, drop, length-append, length-drop, take-append-drop}
+use lib.Seq.{get_or-take, length-take-le, drop_at}
 use borrow.Author.Tests.{lt-ltb, le-ltb, ltb-true}
 use Rattle.base.specs.Limits.{hit_limit, work_words}
+use Rattle.base.specs.declared.refusal.Refusal.{Refusal}
 use Rattle.base.proofs.Lists.{clash, eq_or_ne}
 use Rattle.mappings.specs.Score.{Task, ThresholdFits}
 use Rattle.mappings.specs.Cells.{hit_count, cells, cell_count}
-use Rattle.mappings.specs.Rule.{Answer, reported, rule_answer}
+use Rattle.mappings.specs.Rule.{Answer, refused, reported, rule_answer}
 use Rattle.mappings.specs.Steps.{more_cells}
 use Rattle.mappings.proofs.Cells.{cell_at, stands}
 use Rattle.mappings.proofs.HitCodes.{cell_shared}
-use Rattle.session_words.specs.FirstWords.{hits_at, passed_at}
+use Rattle.session_words.specs.FirstWords.{hits_at, u_at, v_at, passed_at, kind_at}
 use Rattle.session_words.specs.Layout.{columns_at, row_at, m_at, highest_at}
 use Rattle.session_records.proofs.Highest.{before_none}
 use Rattle.session_start.specs.WorkWords.{columns_left, next_row, next_shared, order_of, best_after, highest_after, session_words}
-use Rattle.session_start.proofs.WorkWords.{HoldsTables, Holds, task_order, words_hold}
-use Rattle.mapper.specs.declared.answer.Stepped.TheVariants.{Spent, TooFewWords, BadWords}
-use Rattle.mapper.specs.Answers.{answer_of}
+use Rattle.session_start.proofs.WorkWords.{HoldsTables, Holds, task_order, words_hold, take_session, drop_session}
+use Rattle.mapper.specs.declared.answer.Stepped.{Stepped}
+use Rattle.mapper.specs.declared.answer.Stepped.TheVariants.{Found, Finished, Spent}
+use Rattle.mapper.specs.Answers.{stepped_answer, answer_of}
 use Rattle.mapper.specs.Step.{too_few_words, bad_words}
 use Rattle.session_rule.proofs.Knowing.{least}
 use Rattle.session_rule.proofs.Chunk.{more_none}
 use Rattle.mapper.specs.Walking.{place_of, terms_in, Walk, walk_on, one_walk}
 use Rattle.mapper.specs.Promise.{Accepts, StepPromise}
-use Rattle.mapper.proofs.Accepted.{Admitted, admitted}
+use Rattle.mapper.proofs.Accepted.{Admitted, admitted, accepts_in}
 use Rattle.mapper.proofs.Places.{at_cell, at_end}
 use Rattle.mapper.proofs.Decided.{terms_of, scoring_read}
 use Rattle.mapper.proofs.WalkRule.{PlaceAt, Settled, Ruled, walk_rule, one_rule}
@@ -120,26 +124,44 @@ unfolding terms_in
 terms_read task before q work held fits =
     rw (held.first_word, held.second_word, held.kind_word, held.size_word, held.threshold_word, scoring_read task.scoring fits)
 
+-- what keeps the promise, keeps it under other names
+pub kept_as : (work : List ℕ) (budget : ℕ) (walk : Walk) (answer : Stepped) (after : List ℕ) → answer ≡ walk.answer → after ≡ walk.words
+    → StepPromise work budget (Ok walk.answer) walk.words → StepPromise work budget (Ok answer) after
+kept_as work budget walk answer after a b promise = rw (a, b) promise
+
+-- ---- refusals
+
+-- what is stepped is no refusal
+no_refusal : (stepped : Stepped) (n : ℕ) → stepped_answer stepped ≡ refused n → ⊥
+no_refusal (Found a b score m cells) n e = let z : ◌≡◌ {A = ℕ} 0 1 = cc in omega arith
+no_refusal (Finished cells) n e = let z : ◌≡◌ {A = ℕ} 0 1 = cc in omega arith
+no_refusal (Spent cells) n e = let z : ◌≡◌ {A = ℕ} 0 1 = cc in omega arith
+
+same_number : (m n : ℕ) → refused m ≡ refused n → n ≡ m
+same_number m n e = cc
+
 -- ---- the ways
 
 module _ (work : List ℕ) (budget : ℕ) where
-  pub few_promise : length work < work_words → StepPromise work budget TooFewWords work
+  pub few_promise : length work < work_words → StepPromise work budget (Err Refusal.TooFewWords) work
   unfolding too_few_words
   few_promise l = record {
     few = λ e. (refl, refl);
     bad = λ e f. clash (lt-ltb (length work) work_words l) e;
     session = λ task before q a k e. absurd (let s = in_session task before q work a e in omega (arith, s.number));
+    refusals = λ n e. inl (same_number 10 n e);
     number = refl;
     beyond = refl;
   }
 
   module _ (l : work_words ≤ length work) where
-    pub bad_promise : bad_words work ≡ true → StepPromise work budget BadWords work
+    pub bad_promise : bad_words work ≡ true → StepPromise work budget (Err Refusal.BadWords) work
     unfolding too_few_words
     bad_promise b = record {
       few = λ e. clash e (le-ltb (length work) work_words l);
       bad = λ e f. (refl, refl);
       session = λ task before q a k e. clash b (good_session task before q work (in_session task before q work a e) k);
+      refusals = λ n e. inr (same_number 15 n e);
       number = refl;
       beyond = refl;
     }
@@ -147,12 +169,13 @@ module _ (work : List ℕ) (budget : ℕ) where
     module _ (good : bad_words work ≡ false) where
       -- a place that lies in no column is no session's
       pub lost_promise : (get_or work hits_at 0 < get_or work columns_at 0) ⊎ (get_or work columns_at 0 < get_or work row_at 0)
-          → StepPromise work budget (Spent 0) work
+          → StepPromise work budget (Ok (Spent 0)) work
       unfolding too_few_words
       lost_promise out = record {
         few = λ e. clash e (le-ltb (length work) work_words l);
         bad = λ e f. clash f good;
         session = λ task before q a k e. absurd (lost task before q (in_session task before q work a e) out);
+        refusals = λ n e. absurd (no_refusal (Spent 0) n e);
         number = refl;
         beyond = refl;
       }
@@ -171,18 +194,19 @@ module _ (work : List ℕ) (budget : ℕ) where
           (place_of (get_or work columns_at 0) (get_or work row_at 0) (get_or work m_at 0) (get_or work highest_at 0)) work
           → terms_in work ≡ terms_of task → get_or work passed_at 0 ≡ q
           → Ruled task s.limits.limited a.threshold_fits s.limits.few_hits before s.limits.many_words q budget q budget walk)
-          → StepPromise work budget walk.answer walk.words
+          → StepPromise work budget (Ok walk.answer) walk.words
       unfolding too_few_words
       by_rule walk kept rule = record {
         few = λ e. clash e (le-ltb (length work) work_words l);
         bad = λ e f. clash f good;
         session = λ task before q a k e. ruled task before q a k (in_session task before q work a e);
+        refusals = λ n e. absurd (no_refusal walk.answer n e);
         number = kept.number;
         beyond = kept.beyond;
       }
         where
           ruled : (task : Task) (before : List ℕ) (q : ℕ) → Accepts task before → q ≤ cell_count (hit_count task) → InSession task before q work
-              → (answer_of walk.answer ≡ rule_answer task q budget)
+              → (stepped_answer walk.answer ≡ rule_answer task q budget)
               × (walk.words ≡ session_words task before (q + reported (rule_answer task q budget)))
           ruled task before q a k s =
               let held = s.held.held in
@@ -195,7 +219,7 @@ module _ (work : List ℕ) (budget : ℕ) where
               })
               (terms_read task before q work held a.threshold_fits)
               s.held.passed_word in
-              let answer : answer_of walk.answer ≡ rule_answer task q budget =
+              let answer : stepped_answer walk.answer ≡ rule_answer task q budget =
               r.answer_is ∙ ap (λ (n : ℕ). more_cells n (rule_answer task q budget)) none ∙ more_none (rule_answer task q budget) in
               (answer, r.words_are ∙ ap (λ (x : Answer). session_words task before (q + reported x)) answer)
 
@@ -203,7 +227,7 @@ module _ (work : List ℕ) (budget : ℕ) where
       abbrev pub walked : Walk
       walked = walk_on (terms_in work) budget (get_or work columns_at 0) (get_or work row_at 0) (get_or work m_at 0) (get_or work highest_at 0) budget work
 
-      pub walk_promise : StepPromise work budget walked.answer walked.words
+      pub walk_promise : StepPromise work budget (Ok walked.answer) walked.words
       walk_promise =
           by_rule walked
           (kept_walk (terms_in work) budget (get_or work columns_at 0) (get_or work row_at 0) (get_or work m_at 0) (get_or work highest_at 0) budget work l)
@@ -216,7 +240,7 @@ module _ (work : List ℕ) (budget : ℕ) where
       abbrev pub walked_one : Walk
       walked_one = one_walk (terms_in work) (get_or work columns_at 0) (get_or work row_at 0) (get_or work m_at 0) (get_or work highest_at 0) work
 
-      pub one_promise : budget ≡ 1 → get_or work row_at 0 + 1 < get_or work columns_at 0 → StepPromise work budget walked_one.answer walked_one.words
+      pub one_promise : budget ≡ 1 → get_or work row_at 0 + 1 < get_or work columns_at 0 → StepPromise work budget (Ok walked_one.answer) walked_one.words
       one_promise e inside =
           by_rule walked_one
           (kept_one (terms_in work) (get_or work columns_at 0) (get_or work row_at 0) (get_or work m_at 0) (get_or work highest_at 0) work l)
@@ -224,3 +248,59 @@ module _ (work : List ℕ) (budget : ℕ) where
           rw terms
           (one_rule task s.limits.limited a.threshold_fits s.limits.few_hits before s.limits.many_words q budget (get_or work columns_at 0) q
           (get_or work row_at 0) (get_or work m_at 0) (get_or work highest_at 0) work place passed e inside refl))
+
+-- ---- a step on the first words: those behind them stay as they were
+
+module _ (work : List ℕ) (budget : ℕ) (l : work_words ≤ length work) where
+  first_number : length (take work_words work) ≡ work_words
+  first_number = length-take-le work_words work l
+
+  -- words 0 to 4 are among the first
+  pub same_bad : bad_words (take work_words work) ≡ bad_words work
+  unfolding bad_words
+  same_bad =
+      rw (
+        get_or-take work_words work hits_at 0 (omega arith),
+        get_or-take work_words work kind_at 0 (omega arith),
+        get_or-take work_words work u_at 0 (omega arith),
+        get_or-take work_words work v_at 0 (omega arith),
+        get_or-take work_words work passed_at 0 (omega arith),
+      )
+
+  on_first : {answer : Result Stepped Refusal} {after : List ℕ} → StepPromise (take work_words work) budget answer after
+      → StepPromise work budget answer (after ++ drop work_words work)
+  unfolding too_few_words
+  on_first {answer} {after} promise = record {
+    few = λ e. clash e (le-ltb (length work) work_words l);
+    bad = λ e b.
+        (let p = promise.bad (le-ltb (length (take work_words work)) work_words (omega (arith, first_number))) (same_bad ∙ b) in
+        (p.0, ap (λ (words : List ℕ). words ++ drop work_words work) p.1 ∙ take-append-drop work_words work));
+    session = λ task before q a k e. session_on task before q a k e (admitted task (length before) (hit_count task ∷ []) a.accepts);
+    refusals = promise.refusals;
+    number = simp (length-append, length-drop) (omega (arith, promise.number, first_number));
+    beyond = drop_at after (drop work_words work) work_words (promise.number ∙ first_number);
+  }
+    where
+      session_on : (task : Task) (before : List ℕ) (q : ℕ) (a : Accepts task before) → q ≤ cell_count (hit_count task)
+          → work ≡ session_words task before q → Admitted task (length before) (hit_count task ∷ [])
+          → (answer_of answer ≡ rule_answer task q budget)
+          × (after ++ drop work_words work ≡ session_words task before (q + reported (rule_answer task q budget)))
+      session_on task before q a k e d =
+          let q' = q + reported (rule_answer task q budget) in
+          let enough : work_words ≤ work_words = omega arith in
+          let begun : work_words ≤ length (take work_words before) = omega (arith, length-take-le work_words before d.many_words) in
+          let p =
+          promise.session task (take work_words before) q (accepts_in task before a (take work_words before) begun) k
+          (ap (take work_words) e ∙ take_session task d.few_hits before work_words enough d.many_words q) in (
+            p.0,
+            ap₂ (λ (xs ys : List ℕ). xs ++ ys) (p.1 ∙ sym (take_session task d.few_hits before work_words enough d.many_words q'))
+                (ap (drop work_words) e ∙ drop_session task d.few_hits before work_words enough d.many_words q q')
+                ∙ take-append-drop work_words (session_words task before q'),
+          )
+
+  pub with_rest : {answer : Result Stepped Refusal} {after : List ℕ} (words : List ℕ) → words ≡ take work_words work
+      → StepPromise words budget answer after → StepPromise work budget answer (after ++ drop work_words work)
+  with_rest {answer} {after} words e promise = on_first (subst (λ (first : List ℕ). StepPromise first budget answer after) e promise)
+
+  pub first_long : (words : List ℕ) → words ≡ take work_words work → work_words ≤ length words
+  first_long words e = rw e (omega (arith, first_number))

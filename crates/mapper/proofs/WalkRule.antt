@@ -37,11 +37,11 @@ use Rattle.session_rule.proofs.CellTests.{shared_few}
 use Rattle.session_rule.proofs.Chunk.{PartHolds, SameOutside, Known, At, Chunk, all_passed, one_found, more_none}
 use Rattle.session_rule.proofs.Skipping.{place_further}
 use Rattle.session_rule.proofs.Passing.{rows_chunk, blocks_chunk}
-use Rattle.mapper.specs.declared.place.Place.{Place}
+use Rattle.mapper.specs.Walking.{Place}
 use Rattle.mapper.specs.declared.answer.Stepped.{Stepped}
 use Rattle.mapper.specs.declared.answer.Stepped.TheVariants.{Found}
 use Rattle.mapper.specs.Deciding.{decided}
-use Rattle.mapper.specs.Answers.{answer_of}
+use Rattle.mapper.specs.Answers.{stepped_answer}
 use Rattle.mapper.specs.Walking.{place_of, place_in, saved, left_words, settled_words, settled, line_of, part_of, with_part, column_update, cell_update}
 use Rattle.mapper.specs.Walking.{Walk, spent_walk, finished_walk, found_walk, walk_on, one_walk}
 use Rattle.mapper.proofs.Decided.{terms_of, final_decided}
@@ -206,8 +206,8 @@ module _ (task : Task) (limited : Limited task) (threshold_fits : ThresholdFits 
   module _ (q₀ budget : ℕ) where
     -- a walk with this much left answers as the rule from q on, with what it passed before added
     pub record Ruled (q left : ℕ) (walk : Walk) : Type 0 where
-      pub answer_is : answer_of walk.answer ≡ more_cells (budget - left) (rule_answer task q left)
-      pub words_are : walk.words ≡ session_words task before (q₀ + reported (answer_of walk.answer))
+      pub answer_is : stepped_answer walk.answer ≡ more_cells (budget - left) (rule_answer task q left)
+      pub words_are : walk.words ≡ session_words task before (q₀ + reported (stepped_answer walk.answer))
 
     no_column : (q row m highest left : ℕ) (work : List ℕ) → Settled q (place_of 0 row m highest) work → get_or work passed_at 0 ≡ q₀
         → q₀ + (budget - left) ≡ q → Ruled q left (finished_walk work (place_of 0 row m highest) (budget - left))
@@ -225,7 +225,7 @@ module _ (task : Task) (limited : Limited task) (threshold_fits : ThresholdFits 
     -- the budget ends at a cell
     at_budget : (q j row m highest cells : ℕ) (work : List ℕ) → Settled q (place_of (suc j) row m highest) work → get_or work passed_at 0 ≡ q₀
         → q₀ + cells ≡ q
-        → (answer_of (spent_walk work (place_of (suc j) row m highest) cells).answer ≡ more_cells cells (rule_answer task q 0))
+        → (stepped_answer (spent_walk work (place_of (suc j) row m highest) cells).answer ≡ more_cells cells (rule_answer task q 0))
         × ((spent_walk work (place_of (suc j) row m highest) cells).words ≡ session_words task before (q₀ + cells))
     unfolding spent_walk
     at_budget q j row m highest cells work s e₀ e =
@@ -287,10 +287,10 @@ module _ (task : Task) (limited : Limited task) (threshold_fits : ThresholdFits 
         let within : place (hit_count task) (row + k) j < cell_count (hit_count task) = place_within (hit_count task) (row + k) j inside l in
         let here : place (hit_count task) (row + k) j ≡ q + k = place_further (hit_count task) row k j q at in
         record {
-          answer_is = ap answer_of decides ∙ rw (shares, count, answer);
+          answer_is = ap stepped_answer decides ∙ rw (shares, count, answer);
           words_are =
               saved_is (q + suc k) cells words behind s (omega arith) (rw e₀ e)
-              ∙ ap (session_words task before) (sym e ∙ ap (λ (answer : Stepped). q₀ + reported (answer_of answer)) (sym decides));
+              ∙ ap (session_words task before) (sym e ∙ ap (λ (answer : Stepped). q₀ + reported (stepped_answer answer)) (sym decides));
         }
 
     -- ---- the update of a column in the words of a session

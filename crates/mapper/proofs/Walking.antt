@@ -18,8 +18,8 @@ use Rattle.session_cells.specs.declared.cells.Line.{Line}
 use Rattle.session_cells.specs.declared.cells.Passed.{Passed}
 use Rattle.session_cells.proofs.Passing.{bounded, blocks_bounded}
 use Rattle.session_cells.proofs.Fitting.{fits_all, pass_fits, cell_fits}
-use Rattle.mapper.specs.declared.update.Terms.{Terms}
-use Rattle.mapper.specs.declared.place.Place.{Place}
+use Rattle.mapper.specs.declared.terms.Terms.{Terms}
+use Rattle.mapper.specs.Walking.{Place}
 use Rattle.mapper.specs.Walking.{place_of, place_in, saved, middle, left_words, settled_words, settled, terms_in, line_of, part_of, with_part}
 use Rattle.mapper.specs.Walking.{column_update, cell_update, Walk, spent_walk, finished_walk, found_walk, walk_on, one_walk}
 use Rattle.mapper.proofs.Deciding.{SmallRates, small_rates}
@@ -29,6 +29,13 @@ pub small_terms : (work : List ℕ) (terms : Terms) → terms ≡ terms_in work 
     → SmallRates terms.scoring
 unfolding terms_in
 small_terms work terms e small = rw e (small_rates (get_or work kind_at 0) (get_or work u_at 0) (get_or work v_at 0) (get_or work threshold_at 0) small)
+
+-- the walk from a place, and that of one cell
+abbrev pub walk_from : Terms → ℕ → Place → ℕ → List ℕ → Walk
+walk_from terms budget place left work = walk_on terms budget place.columns place.row place.m place.highest left work
+
+abbrev pub one_from : Terms → Place → List ℕ → Walk
+one_from terms place work = one_walk terms place.columns place.row place.m place.highest work
 
 -- ---- where a place settles
 

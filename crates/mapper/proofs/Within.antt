@@ -17,8 +17,8 @@ use Rattle.session_cells.specs.declared.cells.Line.{Line}
 use Rattle.session_cells.specs.declared.cells.Passed.{Passed}
 use Rattle.session_cells.proofs.Passing.{bounded}
 use Rattle.session_cells.proofs.Leaving.{length_left}
-use Rattle.mapper.specs.declared.place.Place.{Place}
-use Rattle.mapper.specs.declared.update.Terms.{Terms}
+use Rattle.mapper.specs.Walking.{Place}
+use Rattle.mapper.specs.declared.terms.Terms.{Terms}
 use Rattle.mapper.specs.Walking.{place_of, place_in, saved, middle, with_middle, starts_length, left_words, settled_words, settled, line_of, part_of, with_part}
 use Rattle.mapper.specs.Walking.{column_update, cell_update, Walk, spent_walk, finished_walk, found_walk, walk_on, one_walk}
 use Rattle.mapper.proofs.Middles.{middle_number, same_number, outer_word}

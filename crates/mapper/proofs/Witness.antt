@@ -1,5 +1,6 @@
 -- Demand 3's hypotheses can be met, with either score: for document 01's own example sketch, both strikes and start accept, with buffers of
 -- four words and 16,384 zeros, and every list of steps can be run on the session that start then leaves.
+use Rattle.std.specs.Prelude.{Result, Err}
 use Prim.Native.Nat.{ℕ, ◌≤◌}
 use native.Mathlib.Omega.{arith}
 use mathlib.Core.Path.{◌≡◌, refl, ap, ◌∙◌}
@@ -10,6 +11,7 @@ use lib.IntN.{pos}
 use lib.ListN.{length, take, drop, replicate, length-replicate}
 use borrow.Author.Tests.{ltb-true, ltb-false}
 use Rattle.base.specs.Replies.{accepted}
+use Rattle.base.specs.declared.refusal.Refusal.{Refusal}
 use Rattle.base.specs.Limits.{work_words}
 use Rattle.mappings.specs.declared.Scoring.{Scoring}
 use Rattle.mappings.specs.declared.Scoring.TheVariants.{Linear, Jaccard}
@@ -21,7 +23,6 @@ use Rattle.requests.specs.declared.Settings.{Settings}
 use Rattle.requests.specs.Requests.{task_of}
 use Rattle.session_start.specs.Start.{bad_weights, bad_fraction, start_reply, start_words}
 use Rattle.mapper.specs.declared.answer.Stepped.{Stepped}
-use Rattle.mapper.specs.declared.answer.Stepped.TheVariants.{TooFewWords, BadWords}
 use Rattle.mapper.specs.Answers.{answer_of}
 use Rattle.mapper.specs.Step.{bad_words}
 use Rattle.mapper.specs.Promise.{StepPromise}
@@ -102,16 +103,16 @@ all_accept_fraction = accepts fraction fraction_starts tt
 -- ---- steps can be run
 
 -- some answer and some words keep step's promise, whatever the words before it are
-promise_kept : (work : List ℕ) (budget : ℕ) → (answer : Stepped) × (after : List ℕ) × StepPromise work budget answer after
+promise_kept : (work : List ℕ) (budget : ℕ) → (answer : Result Stepped Refusal) × (after : List ℕ) × StepPromise work budget answer after
 promise_kept work budget = number (ltb (length work) work_words) refl
   where
     words : (b : Bool) → bad_words work ≡ b → work_words ≤ length work
-        → (answer : Stepped) × (after : List ℕ) × StepPromise work budget answer after
-    words true e l = (BadWords, work, bad_promise work budget l e)
+        → (answer : Result Stepped Refusal) × (after : List ℕ) × StepPromise work budget answer after
+    words true e l = (Err Refusal.BadWords, work, bad_promise work budget l e)
     words false e l = (_, _, walk_promise work budget l e)
 
-    number : (b : Bool) → ltb (length work) work_words ≡ b → (answer : Stepped) × (after : List ℕ) × StepPromise work budget answer after
-    number true e = (TooFewWords, work, few_promise work budget (ltb-true (length work) work_words e))
+    number : (b : Bool) → ltb (length work) work_words ≡ b → (answer : Result Stepped Refusal) × (after : List ℕ) × StepPromise work budget answer after
+    number true e = (Err Refusal.TooFewWords, work, few_promise work budget (ltb-true (length work) work_words e))
     number false e = words (bad_words work) refl (ltb-false (length work) work_words e)
 
 pub runs : (work : List ℕ) (steps : List Step) → (heard : List Answer) × (states : List (List ℕ)) × Ran work steps heard states

@@ -5,7 +5,7 @@ use Rattle.mappings.specs.declared.Score.{Score}
 use Rattle.mappings.specs.declared.Scoring.{Scoring}
 use Rattle.mappings.specs.declared.Scoring.TheVariants.{Linear, Jaccard}
 use Rattle.mappings.specs.Score.{scored, threshold_of, at_most, length_of}
-use Rattle.mapper.specs.declared.update.Terms.{Terms}
+use Rattle.mapper.specs.declared.terms.Terms.{Terms}
 use Rattle.mapper.specs.declared.answer.Stepped.{Stepped}
 use Rattle.mapper.specs.declared.answer.Stepped.TheVariants.{Found, Spent}
 

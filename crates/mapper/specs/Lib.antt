@@ -6,3 +6,4 @@ pub mod Sessions
 -- what only code or proofs speak of: what a walk does to any words
 pub mod Deciding
 pub mod Walking
+pub mod Spots

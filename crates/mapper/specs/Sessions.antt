@@ -1,5 +1,6 @@
 -- Lists of steps as step's own promise has them, and demand 3: one claim about the whole list, over the letters of text and read.
-use Rattle.std.specs.Prelude.{ℕ, suc, ◌≤◌, ◌<◌, ◌≡◌, List, [], ◌∷◌, ◌++◌, length, get_or, take, drop}
+use Rattle.std.specs.Prelude.{ℕ, suc, ◌≤◌, ◌<◌, ◌≡◌, List, [], ◌∷◌, ◌++◌, length, get_or, take, drop, Result}
+use Rattle.base.specs.declared.refusal.Refusal.{Refusal}
 use Rattle.base.specs.Replies.{accepted}
 use Rattle.sketch.specs.Replies.{sketch_reply, sketch_codes, sketch_positions}
 use Rattle.strike.specs.Strike.{strike_reply, strike_codes}
@@ -20,7 +21,7 @@ use Rattle.mapper.specs.Promise.{StepPromise}
 -- part of them, as start or the step before it left them, and answers and leaves what its promise says
 pub data Ran : List ℕ → List Step → List Answer → List (List ℕ) → Type 0 where
   none : {work : List ℕ} → Ran work [] [] []
-  then : {work after : List ℕ} {step : Step} {steps : List Step} {answer : Stepped} {given : List Answer} {states : List (List ℕ)}
+  then : {work after : List ℕ} {step : Step} {steps : List Step} {answer : Result Stepped Refusal} {given : List Answer} {states : List (List ℕ)}
       → StepPromise (take step.lent work) step.budget answer after
       → Ran (after ++ drop step.lent work) steps given states
       → Ran work (step ∷ steps) (answer_of answer ∷ given) ((after ++ drop step.lent work) ∷ states)

@@ -12,13 +12,19 @@ use Rattle.session_cells.specs.Leaving.{left_starts}
 use Rattle.session_cells.specs.declared.cells.Line.{Line}
 use Rattle.session_cells.specs.declared.cells.Passed.{Passed}
 use Rattle.session_rule.specs.Lines.{gain_of, loss_of, lift_of}
-use Rattle.mapper.specs.declared.place.Place.{Place}
-use Rattle.mapper.specs.declared.update.Terms.{Terms}
+use Rattle.mapper.specs.declared.terms.Terms.{Terms}
 use Rattle.mapper.specs.declared.answer.Stepped.{Stepped}
 use Rattle.mapper.specs.declared.answer.Stepped.TheVariants.{Finished, Spent}
 use Rattle.mapper.specs.Deciding.{decided}
 
 -- ---- the place
+
+-- the columns left, the row and m of the next cell, and the greatest of the threshold and of the records in the rows before it
+pub record Place : Type 0 where
+  pub columns : ℕ
+  pub row : ℕ
+  pub m : ℕ
+  pub highest : ℕ
 
 abbrev pub place_of : ℕ → ℕ → ℕ → ℕ → Place
 place_of columns row m highest = record { columns = columns; row = row; m = m; highest = highest }

@@ -1,8 +1,8 @@
-// The answer of a step.
+// The answer of a step that is not refused.
 use mappings::Score;
 
-// What a step answers.
-#[derive(Clone, Copy)]
+// What a step answers: a mapping, with the cells passed up to it; or the cells passed, where none remains or the budget is spent.
+#[derive(Clone, Copy, Debug, PartialEq, Eq)]
 pub enum Stepped {
     Found {
         a: u32,
@@ -13,6 +13,4 @@ pub enum Stepped {
     },
     Finished(u32),
     Spent(u32),
-    TooFewWords,
-    BadWords,
 }

@@ -4,7 +4,11 @@
 pub mod answer;
 mod decide;
 mod place;
+mod rates;
 mod score;
 pub mod session;
+mod settle;
+mod small;
+mod terms;
 mod update;
 mod walk;

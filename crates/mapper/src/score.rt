@@ -1,11 +1,10 @@
-// The score of an interval, signed, the threshold out of its word, which holds it plus 2^31, and m of a candidate.
-ghost use Rattle.std.specs.Prelude.{◌≡◌, ◌+◌, ◌%◌, ◌≤◌};
-ghost use Rattle.base.specs.Limits.{text_limit, pattern_limit, weight_limit, word_limit};
+// The linear score of an interval, signed; and the threshold out of its word, which holds it plus 2^31.
+ghost use Rattle.std.specs.Prelude.{◌≡◌, ◌≤◌};
+ghost use Rattle.base.specs.Limits.{text_limit, pattern_limit, weight_limit};
 ghost use Rattle.mappings.specs.Score.{linear};
 ghost use Rattle.mappings.specs.Unbiased.{unbiased as unbiased_of};
 
-use base::WORD_LIMIT;
-use session_words::{BIAS, MINUS_ONE};
+use session_words::BIAS;
 
 // The score of an interval: u·m − v·d with d = len + |p| − 2m.
 pub fn score(u: u32, v: u32, size: u32, m: u32, len: u32) -> i32
@@ -20,16 +19,5 @@ pub fn score(u: u32, v: u32, size: u32, m: u32, len: u32) -> i32
 pub fn unbiased(word: u32) -> i32
     ensures { result ≡ unbiased_of word }
 {
-    if BIAS <= word {
-        (word - BIAS) as i32
-    } else {
-        -1 - (MINUS_ONE - word) as i32
-    }
-}
-
-// m and one, as a word.
-pub fn raised(m: u32) -> u32
-    ensures { result ≡ (m + 1) % word_limit }
-{
-    ((m as u64 + 1) % WORD_LIMIT) as u32
+    word.wrapping_sub(BIAS).cast_signed()
 }

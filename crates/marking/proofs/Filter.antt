@@ -1,5 +1,5 @@
 -- Laws of the filter: what its loop keeps, and that the words it lets through have the same marks.
-use Prim.Native.Nat.{ℕ, suc, ◌+◌, ◌*◌, ◌≤◌, ◌<◌, zero-le}
+use Prim.Native.Nat.{ℕ, suc, ◌+◌, ◌*◌, ◌≤◌, ◌<◌}
 use native.Mathlib.Omega.{arith}
 use native.Mathlib.Numerals.{add-one}
 use mathlib.Core.Path.{◌≡◌, refl, sym, ap, ◌∙◌}
@@ -53,9 +53,6 @@ pub record Collected (f : ℕ → Bool) (words : List ℕ) (i at : ℕ) (out : L
   pub kept : take at out ≡ keep f (take i words)
 
 module _ (f : ℕ → Bool) (words : List ℕ) where
-  pub collected_none : (out : List ℕ) → Collected f words 0 0 out
-  collected_none out = record { within = zero-le; few = zero-le; kept = refl }
-
   -- one word more, of which the test is b
   kept_more : (b : Bool) (i at : ℕ) (out : List ℕ) → f (get_or words i 0) ≡ b → at < length out → i < length words
       → take at out ≡ keep f (take i words)
@@ -80,9 +77,5 @@ module _ (f : ℕ → Bool) (words : List ℕ) where
             rw (add-one i, e) (kept_more (f (get_or words i 0)) i at out refl (omega arith) h c.kept);
       }
 
-  pub collected_all : (i at : ℕ) (out : List ℕ) → Collected f words i at out → length words ≤ i
-      → (at ≤ length words) × (take at out ≡ keep f words)
-  collected_all i at out c h =
-      let few : at ≤ i = c.few in
-      let inside : i ≤ length words = c.within in
-      (omega arith, c.kept ∙ ap (keep f) (take_all i words h))
+  pub collected_all : (i at : ℕ) (out : List ℕ) → Collected f words i at out → length words ≤ i → take at out ≡ keep f words
+  collected_all i at out c h = c.kept ∙ ap (keep f) (take_all i words h)

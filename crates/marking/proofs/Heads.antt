@@ -4,18 +4,17 @@ use native.Mathlib.Nat.{le_refl}
 use native.Mathlib.Omega.{arith}
 use mathlib.Core.Path.{◌≡◌, refl, sym, ap, ◌∙◌}
 use mathlib.Core.Logic.{◌⊎◌, inl, inr, ◌≢◌}
-use mathlib.Core.List.{List, [], ◌∷◌, ◌++◌, append-nil, map_congr_left}
-use lib.ListN.{length, get_or, set, drop, replicate, length-set, length-map, length-replicate, get_or-replicate, drop_of_length-le}
+use mathlib.Core.List.{List, [], ◌∷◌}
+use lib.ListN.{length, get_or, set, replicate, length-set, length-map, length-replicate, get_or-replicate}
 use lib.Seq.{get_or-set_same, get_or-set_other}
-use Rattle.base.specs.Zeros.{zeros}
+use Rattle.base.specs.Zeros.{copies, zeros}
 use Rattle.base.specs.Counts.{occ}
 use Rattle.base.proofs.Lists.{eq_or_ne, get_d_map}
-use Rattle.base.proofs.Writing.{Written, written_more, written_all}
+use Rattle.base.proofs.Writing.{Written, written_more}
 use Rattle.sorting.specs.Sorting.{Sorted}
 use Rattle.sorting.specs.Searching.{searched}
 use Rattle.marking.specs.Marks.{mark_of, marks_of}
 use Rattle.marking.specs.Slots.{slot_count, slot_of, Heads}
-use Rattle.marking.specs.Frequent.{Frequent}
 use Rattle.marking.proofs.Present.{occ_at, found, mark_present, mark_absent}
 
 -- ---- the heads of the slots
@@ -29,11 +28,11 @@ pub record Noting (list : List ℕ) (i : ℕ) (heads : List ℕ) : Type 0 where
 
 -- a list of zeros, of any size: where the size is known, the list would be written out
 zeros_long : (size : ℕ) (heads : List ℕ) → heads ≡ zeros size → length heads ≡ size
-unfolding zeros
+unfolding copies
 zeros_long size heads e = ap length e ∙ length-replicate {A = ℕ} size 0
 
 zeros_at : (size : ℕ) (heads : List ℕ) → heads ≡ zeros size → (v : ℕ) → v < size → get_or heads v 0 ≡ 0
-unfolding zeros
+unfolding copies
 zeros_at size heads e v h = rw e (get_or-replicate size v 0 0 h)
 
 pub noting_none : (list heads : List ℕ) → heads ≡ zeros slot_count → Noting list 0 heads
@@ -69,14 +68,6 @@ noting_more list i heads at n h e l =
     some k m (inr p) =
         let q : k ≢ i = λ r. p (ap (λ (a : ℕ). slot_of (get_or list a 0)) r ∙ sym e) in
         rw (get_or-set_other heads at (slot_of (get_or list k 0)) (i + 1) 0 p) (n.noted k (omega arith))
-
-pub noting_all : (list : List ℕ) (i : ℕ) (heads : List ℕ) → Noting list i heads → length list ≤ i → Heads list heads
-noting_all list i heads n h =
-    record {
-      long = n.long;
-      within = λ v m. let r : get_or heads v 0 ≤ i = n.within v m in let p : i ≤ length list = n.passed in omega arith;
-      noted = λ k m. n.noted k (omega arith);
-    }
 
 -- ---- the mark of a word
 
@@ -116,18 +107,6 @@ module _ (list words : List ℕ) where
       let n : length (marks_of list 0 words) ≡ length words = length-map words (mark_of list 0) in
       written_more (marks_of list 0 words) old i now mark w (omega arith) (omega arith) (e ∙ sym (get_d_map (mark_of list 0) words i h))
 
-  pub marks_all : (old now : List ℕ) (i : ℕ) → length old ≡ length words → length words ≤ i → Written (marks_of list 0 words) old i now
-      → now ≡ marks_of list 0 words
-  marks_all old now i l h w =
-      let n : length (marks_of list 0 words) ≡ length words = length-map words (mark_of list 0) in
-      written_all (marks_of list 0 words) old i now w (omega arith) (omega arith)
-
-pub filled_all : (i : ℕ) (old now : List ℕ) → now ≡ replicate i 1 ++ drop i old → i ≤ length old → length old ≤ i
-    → now ≡ replicate (length old) 1
-filled_all i old now e h l =
-    let n : i ≡ length old = omega arith in
-    e ∙ ap (λ (r : List ℕ). replicate i 1 ++ r) (drop_of_length-le old l) ∙ append-nil (replicate i 1) ∙ ap (λ (k : ℕ). replicate k 1) n
-
 marks_empty : (words : List ℕ) → replicate (length words) 1 ≡ marks_of [] 0 words
 marks_empty [] = refl
 marks_empty (w ∷ ws) = ap (λ (l : List ℕ). 1 ∷ l) (marks_empty ws)
@@ -136,8 +115,3 @@ marks_empty (w ∷ ws) = ap (λ (l : List ℕ). 1 ∷ l) (marks_empty ws)
 pub marks_none : (list words now : List ℕ) (n : ℕ) → length list ≡ 0 → n ≡ length words → now ≡ replicate n 1 → now ≡ marks_of list 0 words
 marks_none [] words now n h l e = e ∙ ap (λ (k : ℕ). replicate k 1) l ∙ marks_empty words
 marks_none (x ∷ xs) words now n h l e = absurd (omega arith)
-
--- the marks by the list of the words that occur too often are those that the deciding words give
-pub marks_same : (deciding : List ℕ) (limit : ℕ) (list words now : List ℕ) → Frequent deciding limit list → now ≡ marks_of list 0 words
-    → now ≡ marks_of deciding limit words
-marks_same deciding limit list words now f e = e ∙ map_congr_left {l = words} (λ x m. f.same_mark x)

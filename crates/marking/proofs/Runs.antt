@@ -167,12 +167,9 @@ module _ (sorted : List ℕ) (rises : Sorted sorted) (limit i n : ℕ) (list : L
           rw p (ap bit (le-leb (occ w (take i sorted)) limit (omega arith) ∙ sym (le-leb (occ w (take (suc i) sorted)) limit most)))
       go x (inr p) = ap (λ (k : ℕ). bit (leb k limit)) (sym (others sorted rises i inside x p))
 
-pub listed_all : (sorted : List ℕ) (limit i n : ℕ) (list : List ℕ) → Listed sorted limit i n list → length sorted ≤ i
-    → (n ≤ length sorted) × Frequent sorted limit (take n list)
-listed_all sorted limit i n list l h = (
-  l.within,
-  record { in_order = l.in_order; same_mark = λ x. l.same_mark x ∙ ap (λ (k : List ℕ). mark_of k limit x) (take_all i sorted h) },
-)
+pub listed_all : (sorted : List ℕ) (limit i n : ℕ) (list : List ℕ) → Listed sorted limit i n list → length sorted ≤ i → Frequent sorted limit (take n list)
+listed_all sorted limit i n list l h =
+    record { in_order = l.in_order; same_mark = λ x. l.same_mark x ∙ ap (λ (k : List ℕ). mark_of k limit x) (take_all i sorted h) }
 
 -- ---- words in another order, or fewer of them, with the same list
 

@@ -4,7 +4,7 @@
 use mappings::Scoring;
 
 // k, w and c, and how mappings are scored.
-#[derive(Clone, Copy)]
+#[derive(Clone, Copy, Debug, PartialEq, Eq)]
 pub struct Settings {
     pub k: u32,
     pub w: u32,

@@ -1,9 +1,9 @@
 -- When rows fit a part: what passing them comes to where they do and where they do not.
-use Prim.Native.Nat.{ℕ, ◌+◌, ◌-◌, ◌≤◌, ◌<◌}
-use mathlib.Core.Path.{◌≡◌, refl}
+use Prim.Native.Nat.{ℕ, ◌+◌, ◌-◌, ◌≤◌}
+use mathlib.Core.Path.{◌≡◌, refl, sym}
 use mathlib.Core.Bool.{Bool, true, false, ◌&&◌}
 use mathlib.Core.List.{List}
-use borrow.Author.Tests.{eqb-true, leb-true, eq-eqb, le-leb, lt-leb}
+use borrow.Author.Tests.{eqb-true, leb-true, eq-eqb, le-leb}
 use lib.Dec.{leb, eqb}
 use lib.ListN.{length}
 use Rattle.base.specs.Limits.{hit_limit}
@@ -31,14 +31,13 @@ module _ (line : Line) (part : List ℕ) (from to : ℕ) where
   unfolding fits
   fits_all l a b c = rw (eq-eqb (length part) part_length l, le-leb to hit_limit b, le-leb to (line.column + 1) c, le-leb from to a)
 
-  -- a row past the tables does not fit, whatever the part
-  pub fits_past : hit_limit < to → fits line part from to ≡ false
-  unfolding fits
-  fits_past l = rw (lt-leb to hit_limit l) (go (eqb (length part) part_length))
+  -- where one of these does not hold, they do not fit
+  pub fits_not : ((length part ≡ part_length) × (from ≤ to) × (to ≤ hit_limit) × (to ≤ line.column + 1) → ⊥) → fits line part from to ≡ false
+  fits_not h = go (fits line part from to) refl
     where
-      go : (a : Bool) → (a && false && leb to (line.column + 1) && leb from to) ≡ false
-      go true = refl
-      go false = refl
+      go : (t : Bool) → fits line part from to ≡ t → fits line part from to ≡ false
+      go true e = absurd (h (fits_says e))
+      go false e = e
 
 module _ (line : Line) (from to m highest : ℕ) (part : List ℕ) where
   pub pass_fits : fits line part from to ≡ true → column_pass line from to m highest part ≡ pass_blocks line (to - from) to from m highest part
@@ -49,6 +48,11 @@ module _ (line : Line) (from to m highest : ℕ) (part : List ℕ) where
   unfolding column_pass
   pass_none e = rw e
 
+  -- of a part that is lent on as a whole
+  pub passed_as : {lent : List ℕ} → fits line part from to ≡ true → lent ≡ part
+      → pass_blocks line (to - from) to from m highest lent ≡ column_pass line from to m highest part
+  passed_as e same = rw same (sym (pass_fits e))
+
 module _ (line : Line) (row m highest : ℕ) (part : List ℕ) where
   pub cell_fits : fits line part row (row + 1) ≡ true → cell_pass line row m highest part ≡ pass_rows line 1 row m highest part
   unfolding cell_pass
@@ -57,3 +61,7 @@ module _ (line : Line) (row m highest : ℕ) (part : List ℕ) where
   pub cell_none : fits line part row (row + 1) ≡ false → cell_pass line row m highest part ≡ record { answer = none_passed row m highest; part = part }
   unfolding cell_pass
   cell_none e = rw e
+
+  pub cell_passed_as : {lent : List ℕ} → fits line part row (row + 1) ≡ true → lent ≡ part
+      → pass_rows line 1 row m highest lent ≡ cell_pass line row m highest part
+  cell_passed_as e same = rw same (sym (cell_fits e))

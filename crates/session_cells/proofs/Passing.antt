@@ -9,12 +9,13 @@ use mathlib.Core.List.{List}
 use borrow.Author.Tests.{le-ltb, lt-ltb, leb-true, ltb-true, ltb-false}
 use lib.Dec.{leb, ltb, eqb}
 use lib.ListN.{length, get_or, set, length-set}
+use Rattle.base.specs.Lists.{bit}
 use Rattle.base.proofs.Lists.{and_left}
 use Rattle.session_words.specs.Layout.{block_rows}
 use Rattle.session_records.specs.Words.{numerator, denominator, at_most}
 use Rattle.session_records.specs.Records.{greater}
 use Rattle.session_cells.specs.declared.cells.Line.{Line}
-use Rattle.session_cells.specs.Passing.{best_at, top_at, lowered, line_score, line_divisor, order_in, in_reach, entered, matters, candidate_test}
+use Rattle.session_cells.specs.Passing.{reach_at, best_at, top_at, lowered, line_score, line_divisor, order_in, in_reach, entered, matters, candidate_test}
 use Rattle.session_cells.specs.Passing.{Update, pass_rows, rest_end, skips, skipped, pass_rest, pass_blocks}
 
 -- ---- a line whose kind of score words is known
@@ -50,6 +51,19 @@ pub record AtCell (line : Line) (i m highest : ℕ) (part : List ℕ) (s one see
   pub reach : one ≡ in_reach line part i
   pub known : seen ≡ greater (order_in line) highest (get_or part (best_at i) 0)
   pub lower : rest ≡ lowered m one
+
+-- the same from what code over score words of one kind has computed
+pub cell_known : (line : Line) (i m highest : ℕ) (part : List ℕ) (fractions : Bool) → line.fractions ≡ fractions → {s one seen rest : ℕ}
+    → s ≡ line_score line m (get_or part i 0) → one ≡ bit (ltb line.column (get_or part (reach_at i) 0))
+    → seen ≡ greater (at_most fractions) highest (get_or part (best_at i) 0) → rest ≡ lowered m one
+    → AtCell line i m highest part s one seen rest
+unfolding in_reach
+cell_known line i m highest part fractions kind s one seen rest = record {
+  score = s;
+  reach = one;
+  known = greater_of line fractions kind highest _ seen;
+  lower = rest;
+}
 
 -- both ends of a cell of row i are reasonable
 abbrev pub reasonable : Line → ℕ → ℕ → Bool

@@ -1,5 +1,5 @@
 -- The cells up to the first that matters, unrolled by one cell; and passing a column by way of such cells.
-use Prim.Native.Nat.{ℕ, zero, suc, ◌+◌, ◌-◌, ◌≤◌, min, zero-le}
+use Prim.Native.Nat.{ℕ, zero, suc, ◌+◌, ◌-◌, ◌≤◌, ◌<◌, min, zero-le}
 use native.Mathlib.Omega.{arith}
 use native.Mathlib.Numerals.{add-one}
 use mathlib.Core.Path.{◌≡◌, refl, sym, ap, ◌∙◌, subst}
@@ -28,13 +28,18 @@ module _ (line : Line) (i m highest : ℕ) (part : List ℕ) (s one seen rest : 
       ≡ cond (matters line seen m (get_or part i 0)) (paused_at (i + 1) rest seen s (get_or part (reach_at i) 0)) (quiet_rows line n (i + 1) rest seen part)
   unrolled n = rw (at.lower, at.score, at.reach, at.known, add-one)
 
-  pub quiet_stop : (n : ℕ) → matters line seen m (get_or part i 0) ≡ true
-      → quiet_rows line (suc n) i m highest part ≡ paused_at (i + 1) rest seen s (get_or part (reach_at i) 0)
-  quiet_stop n l = unrolled n ∙ rw l
+  module _ (to : ℕ) (h : i < to) where
+    pub quiet_stop : matters line seen m (get_or part i 0) ≡ true
+        → quiet_rows line (to - i) i m highest part ≡ paused_at (i + 1) rest seen s (get_or part (reach_at i) 0)
+    quiet_stop l =
+        let n : to - i ≡ suc (to - (i + 1)) = omega arith in
+        rw n (unrolled (to - (i + 1)) ∙ rw l)
 
-  pub quiet_on : (n : ℕ) → matters line seen m (get_or part i 0) ≡ false
-      → quiet_rows line (suc n) i m highest part ≡ quiet_rows line n (i + 1) rest seen part
-  quiet_on n l = unrolled n ∙ rw l
+    pub quiet_on : matters line seen m (get_or part i 0) ≡ false
+        → quiet_rows line (to - i) i m highest part ≡ quiet_rows line (to - (i + 1)) (i + 1) rest seen part
+    quiet_on l =
+        let n : to - i ≡ suc (to - (i + 1)) = omega arith in
+        rw n (unrolled (to - (i + 1)) ∙ rw l)
 
 -- what the definitions say at a cell, its pause among it
 module _ (line : Line) (i m highest : ℕ) (part : List ℕ) where
@@ -124,8 +129,12 @@ by_pauses line (suc n) i to m highest part e =
     ∙ ap (resumed line to part) (sym (unrolled line i m highest part _ _ _ _ (at_cell line i m highest part) n))
 
 module _ (line : Line) (to i m highest : ℕ) (part : List ℕ) (q : Paused) (h : i ≤ to) (a : q ≡ quiet_rows line (to - i) i m highest part) where
-  pub pace : Paced i (to - i) q
+  pace : Paced i (to - i) q
   pace = subst (Paced i (to - i)) (sym a) (paced line (to - i) i m highest part)
+
+  -- the pause is behind a row, within the rows that are asked for
+  pub pause_within : i < to → (i < q.row) × (q.row ≤ to)
+  pause_within l = (omega (arith, pace.moved), omega (arith, pace.to))
 
   resumes : pass_rows line (to - i) i m highest part ≡ resumed line to part q
   resumes = by_pauses line (to - i) i to m highest part (omega arith) ∙ ap (resumed line to part) (sym a)

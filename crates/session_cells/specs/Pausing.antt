@@ -1,16 +1,10 @@
 -- Passing the cells of a column without a change to the part, up to the first cell that matters: one whose score word is at least what the
 -- rows up to it have seen, the threshold included.
-use Rattle.std.specs.Prelude.{ℕ, zero, suc, ◌≤◌, ◌<◌, ◌≡◌, cond, List, get_or}
-use Rattle.session_records.specs.Words.{divisor_span, numerator, denominator}
+use Rattle.std.specs.Prelude.{ℕ, zero, suc, cond, List, get_or}
 use Rattle.session_records.specs.Records.{greater}
 use Rattle.session_cells.specs.declared.cells.Line.{Line}
-use Rattle.session_cells.specs.declared.fractions.Factors.{Factors}
 use Rattle.session_cells.specs.declared.rows.Paused.{Paused}
 use Rattle.session_cells.specs.Passing.{reach_at, best_at, lowered, line_score, order_in, in_reach, matters}
-
--- the fraction of a score word, taken apart: products with another word have 64 bits
-abbrev pub IsApart : Factors → Type 0
-IsApart top = (top.m ≡ numerator top.word) × (top.divisor ≡ denominator top.word) × (top.m ≤ 2048) × (top.divisor < divisor_span)
 
 -- the next n cells of the line from row i on; the rows before i have seen `highest`
 abbrev pub quiet_rows : Line → ℕ → ℕ → ℕ → ℕ → List ℕ → Paused

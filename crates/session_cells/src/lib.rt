@@ -3,6 +3,9 @@
 
 pub mod cells;
 mod fractions;
+mod numbers;
+mod part;
 mod rows;
 pub mod score;
+mod seen;
 pub mod starts;

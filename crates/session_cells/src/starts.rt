@@ -3,17 +3,14 @@ ghost use Rattle.std.specs.Prelude.{◌≡◌};
 ghost use Rattle.session_cells.specs.Leaving.{left_starts};
 
 use crate::score::lowered;
-use base::smaller;
 use session_words::BLOCK_ROWS;
 
 // Leaves a column: m falls by one in the rows from `back`, that of its hit, up to its own.
 pub fn leave(starts: &mut [u32], back: usize, column: usize)
     ensures { starts.new ≡ left_starts back column 0 starts.old }
 {
-    let to = smaller(column / BLOCK_ROWS + 1, starts.len());
-    let mut b = back / BLOCK_ROWS + smaller(back % BLOCK_ROWS, 1);
-    while b < to {
+    let to = starts.len().min(column / BLOCK_ROWS + 1);
+    for b in back.div_ceil(BLOCK_ROWS)..to {
         starts[b] = lowered(starts[b], 1);
-        b += 1;
     }
 }

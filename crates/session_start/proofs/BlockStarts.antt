@@ -4,6 +4,8 @@ use native.Mathlib.Omega.{arith}
 use mathlib.Core.Path.{◌≡◌, refl, sym, ap, ◌∙◌}
 use mathlib.Core.Logic.{◌⊎◌, inl, inr}
 use mathlib.Core.List.{List}
+use mathlib.Core.Bool.{Bool, true, false}
+use mir.Val.{bool_byte}
 use lib.Dec.{ltb, leb, eqb}
 use lib.ListN.{length, get_or, take, set, length-set, length-take, drop_of_length-le}
 use lib.Seq.{get_or-set_same, get_or-set_other, sets}
@@ -11,7 +13,7 @@ use borrow.Author.Tests.{lt-ltb, le-ltb, eq-eqb, ne_eqb}
 use Rattle.base.specs.Limits.{hit_limit, work_words}
 use Rattle.base.specs.Lists.{bit}
 use Rattle.base.specs.Counts.{occ}
-use Rattle.base.proofs.Lists.{eq_or_ne}
+use Rattle.base.proofs.Lists.{eq_or_ne, bit_le_one}
 use Rattle.mappings.specs.Score.{interval, shared}
 use Rattle.mappings.proofs.Shared.{shared_left_end, shared_nil}
 use Rattle.session_words.specs.Layout.{reach_from, block_rows, block_count, starts_from}
@@ -62,6 +64,14 @@ shared_before p g (suc j) i e h =
     let at : bit (leb (occ (get_or g i 0) (interval g i j)) (occ (get_or g i 0) p)) ≡ bit (eqb (reach p g i) (suc j)) =
     ap bit (sym (reach_test p g i j l k) ∙ above_is j (reach p g i) (omega (arith, reach_within p g i (omega arith)))) in
     omega (arith, shared_left_end p g i j l k)
+
+-- a test as a number, as the code reads it
+pub byte_bit : (b : Bool) → bool_byte b ≡ bit b
+byte_bit true = refl
+byte_bit false = refl
+
+pub byte_le_one : (b : Bool) → bool_byte b ≤ 1
+byte_le_one b = omega (arith, byte_bit b, bit_le_one b)
 
 -- ---- the loop over the rows, from the last one up
 

@@ -6,7 +6,7 @@ use mathlib.Core.Path.{◌≡◌, refl, sym, ap, ◌∙◌}
 use mathlib.Core.List.{List, [], ◌∷◌}
 use lib.ListN.{length, get_or, take, set, length-map}
 use Rattle.sorting.specs.Sorting.{LowerBound}
-use Rattle.base.specs.Zeros.{zeros}
+use Rattle.base.specs.Zeros.{copies, zeros}
 use Rattle.base.proofs.Counts.{occ_mem}
 use Rattle.mappings.proofs.Rising.{get_d_mem}
 use Rattle.session_start.specs.Noting.{one_at, words_at, Begin, AllIn, backs}
@@ -29,7 +29,7 @@ words_in sorted slots begin k h =
 
 -- words of a part of zeros
 pub zero_words : (n m k : ℕ) → get_or (take n (zeros m)) k 0 ≡ 0
-unfolding zeros
+unfolding copies
 zero_words zero m k = refl
 zero_words (suc n) zero k = refl
 zero_words (suc n) (suc m) zero = refl

@@ -1,20 +1,20 @@
 -- The pass over the text: what it has noted of the hits so far, and one entry more.
-use Prim.Native.Nat.{ℕ, suc, ◌+◌, ◌≤◌, ◌<◌, zero-le}
+use Prim.Native.Nat.{ℕ, suc, ◌+◌, ◌≤◌, ◌<◌}
 use native.Mathlib.Omega.{arith}
 use native.Mathlib.Numerals.{add-one}
 use mathlib.Core.Path.{◌≡◌, refl, sym, ap, ◌∙◌}
 use mathlib.Core.Logic.{◌⊎◌, inl, inr}
 use mathlib.Core.Bool.{Bool, true, false}
-use mathlib.Core.List.{List, [], ◌∷◌}
+use mathlib.Core.List.{List, ◌∷◌}
 use lib.Dec.{ltb}
-use lib.ListN.{length, get_or, drop, set, length-set, length-drop, drop_of_length-le}
+use lib.ListN.{length, get_or, drop, set, length-set, length-drop}
 use lib.Seq.{drop-cons, get_or-set_same, get_or-set_other}
 use Rattle.base.specs.Lists.{bit, add_if}
 use Rattle.base.specs.Counts.{occ}
 use Rattle.sorting.specs.Sorting.{Sorted, LowerBound}
 use Rattle.base.proofs.Lists.{eq_or_ne}
 use Rattle.mappings.specs.Cells.{hits_from}
-use Rattle.session_start.specs.Noting.{one_at, Noted}
+use Rattle.session_start.specs.Noting.{one_at}
 use Rattle.session_start.proofs.Ring.{one_at_run}
 
 -- ---- notes
@@ -60,15 +60,6 @@ module _ (text sorted : List ℕ) where
     pub indices : (k : ℕ) → k < h → k < length index → get_or index k 0 ≡ get_or all_hits k 0
     pub lower : (k : ℕ) → k < h → k < length slots → LowerBound sorted (get_or text (get_or all_hits k 0) 0) (get_or slots k 0)
 
-  pub noting_none : (index slots : List ℕ) → Noting index slots 0 0
-  noting_none index slots = record {
-    left = refl;
-    within = zero-le;
-    at_most = zero-le;
-    indices = λ k h. absurd (omega arith);
-    lower = λ k h. absurd (omega arith);
-  }
-
   -- one entry more: a word that stands at its slot is a hit
   pub noting_more : Sorted sorted → (index slots : List ℕ) (h i slot : ℕ) → Noting index slots h i → i < length text
       → LowerBound sorted (get_or text i 0) slot
@@ -103,12 +94,3 @@ module _ (text sorted : List ℕ) where
             indices = notes_same (λ k n. n ≡ get_or all_hits k 0) index h i now.indices;
             lower = notes_same (λ k n. LowerBound sorted (get_or text (get_or all_hits k 0) 0) n) slots h slot now.lower;
           })
-
-  pub noting_all : (index slots : List ℕ) (h i : ℕ) → Noting index slots h i → length text ≤ i → Noted text sorted index slots h
-  noting_all index slots h i now l =
-      let none : drop h all_hits ≡ [] = now.left ∙ ap (hits_from sorted i) (drop_of_length-le text l) in
-      record {
-        number = omega (arith, now.within, length-drop h all_hits, ap length none);
-        indices = now.indices;
-        lower = now.lower;
-      }

@@ -1,6 +1,6 @@
 -- Tables put into the work words: each in its place, and the others as they were. Put one after the other they are the words of a fresh
 -- session.
-use Prim.Native.Nat.{ℕ, zero, suc, ◌+◌, ◌≤◌, ◌<◌, zero-le}
+use Prim.Native.Nat.{ℕ, zero, suc, ◌+◌, ◌-◌, ◌≤◌, ◌<◌, zero-le}
 use native.Mathlib.Omega.{arith}
 use mathlib.Core.Path.{◌≡◌, refl, sym, ap, ap₂, ◌∙◌}
 use mathlib.Core.Logic.{inl, inr}
@@ -8,6 +8,7 @@ use mathlib.Core.List.{List}
 use lib.ListN.{length, get_or, replicate, length-replicate, get_or-replicate}
 use lib.Seq.{sets}
 use borrow.Author.Tests.{lt-ltb}
+use borrow.Rule.Slice.PartMut.{mid_of, put_mid}
 use Rattle.base.specs.Limits.{hit_limit, work_words}
 use Rattle.mappings.specs.declared.Scoring.{Scoring}
 use Rattle.mappings.specs.Score.{Task}
@@ -22,7 +23,7 @@ use Rattle.session_start.specs.ScoreWords.{threshold_word}
 use Rattle.session_start.specs.Tables.{reach, back, start_of}
 use Rattle.session_start.specs.WorkWords.{columns_left, next_row, next_shared, order_of, best_after, highest_after, session_words}
 use Rattle.session_start.specs.Noting.{backs, reaches, HoldsReach, starts, fresh_heading, Prepared}
-use Rattle.session_start.proofs.Storing.{Put, put_at}
+use Rattle.session_start.proofs.Storing.{Put, put_at, store_part, part_long}
 use Rattle.session_start.proofs.Reaching.{length_backs, get_d_backs, length_reaches}
 use Rattle.session_start.proofs.BlockStarts.{length_starts, get_d_starts}
 use Rattle.session_start.proofs.WorkWords.{Outside, Free, task_order, hold_words, get_d_table}
@@ -194,22 +195,42 @@ module _ (task : Task) where
 
 -- ---- from what start has at hand
 
--- the tables, stored one after the other; starts are told by what is in reach's place
-pub record Stores (task : Task) (scoring : Scoring) (size m : ℕ) (index noted old w₁ w₂ w₃ w₄ w₅ w₆ w₇ : List ℕ) : Type 0 where
-  pub ready : Prepared task scoring size index noted
-  pub back_table : w₁ ≡ sets old back_from noted
-  pub index_table : w₂ ≡ sets w₁ index_from index
-  pub reach_table : w₃ ≡ sets w₂ reach_from (reaches task.pattern (hit_codes task))
-  pub starts_table : (p g : List ℕ) → length g ≡ length index → HoldsReach p g w₃
-      → (m ≡ start_of p g (length index) 0) × (w₄ ≡ sets w₃ starts_from (starts p g))
-  pub best_table : w₅ ≡ sets w₄ best_from (replicate (length index) 0)
-  pub tops_table : w₆ ≡ sets w₅ tops_from (replicate (block_count (length index)) 0)
-  pub heading_table : w₇ ≡ sets w₆ 0 (fresh_heading scoring (length index) size m)
+-- words whose n from an index on were lent, and have come back as this part
+abbrev lent : ℕ → ℕ → List ℕ → List ℕ → List ℕ
+lent at n words part = put_mid at (at + n - at) words part
 
-module _ (task : Task) (scoring : Scoring) (size m : ℕ) (index noted old w₁ w₂ w₃ w₄ w₅ w₆ w₇ : List ℕ) where
-  pub stores_session : Stores task scoring size m index noted old w₁ w₂ w₃ w₄ w₅ w₆ w₇
-      → length index ≤ hit_limit → work_words ≤ length old
-      → w₇ ≡ session_words task old 0
+module _ (task : Task) (scoring : Scoring) (size m : ℕ) (index noted old back_part index_part reach_part w₄ best_part tops_part w₇ : List ℕ) where
+  abbrev n : ℕ
+  n = length index
+
+  abbrev w₁ : List ℕ
+  w₁ = lent back_from n old back_part
+
+  abbrev w₂ : List ℕ
+  w₂ = lent index_from n w₁ index_part
+
+  abbrev w₃ : List ℕ
+  w₃ = lent reach_from n w₂ reach_part
+
+  abbrev w₅ : List ℕ
+  w₅ = lent best_from n w₄ best_part
+
+  abbrev w₆ : List ℕ
+  w₆ = lent tops_from (block_count n) w₅ tops_part
+
+  -- the tables, written one after the other into lent parts; starts are told by what is in reach's place
+  pub record Stores : Type 0 where
+    pub ready : Prepared task scoring size index noted
+    pub back_table : back_part ≡ noted
+    pub index_table : index_part ≡ index
+    pub reach_table : reach_part ≡ reaches task.pattern (hit_codes task)
+    pub starts_table : (p g : List ℕ) → length g ≡ n → HoldsReach p g w₃
+        → (m ≡ start_of p g n 0) × (w₄ ≡ sets w₃ starts_from (starts p g))
+    pub best_table : best_part ≡ replicate (length (mid_of best_from (best_from + n - best_from) w₄)) 0
+    pub tops_table : tops_part ≡ replicate (length (mid_of tops_from (tops_from + block_count n - tops_from) w₅)) 0
+    pub heading_table : w₇ ≡ sets w₆ 0 (fresh_heading scoring n size m)
+
+  pub stores_session : Stores → n ≤ hit_limit → work_words ≤ length old → w₇ ≡ session_words task old 0
   stores_session stores few many =
       puts_session task old w₁ w₂ w₃ w₄ w₅ w₆ w₇ (record {
         put_back = p₁;
@@ -221,54 +242,63 @@ module _ (task : Task) (scoring : Scoring) (size m : ℕ) (index noted old w₁ 
         put_heading = p₇;
       }) small many
     where
-      n : length index ≡ hit_count task
-      n = ap length stores.ready.index_is ∙ index_long task
+      number : n ≡ hit_count task
+      number = ap length stores.ready.index_is ∙ index_long task
 
       small : hit_count task ≤ hit_limit
-      small = rw (← n) few
+      small = rw (← number) few
+
+      -- a table written into a part is put there
+      part : (at k : ℕ) (table words new : List ℕ) → new ≡ table → length table ≡ k → at + k ≤ length words → Put at table words (lent at k words new)
+      part at k table words new e l room = put_at at table words (lent at k words new) (store_part at k table words new e l room) (omega arith)
 
       p₁ : Put back_from (backs task.pattern (hit_codes task)) old w₁
       p₁ =
-          put_at back_from (backs task.pattern (hit_codes task)) old w₁ (stores.back_table ∙ ap (sets old back_from) stores.ready.backs_are)
-          (omega (arith, small, back_long task))
+          part back_from n (backs task.pattern (hit_codes task)) old back_part (stores.back_table ∙ stores.ready.backs_are)
+          (back_long task ∙ sym number) (omega arith)
 
       p₂ : Put index_from (hits task) w₁ w₂
       p₂ =
-          put_at index_from (hits task) w₁ w₂ (stores.index_table ∙ ap (sets w₁ index_from) stores.ready.index_is)
-          (omega (arith, small, index_long task, p₁.same_length))
+          part index_from n (hits task) w₁ index_part (stores.index_table ∙ stores.ready.index_is) (index_long task ∙ sym number)
+          (omega (arith, p₁.same_length))
 
       p₃ : Put reach_from (reaches task.pattern (hit_codes task)) w₂ w₃
       p₃ =
-          put_at reach_from (reaches task.pattern (hit_codes task)) w₂ w₃ stores.reach_table
-          (omega (arith, small, reach_long task, p₂.same_length, p₁.same_length))
+          part reach_from n (reaches task.pattern (hit_codes task)) w₂ reach_part stores.reach_table (reach_long task ∙ sym number)
+          (omega (arith, p₂.same_length, p₁.same_length))
 
       number₃ : length w₃ ≡ length old
       number₃ = p₃.same_length ∙ p₂.same_length ∙ p₁.same_length
 
-      begun : (m ≡ start_of task.pattern (hit_codes task) (length index) 0) × (w₄ ≡ sets w₃ starts_from (starts task.pattern (hit_codes task)))
-      begun = stores.starts_table task.pattern (hit_codes task) (length_g task ∙ sym n) (reach_put task w₂ w₃ p₃)
+      begun : (m ≡ start_of task.pattern (hit_codes task) n 0) × (w₄ ≡ sets w₃ starts_from (starts task.pattern (hit_codes task)))
+      begun = stores.starts_table task.pattern (hit_codes task) (length_g task ∙ sym number) (reach_put task w₂ w₃ p₃)
 
       p₄ : Put starts_from (starts task.pattern (hit_codes task)) w₃ w₄
       p₄ = put_at starts_from (starts task.pattern (hit_codes task)) w₃ w₄ begun.1 (omega (arith, small, starts_long task, number₃))
 
+      number₄ : length w₄ ≡ length old
+      number₄ = p₄.same_length ∙ number₃
+
       p₅ : Put best_from (replicate (hit_count task) 0) w₄ w₅
       p₅ =
-          put_at best_from (replicate (hit_count task) 0) w₄ w₅ (stores.best_table ∙ ap (λ (k : ℕ). sets w₄ best_from (replicate k 0)) n)
-          (omega (arith, small, best_long task, p₄.same_length, number₃))
+          let room : best_from + n ≤ length w₄ = omega (arith, number₄) in
+          part best_from n (replicate (hit_count task) 0) w₄ best_part
+          (stores.best_table ∙ ap (λ (k : ℕ). replicate k 0) (part_long best_from n w₄ room ∙ number)) (best_long task ∙ sym number) room
 
       p₆ : Put tops_from (replicate (block_count (hit_count task)) 0) w₅ w₆
       p₆ =
-          put_at tops_from (replicate (block_count (hit_count task)) 0) w₅ w₆
-          (stores.tops_table ∙ ap (λ (k : ℕ). sets w₅ tops_from (replicate (block_count k) 0)) n)
-          (omega (arith, small, tops_long task, p₅.same_length, p₄.same_length, number₃))
+          let room : tops_from + block_count n ≤ length w₅ = omega (arith, p₅.same_length, number₄) in
+          part tops_from (block_count n) (replicate (block_count (hit_count task)) 0) w₅ tops_part
+          (stores.tops_table ∙ ap (λ (k : ℕ). replicate k 0) (part_long tops_from (block_count n) w₅ room ∙ ap block_count number))
+          (tops_long task ∙ ap block_count (sym number)) room
 
       shared_is : m ≡ start_of task.pattern (hit_codes task) (hit_count task) 0
-      shared_is = begun.0 ∙ ap (λ (k : ℕ). start_of task.pattern (hit_codes task) k 0) n
+      shared_is = begun.0 ∙ ap (λ (k : ℕ). start_of task.pattern (hit_codes task) k 0) number
 
-      same_heading : fresh_heading scoring (length index) size m ≡ heading task
-      same_heading = let r = stores.ready in cc (n, shared_is)
+      same_heading : fresh_heading scoring n size m ≡ heading task
+      same_heading = let r = stores.ready in cc (number, shared_is)
 
       p₇ : Put 0 (heading task) w₆ w₇
       p₇ =
           put_at 0 (heading task) w₆ w₇ (stores.heading_table ∙ ap (sets w₆ 0) same_heading)
-          (omega (arith, p₆.same_length, p₅.same_length, p₄.same_length, number₃))
+          (omega (arith, p₆.same_length, p₅.same_length, number₄))

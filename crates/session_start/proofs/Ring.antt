@@ -1,7 +1,7 @@
 -- The ring of a word's slots: of the last hits with that word, as many as it occurs in the pattern, each stands in the place that its
 -- number among them gives. So a hit finds its back there.
 use Prim.Native.Nat.{ℕ, zero, suc, ◌+◌, ◌-◌, ◌*◌, ◌/◌, ◌%◌, ◌≤◌, ◌<◌}
-use native.Mathlib.Nat.{le_refl, mod-lt, mod-le, mod-eq_of_lt, mod_self, mod-eq-sub-mod, zero-mod, suc-mod, div-add-mod, mul-le-mul_left}
+use native.Mathlib.Nat.{le_refl, mod-lt, mod-le, mod-eq_of_lt, mod_self, mod-eq-sub-mod, suc-mod, div-add-mod, mul-le-mul_left}
 use native.Mathlib.Omega.{arith}
 use mathlib.Core.Path.{◌≡◌, refl, sym, ap, ap₂, ◌∙◌, subst}
 use mathlib.Core.Logic.{◌⊎◌, inl, inr, ◌≢◌}
@@ -91,13 +91,6 @@ module _ (sorted g : List ℕ) where
     pub kept : (i s : ℕ) → i < j → LowerBound sorted (get_or g i 0) s → before g (get_or g i 0) j ≤ before g (get_or g i 0) i + occ (get_or g i 0) sorted
         → get_or ring (s + before g (get_or g i 0) i % occ (get_or g i 0) sorted) 0 ≡ suc i
     pub free : (x s r : ℕ) → LowerBound sorted x s → before g x j ≤ r → r < occ x sorted → get_or ring (s + r) 0 ≡ 0
-
-  pub ring_none : (turns ring : List ℕ) → ((k : ℕ) → get_or turns k 0 ≡ 0) → ((k : ℕ) → get_or ring k 0 ≡ 0) → Ring turns ring 0
-  ring_none turns ring a b = record {
-    turn = λ x s l h. a s ∙ sym (zero-mod (occ x sorted));
-    kept = λ i s h. absurd (omega arith);
-    free = λ x s r l h k. b (s + r);
-  }
 
   module _ (in_order : Sorted sorted) (all : AllIn sorted g) (turns ring : List ℕ) (j s : ℕ) (now : Ring turns ring j) (within : j < length g)
       (lower : LowerBound sorted (get_or g j 0) s) where

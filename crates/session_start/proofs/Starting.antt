@@ -5,13 +5,13 @@ use native.Mathlib.Omega.{arith}
 use mathlib.Core.Path.{◌≡◌, refl, sym, ap, ap₂, ◌∙◌}
 use mathlib.Core.List.{List, [], ◌∷◌, ◌++◌}
 use lib.Dec.{ltb, leb}
-use lib.ListN.{length, get_or, take}
+use lib.ListN.{length, get_or, take, drop}
 use lib.Seq.{ext_get_or, get_or-take, length-take-le, take_at}
 use borrow.Author.Tests.{lt-ltb, le-ltb}
 use Rattle.base.specs.Lists.{add_if}
 use Rattle.base.specs.Counts.{occ}
 use Rattle.base.specs.Replies.{accepted, refused}
-use Rattle.sorting.specs.Sorting.{Sorted, SortedCopyOf, LowerBound, sorted_words, sorted_into}
+use Rattle.sorting.specs.Sorting.{SortedCopyOf, LowerBound, sorted_words, sorted_into}
 use Rattle.base.specs.Limits.{pattern_limit, hit_limit}
 use Rattle.sorting.proofs.Sorting.{lower_bound_run, lower_bound_at, sorted_words_copy}
 use Rattle.sorting.proofs.Room.{sort_exact}
@@ -119,15 +119,13 @@ pub reply_many : (task : Task) (n : ℕ) → n ≡ hit_count task → hit_limit 
 unfolding hit_reply
 reply_many task n e l = rw (← e, lt-ltb hit_limit n l)
 
--- words in order are their own copy in order
-pub own_copy : (sorted : List ℕ) → Sorted sorted → SortedCopyOf sorted sorted
-own_copy sorted in_order = record { same_length = refl; same_counts = λ x. refl; in_order = in_order }
-
--- a sort into just enough room leaves a copy in order, whatever stands behind it
-pub sorted_front : (words old new rest : List ℕ) → new ≡ sorted_into words old → length words ≤ pattern_limit → length old ≡ length words
-    → SortedCopyOf words (take (length words) (new ++ rest))
-sorted_front words old new rest e few room =
+-- a sort into just enough room at the start of an array leaves a copy in order there
+pub sorted_front : (words zeros new : List ℕ) → new ≡ sorted_into words (take (length words) zeros) → length words ≤ pattern_limit
+    → length words ≤ length zeros
+    → SortedCopyOf words (take (length words) (new ++ drop (length words) zeros))
+sorted_front words zeros new e few room =
     let copy = sorted_words_copy words in
-    let is : new ≡ sorted_words words = e ∙ sort_exact words old few room in
-    let front : take (length words) (new ++ rest) ≡ sorted_words words = take_at new rest (length words) (ap length is ∙ copy.same_length) ∙ is in
+    let is : new ≡ sorted_words words = e ∙ sort_exact words (take (length words) zeros) few (length-take-le (length words) zeros room) in
+    let front : take (length words) (new ++ drop (length words) zeros) ≡ sorted_words words =
+    take_at new (drop (length words) zeros) (length words) (ap length is ∙ copy.same_length) ∙ is in
     rw front copy

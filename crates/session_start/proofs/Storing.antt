@@ -1,49 +1,27 @@
--- Tables stored into longer lists of words, from an index on: what a loop keeps that stores word by word, and a part that was lent.
-use Prim.Native.Nat.{ℕ, suc, ◌+◌, ◌-◌, ◌≤◌, ◌<◌}
+-- Tables stored into longer lists of words, from an index on, as a part that was lent; and what each word then is.
+use Prim.Native.Nat.{ℕ, ◌+◌, ◌-◌, ◌≤◌, ◌<◌}
 use native.Mathlib.Omega.{arith}
-use native.Mathlib.Numerals.{add-one}
-use native.Mathlib.Nat.{add-zero}
 use mathlib.Core.Path.{◌≡◌, refl, sym, ap, ◌∙◌}
 use mathlib.Core.Logic.{◌⊎◌, inl, inr}
-use mathlib.Core.List.{List, ◌++◌, append-nil, append_assoc}
-use lib.ListN.{length, get_or, set, take, drop, drop_of_length-le, get_or-append}
-use lib.Seq.{sets, sets-eq, length-sets, drop-cons, length-take-le, get_or-append-add, get_or-take, get_or-drop, ext_get_or}
-use borrow.Rule.Slice.PartMut.{put_mid, Post-is}
+use mathlib.Core.List.{List, ◌++◌, append_assoc}
+use lib.ListN.{length, get_or, take, drop, get_or-append}
+use lib.Seq.{sets, sets-eq, length-sets, length-take-le, get_or-append-add, get_or-take, get_or-drop, ext_get_or}
+use borrow.Rule.Slice.PartMut.{mid_of, put_mid, Post-is, mid_len}
 use Rattle.session_start.proofs.WorkWords.{Outside, where_is}
-
--- i words of the table are stored: storing the others too gives what storing the whole table gives
-abbrev pub Stored : ℕ → List ℕ → List ℕ → ℕ → List ℕ → Type 0
-Stored at table old i now = sets now (at + i) (drop i table) ≡ sets old at table
-
-pub stored_none : (at : ℕ) (table old : List ℕ) → Stored at table old 0 old
-stored_none at table old = ap (λ (n : ℕ). sets old n table) (add-zero at)
-
-pub stored_more : (at : ℕ) (table old : List ℕ) (i : ℕ) (now : List ℕ) (v : ℕ) → Stored at table old i now → i < length table
-    → v ≡ get_or table i 0
-    → Stored at table old (i + 1) (set now (at + i) v)
-stored_more at table old i now v s h e =
-    let next : at + (i + 1) ≡ suc (at + i) = omega arith in
-    rw (next, add-one i, e) (sym (ap (sets now (at + i)) (drop-cons table i 0 h)) ∙ s)
-
-pub stored_all : (at : ℕ) (table old : List ℕ) (i : ℕ) (now : List ℕ) → Stored at table old i now → length table ≤ i → now ≡ sets old at table
-stored_all at table old i now s h = sym (ap (sets now (at + i)) (drop_of_length-le table h)) ∙ s
 
 -- what stands before the table, the table, and what stands behind it
 pub store_is : (at : ℕ) (table old : List ℕ) → at + length table ≤ length old
     → sets old at table ≡ take at old ++ (table ++ drop (at + length table) old)
 store_is at table old l = sets-eq table old at l ∙ append_assoc (take at old) table (drop (at + length table) old)
 
--- a table that is as long as the words are
-pub store_all : (table old : List ℕ) → length old ≡ length table → sets old 0 table ≡ table
-store_all table old e =
-    store_is 0 table old (omega arith)
-    ∙ ap (λ (rest : List ℕ). table ++ rest) (drop_of_length-le old {i = 0 + length table} (omega arith))
-    ∙ append-nil table
-
 -- a part that was lent and has come back as the table
 pub store_part : (at h : ℕ) (table old new : List ℕ) → new ≡ table → length table ≡ h → at + h ≤ length old
     → put_mid at (at + h - at) old new ≡ sets old at table
 store_part at h table old new e n l = rw (Post-is at (at + h) old (omega arith), e, ← n) (sym (store_is at table old (omega arith)))
+
+-- such a part has so many words
+pub part_long : (at h : ℕ) (old : List ℕ) → at + h ≤ length old → length (mid_of at (at + h - at) old) ≡ h
+part_long at h old l = mid_len at (at + h) old l ∙ (let e : at + h - at ≡ h = omega arith in e)
 
 -- ---- word by word
 

@@ -3,12 +3,12 @@
 use Prim.Native.Nat.{ℕ, zero, suc, ◌+◌, ◌-◌, ◌≤◌, ◌<◌}
 use native.Mathlib.Nat.{le_of_suc-le-suc, not-suc-le-zero}
 use native.Mathlib.Omega.{arith}
-use mathlib.Core.Path.{◌≡◌, refl, sym, ap, ◌∙◌, subst}
+use mathlib.Core.Path.{◌≡◌, refl, sym, ap, ap₂, ◌∙◌, subst}
 use mathlib.Core.Logic.{◌⊎◌, inl, inr}
 use mathlib.Core.Bool.{Bool, true, false, cond, ◌&&◌}
-use mathlib.Core.List.{List, [], ◌∷◌, map}
+use mathlib.Core.List.{List, [], ◌∷◌, ◌++◌, map}
 use lib.Dec.{leb, ltb}
-use lib.ListN.{length, get_or, take, drop, replicate, length-drop, length-map, length-replicate, get_or-eq_default}
+use lib.ListN.{length, get_or, take, drop, take-append-drop, replicate, length-drop, length-map, length-replicate, get_or-eq_default}
 use lib.Seq.{ext_get_or, length-take-le, get_or-take, get_or-drop}
 use borrow.Author.Tests.{le-leb, lt-leb, lt-ltb, le-ltb, leb-true, leb-false, ltb-true, ltb-false}
 use Rattle.base.specs.Limits.{hit_limit, work_words}
@@ -417,16 +417,21 @@ module _ (task : Task) (small : hit_count task ≤ hit_limit) (before : List ℕ
     no_starts = inr (omega arith);
   }
 
-  pub drop_session : (q q' : ℕ) → drop lent (session_words task before q) ≡ drop lent (session_words task before q')
-  drop_session q q' =
+  -- they are as they were
+  rest_session : (q : ℕ) → drop lent (session_words task before q) ≡ drop lent before
+  rest_session q =
       let n : length (session_words task before q) ≡ length before = session_number task before q small (omega arith) in
-      let n' : length (session_words task before q') ≡ length before = session_number task before q' small (omega arith) in
-      ext_get_or 0 (drop lent (session_words task before q)) (drop lent (session_words task before q'))
-      (length-drop lent (session_words task before q) ∙ ap (λ (m : ℕ). m - lent) (n ∙ sym n')
-      ∙ sym (length-drop lent (session_words task before q')))
+      ext_get_or 0 (drop lent (session_words task before q)) (drop lent before)
+      (length-drop lent (session_words task before q) ∙ ap (λ (m : ℕ). m - lent) n ∙ sym (length-drop lent before))
       (λ i k.
-      (let f = beyond_free (lent + i) (omega arith) in
       get_or-drop lent (session_words task before q) i 0
-      ∙ free task before q small (omega arith) (lent + i) f
-      ∙ sym (free task before q' small (omega arith) (lent + i) f)
-      ∙ sym (get_or-drop lent (session_words task before q') i 0)))
+      ∙ free task before q small (omega arith) (lent + i) (beyond_free (lent + i) (omega arith))
+      ∙ sym (get_or-drop lent before i 0))
+
+  pub drop_session : (q q' : ℕ) → drop lent (session_words task before q) ≡ drop lent (session_words task before q')
+  drop_session q q' = rest_session q ∙ sym (rest_session q')
+
+  -- a session in the first part, with the words behind it, is one in all of them
+  pub part_session : (q : ℕ) → session_words task (take lent before) q ++ drop lent before ≡ session_words task before q
+  part_session q =
+      ap₂ (λ (l r : List ℕ). l ++ r) (sym (take_session q)) (sym (rest_session q)) ∙ take-append-drop lent (session_words task before q)

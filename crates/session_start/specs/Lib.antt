@@ -1,6 +1,5 @@
 -- What start answers, and the work words afterwards, as document 01 says it.
 pub mod Start
-pub mod Answers
 pub mod Numbers
 -- what every work word holds after start and after each step: score words, and the tables of a session
 pub mod ScoreWords

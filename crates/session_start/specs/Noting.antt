@@ -89,11 +89,6 @@ abbrev pub bad_scoring : Scoring → Bool
 bad_scoring (Linear u v threshold) = bad_weights u v
 bad_scoring (Jaccard f g) = bad_fraction f g
 
--- what start answers then
-abbrev pub scoring_reply : Scoring → Reply
-scoring_reply (Linear u v threshold) = refused 7 []
-scoring_reply (Jaccard f g) = refused 17 []
-
 -- what start answers where only the number of hits is left to judge
 unfoldable pub hit_reply : Task → Reply
 hit_reply task = cond (ltb hit_limit (hit_count task)) (refused 11 (hit_count task ∷ [])) (accepted (hit_count task ∷ []))

@@ -1,13 +1,13 @@
 // What a scoring gives the work words: the numbers of words 1, 2 and 4, and the threshold as a score word.
-ghost use Rattle.std.specs.Prelude.{◌≡◌, false, ◌≤◌};
+ghost use Rattle.std.specs.Prelude.{◌≡◌, ◌≤◌};
 ghost use Rattle.base.specs.Limits.{divisor_limit};
 ghost use Rattle.mappings.specs.Bias.{biased_z};
 ghost use Rattle.session_start.specs.ScoreWords.{threshold_word};
 ghost use Rattle.session_start.specs.Numbers.{first_number, second_number, kind_number};
-ghost use Rattle.session_start.specs.Noting.{bad_scoring};
 
+use crate::judging::Allowed;
 use mappings::Scoring;
-use session_words::{BIAS, DIVISOR_SPAN, MINUS_ONE};
+use session_words::{BIAS, DIVISOR_SPAN};
 
 pub(crate) fn first_number(scoring: Scoring) -> u32
     ensures { result ≡ first_number scoring }
@@ -40,11 +40,7 @@ pub(crate) fn kind_number(scoring: Scoring) -> u32
 fn biased(z: i32) -> u32
     ensures { result ≡ biased_z z }
 {
-    if 0 <= z {
-        z as u32 + BIAS
-    } else {
-        MINUS_ONE - (-1 - z) as u32
-    }
+    (z as i64 + BIAS as i64) as u32
 }
 
 // f/g as a word: for f = 0 the least one, since no cell scores below what it stands for.
@@ -58,11 +54,10 @@ fn fraction_word(f: u32, g: u32) -> u32
     (f - 1) * DIVISOR_SPAN + (DIVISOR_SPAN - 1 - g)
 }
 
-pub(crate) fn threshold_word(scoring: Scoring) -> u32
-    requires { bad_scoring scoring ≡ false }
-    ensures { result ≡ threshold_word scoring }
+pub(crate) fn threshold_word(allowed: Allowed) -> u32
+    ensures { result ≡ threshold_word allowed.scoring }
 {
-    match scoring {
+    match allowed.scoring {
         Scoring::Linear { threshold, .. } => biased(threshold),
         Scoring::Jaccard { f, g } => fraction_word(f, g),
     }

@@ -53,6 +53,8 @@ pub length_stored : (k w : ℕ) (es : List Entry) → length (stored k w es) ≡
 unfolding stored
 length_stored k w es = let r : length (entry_words (length es) es) ≡ 2 * length es + 1 = length_entry_words (length es) es in omega arith
 
+pub ruleset lengths = (length_entries, length_stored)
+
 -- ---- storable entries
 
 -- the first of storable entries, and the rest

@@ -2,7 +2,7 @@
 use Prim.Native.Nat.{ℕ, suc, ◌≤◌, ◌<◌}
 use native.Mathlib.Nat.{le_refl}
 use native.Mathlib.Numerals.{add-one}
-use mathlib.Core.Path.{◌≡◌, refl, sym, ap, ap₂, subst, ◌∙◌}
+use mathlib.Core.Path.{◌≡◌, sym, ap, ap₂, subst, ◌∙◌}
 use mathlib.Core.List.{List, [], ◌∷◌, ◌++◌, append_assoc, append-nil}
 use lib.ListN.{length, take, drop, set, length-set, take-append-drop}
 use lib.Seq.{take-suc-set, drop-set-lt, drop-drop, length-take-le}
@@ -13,9 +13,6 @@ pub record Filling (text old buffer : List ℕ) (at : ℕ) (rest : List ℕ) : T
   pub same_length : length buffer ≡ length old
   pub joined : take at buffer ++ rest ≡ text
   pub beyond : drop at buffer ≡ drop at old
-
-pub fill_start : (text old : List ℕ) → Filling text old old 0 text
-fill_start text old = record { same_length = refl; joined = refl; beyond = refl }
 
 -- one word more, behind which the next place is
 pub fill_next :

@@ -11,6 +11,7 @@ use borrow.Author.Tests.{eqb-true}
 use Rattle.base.proofs.Lists.{and_left, decided}
 use Rattle.store.specs.Words.{kind, content, header_k, header_w, is_header, is_code, is_code_word, is_position_word}
 use Rattle.store.specs.Load.{Judged, good, bad, with_entry, last_word, judge_from, judge, store_k, store_w}
+use Rattle.store.proofs.WordLaws.{is_header_holds}
 
 -- a word with a code is no last word
 code_not_last : (k x : ℕ) → is_code_word k x ≡ true → eqb (kind x) 3 ≡ false
@@ -124,3 +125,6 @@ pub store_w_header : (ws : List ℕ) → 1 ≤ length ws → store_w ws ≡ head
 unfolding store_w
 store_w_header [] some = absurd (omega arith)
 store_w_header (x ∷ rest) some = refl
+
+-- what word 0 tells
+pub ruleset word_zero = (judge_empty, judge_no_header, judge_header, is_header_holds)

@@ -1,2 +1,2 @@
 -- What the code finds in the words of a store, as a reply.
-pub mod Verdicts
+pub mod Counted

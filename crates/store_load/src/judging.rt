@@ -2,65 +2,68 @@
 ghost use Rattle.std.specs.Prelude.{◌≡◌, suc, ◌≤◌, ◌<◌, length, drop, get_or};
 ghost use Rattle.base.specs.Replies.{over};
 ghost use Rattle.base.specs.Limits.{k_limit};
+ghost use Rattle.base.specs.Refusals.{reply_of};
 ghost use Rattle.kmers.specs.Kmers.{codes as codes_of, positions as positions_of};
 ghost use Rattle.store.specs.Load.{good, last_word, judge_from, judge, entries_of};
-ghost use Rattle.store_load.specs.Verdicts.{verdict_reply, counted};
+ghost use Rattle.store_load.specs.Counted.{counted};
 
-use crate::format;
+use base::refusal::Refusal;
+use store::words::{content, header_k, is_code_word, is_end_word, is_header, is_position_word};
 
-// What the words behind word 0 hold: a number of entries, or the index of the first bad word.
-#[derive(Clone, Copy)]
-pub(crate) enum Verdict {
-    Good(usize),
-    BadWord(usize),
-    BadEnd(usize),
-}
-
-// The kind 3 word at `index`, where n entries stood before it.
-fn judge_last(words: &[u32], index: usize, n: usize) -> Verdict
+// The word with the number of entries at `index`, where n entries stood before it: n, or the index of the first bad word.
+#[tactic(auto, unfolding(store::specs::Load::last_word))]
+fn judge_last(words: &[u32], index: usize, n: usize) -> Result<usize, Refusal>
     requires { index < length words.now }
-    ensures { verdict_reply result ≡ counted n (last_word index n (get_or words.now index 0) (drop (suc index) words.now)) }
+    ensures { reply_of result ≡ counted n (last_word index n (get_or words.now index 0) (drop (suc index) words.now)) }
 {
-    if format::content(words[index]) as usize != n {
-        return Verdict::BadEnd(index);
+    if content(words[index]) as usize != n {
+        return Err(Refusal::BadEnd(index));
     }
     let next = index + 1;
     if next < words.len() {
-        return Verdict::BadEnd(next);
+        return Err(Refusal::BadEnd(next));
     }
-    Verdict::Good(n)
+    Ok(n)
 }
 
-// Judges the words from index 1 on, in order.
-pub(crate) fn judge(words: &[u32], k: u32) -> Verdict
+// Judges the words from index 1 on, in order: the number of entries, or the index of the first bad word.
+fn judge_entries(words: &[u32], k: u32) -> Result<usize, Refusal>
     requires { (1 ≤ length words.now) × (k ≤ k_limit) }
-    ensures { verdict_reply result ≡ counted 0 (judge_from k 1 0 0 (drop 1 words.now)) }
+    ensures { reply_of result ≡ counted 0 (judge_from k 1 0 0 (drop 1 words.now)) }
 {
     let limit = store::code_limit(k);
-    let mut index: usize = 1;
-    let mut n: usize = 0;
-    let mut low: u32 = 0;
-    while index < words.len() {
+    let mut low = 0;
+    for n in 0..words.len() / 2 {
+        let index = 2 * n + 1;
         let first = words[index];
-        if format::kind(first) == 3 {
+        if is_end_word(first) {
             return judge_last(words, index, n);
         }
-        if !format::is_code_word(first, limit) {
-            return Verdict::BadWord(index);
+        if !is_code_word(first, limit) {
+            return Err(Refusal::BadWord(index));
         }
         let next = index + 1;
         if words.len() <= next {
-            return Verdict::BadEnd(next);
+            return Err(Refusal::BadEnd(next));
         }
         let second = words[next];
-        if !format::is_position_word(second, low) {
-            return Verdict::BadWord(next);
+        if !is_position_word(second, low) {
+            return Err(Refusal::BadWord(next));
         }
-        low = format::content(second) + 1;
-        n += 1;
-        index += 2;
+        low = content(second) + 1;
     }
-    Verdict::BadEnd(index)
+    Err(Refusal::BadEnd(words.len()))
+}
+
+// Judges all words: the number of entries, or why they are no store.
+#[tactic(auto, using(store::proofs::Judging::word_zero))]
+pub(crate) fn judge(words: &[u32]) -> Result<usize, Refusal>
+    ensures { reply_of result ≡ counted 0 (judge words.now) }
+{
+    if words.is_empty() || !is_header(words[0]) {
+        return Err(Refusal::BadHeader(0));
+    }
+    judge_entries(words, header_k(words[0]))
 }
 
 // The n entries of a store that was judged good, to the fronts of the two buffers.
@@ -71,10 +74,8 @@ pub(crate) fn read(words: &[u32], n: usize, codes: &mut [u32], positions: &mut [
     ensures codes_after { codes.new ≡ over (codes_of (entries_of (judge words.now))) codes.old }
     ensures positions_after { positions.new ≡ over (positions_of (entries_of (judge words.now))) positions.old }
 {
-    let mut i = 0;
-    while i < n {
-        codes[i] = format::content(words[2 * i + 1]);
-        positions[i] = format::content(words[2 * i + 2]);
-        i += 1;
+    for i in 0..n {
+        codes[i] = content(words[2 * i + 1]);
+        positions[i] = content(words[2 * i + 2]);
     }
 }

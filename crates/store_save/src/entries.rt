@@ -5,7 +5,8 @@ ghost use Rattle.base.specs.Limits.{k_limit, w_limit};
 ghost use Rattle.kmers.specs.Kmers.{entries};
 ghost use Rattle.store.specs.Save.{stored, storable};
 
-use crate::format;
+use crate::format::{header, word};
+use store::words::Kind;
 
 // Each code is below 4^k, and the positions rise strictly and are in range.
 pub(crate) fn are_storable(codes: &[u32], positions: &[u32], k: u32) -> bool
@@ -14,17 +15,11 @@ pub(crate) fn are_storable(codes: &[u32], positions: &[u32], k: u32) -> bool
 {
     let limit = store::code_limit(k);
     let mut low = 0;
-    let mut i = 0;
-    while i < codes.len() {
-        if limit <= codes[i] {
+    for (code, position) in codes.iter().zip(positions) {
+        if limit <= *code || !store::is_position(*position, low) {
             return false;
         }
-        let position = positions[i];
-        if !store::is_position(position, low) {
-            return false;
-        }
-        low = position + 1;
-        i += 1;
+        low = *position + 1;
     }
     true
 }
@@ -37,12 +32,10 @@ pub(crate) fn write(codes: &[u32], positions: &[u32], k: u32, w: u32, words: &mu
     requires codes_in_bounds { 2 * length codes.now + 2 ≤ length words.old }
     ensures { words.new ≡ over (stored k w (entries codes.now positions.now)) words.old }
 {
-    words[0] = format::header(k, w);
-    let mut i = 0;
-    while i < codes.len() {
-        words[2 * i + 1] = format::word(1, codes[i]);
-        words[2 * i + 2] = format::word(2, positions[i]);
-        i += 1;
+    words[0] = header(k, w);
+    for (i, code) in codes.iter().enumerate() {
+        words[2 * i + 1] = word(Kind::Code, *code);
+        words[2 * i + 2] = word(Kind::Position, positions[i]);
     }
-    words[2 * i + 1] = format::word(3, i as u32);
+    words[2 * codes.len() + 1] = word(Kind::End, codes.len() as u32);
 }

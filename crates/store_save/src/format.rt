@@ -2,17 +2,22 @@
 ghost use Rattle.std.specs.Prelude.{◌≡◌, ◌≤◌, ◌<◌};
 ghost use Rattle.base.specs.Limits.{k_limit, w_limit};
 ghost use Rattle.store.specs.Words.{kind_unit, word, header};
+ghost use Rattle.store.specs.Kinds.{kind_number};
 
-pub(crate) fn word(t: u32, x: u32) -> u32
-    requires { (t < 4) × (x < kind_unit) }
-    ensures { result ≡ word t x }
+use store::words::{KIND_UNIT, Kind, W_UNIT};
+
+#[tactic(auto, unfolding(store::specs::Words::word))]
+pub(crate) fn word(kind: Kind, content: u32) -> u32
+    requires { content < kind_unit }
+    ensures { result ≡ word (kind_number kind) content }
 {
-    t * store::KIND_UNIT + x
+    kind as u32 * KIND_UNIT + content
 }
 
+#[tactic(auto, unfolding(store::specs::Words::header))]
 pub(crate) fn header(k: u32, w: u32) -> u32
     requires { (k ≤ k_limit) × (w ≤ w_limit) }
     ensures { result ≡ header k w }
 {
-    w * store::W_UNIT + k
+    word(Kind::Header, w * W_UNIT + k)
 }

@@ -2,12 +2,13 @@
 use Prim.Native.Nat.{ℕ}
 use mathlib.Core.Path.{◌≡◌, refl}
 use mathlib.Core.List.{List, [], ◌∷◌, map}
+use Rattle.std.specs.Prelude.{Ok, Err}
 use Rattle.base.specs.Replies.{accepted, refused}
+use Rattle.base.specs.Refusals.{reply_of}
+use Rattle.base.specs.declared.refusal.Refusal.{Refusal}
 use Rattle.kmers.specs.Letters.{runs}
 use Rattle.strands.specs.declared.Strand.TheVariants.{Forward, Reverse}
-use Rattle.strands.specs.declared.Complemented.TheVariants.{Bytes, TooShort}
 use Rattle.strands.specs.Complement.{complement, reverse_complement, complement_reply, complement_bytes}
-use Rattle.strands.specs.Answers.{reply_of}
 use Rattle.strands.specs.Strands.{read_on}
 use Rattle.strands.specs.Upper.{upper, opposite}
 use Rattle.strands.proofs.Compute.{strands_compute}
@@ -67,8 +68,8 @@ pub record CallExamples : Type 0 where
   pub nothing : complement_reply [] 0 ≡ accepted (0 ∷ [])
   pub nothing_after : complement_bytes [] (7 ∷ []) ≡ 7 ∷ []
   -- the call's own answers
-  pub written : reply_of (Bytes 3) ≡ accepted (3 ∷ [])
-  pub needed : reply_of (TooShort 3) ≡ refused 4 (3 ∷ [])
+  pub written : reply_of (Ok 3) ≡ accepted (3 ∷ [])
+  pub needed : reply_of (Err (Refusal.TooShort 3)) ≡ refused 4 (3 ∷ [])
 
 pub call_examples : CallExamples
 unfolding strands_compute

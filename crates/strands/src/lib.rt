@@ -2,24 +2,20 @@
 #![tactic(auto)]
 
 ghost use Rattle.std.specs.Prelude.{◌≡◌, length};
+ghost use Rattle.base.specs.Refusals.{reply_of};
 ghost use Rattle.strands.specs.Complement.{complement, complement_reply, complement_bytes};
-ghost use Rattle.strands.specs.Answers.{reply_of};
+
+use base::refusal::Refusal;
 
 // The strand of a mapping: the read maps as it is given, or its reverse complement does.
-#[derive(Clone, Copy)]
+#[derive(Clone, Copy, Debug, PartialEq, Eq)]
 pub enum Strand {
     Forward,
     Reverse,
 }
 
-// The bytes written, or 4 with the bytes needed.
-#[derive(Clone, Copy)]
-pub enum Complemented {
-    Bytes(usize),
-    TooShort(usize),
-}
-
 // The complement of a letter, in upper case; any other byte is kept.
+#[tactic(auto, unfolding(crate::specs::Complement::complement))]
 fn complement(b: u8) -> u8
     ensures { result ≡ complement b }
 {
@@ -33,18 +29,16 @@ fn complement(b: u8) -> u8
 }
 
 // Writes the reverse complement of a read to the start of `out`, and answers its length. Where it does not fit nothing is written.
-pub fn reverse_complement(read: &[u8], out: &mut [u8]) -> Complemented
+pub fn reverse_complement(read: &[u8], out: &mut [u8]) -> Result<usize, Refusal>
     ensures result_value { reply_of result ≡ complement_reply read.now (length out.old) }
     ensures out_after { out.new ≡ complement_bytes read.now out.old }
 {
     let n = read.len();
     if out.len() < n {
-        return Complemented::TooShort(n);
+        return Err(Refusal::TooShort(n));
     }
-    let mut i = 0;
-    while i < n {
-        out[i] = complement(read[n - 1 - i]);
-        i += 1;
+    for (i, letter) in read.iter().rev().enumerate() {
+        out[i] = complement(*letter);
     }
-    Complemented::Bytes(n)
+    Ok(n)
 }

@@ -1,10 +1,9 @@
 -- Laws about striking, and examples that compute.
 pub mod Compute
 pub mod Marked
-pub mod Parts
-pub mod Left
 pub mod Laws
 pub mod LawCases
 pub mod Cases
 pub mod Replies
 pub mod Accepted
+pub mod Behind

@@ -9,7 +9,7 @@ use mathlib.Core.Logic.{◌⊎◌, inl, inr, ◌≢◌}
 use mathlib.Core.Bool.{Bool, true, false}
 use mathlib.Core.List.{List, [], ◌∷◌, ◌++◌, map, append-nil}
 use lib.Dec.{eqb, leb}
-use lib.ListN.{length, get_or, set, take, drop, length-set, length-map, take-append-drop, drop_of_length-le}
+use lib.ListN.{length, get_or, set, take, drop, length-set, take-append-drop, drop_of_length-le}
 use lib.Seq.{drop-cons, take-suc-set, take-set-le, drop-set-lt, length-take-le, take-append_seam, drop-append_seam, take_at, drop_at}
 use borrow.Author.Tests.{eq-eqb, ne_eqb, leb-true, leb-false}
 use Rattle.base.specs.Lists.{bit, add_if, keep, sum}
@@ -24,7 +24,7 @@ use Rattle.strike.specs.Marked.{marked_words}
 -- ---- counting
 
 -- the sum from an index on, one word further
-pub sum_drop : (l : List ℕ) (i : ℕ) → i < length l → sum (drop i l) ≡ get_or l i 0 + sum (drop (suc i) l)
+sum_drop : (l : List ℕ) (i : ℕ) → i < length l → sum (drop i l) ≡ get_or l i 0 + sum (drop (suc i) l)
 sum_drop l i h = ap sum (drop-cons l i 0 h)
 
 -- where something is left to count, an index is left
@@ -95,10 +95,6 @@ pub record Copied (words marks : List ℕ) (n : ℕ) (out₀ out : List ℕ) (i 
   pub counted : at + sum (drop i marks) ≡ n
   pub copied : take at out ≡ marked_words (take i marks) (take i words)
   pub rest : drop n out ≡ drop n out₀
-
-pub copied_none : (words marks : List ℕ) (n : ℕ) (out : List ℕ) → n ≡ sum marks → Copied words marks n out out 0 0
-copied_none words marks n out e =
-    record { long = refl; within = zero-le; counted = (let z : 0 + sum marks ≡ sum marks = omega arith in z ∙ sym e); copied = refl; rest = refl }
 
 pub copied_index : (words marks : List ℕ) (n : ℕ) (out₀ out : List ℕ) (i at : ℕ) → Copied words marks n out₀ out i at → at < n
     → i < length marks
@@ -228,7 +224,7 @@ marked_number f (x ∷ xs) (w ∷ ws) h = go (f x) (marked_number f xs ws (omega
     go false e = omega arith
 
 -- marks are 0 or 1
-marks_le_one : (f : ℕ → Bool) (l : List ℕ) (k : ℕ) → get_or (map (λ (x : ℕ). bit (f x)) l) k 0 ≤ 1
+pub marks_le_one : (f : ℕ → Bool) (l : List ℕ) (k : ℕ) → get_or (map (λ (x : ℕ). bit (f x)) l) k 0 ≤ 1
 marks_le_one f [] k = zero-le
 marks_le_one f (x ∷ xs) zero = bit_le_one (f x)
 marks_le_one f (x ∷ xs) (suc k) = marks_le_one f xs k
@@ -239,13 +235,3 @@ sum_marks_le f (x ∷ xs) =
     let b : bit (f x) ≤ 1 = bit_le_one (f x) in
     let r : sum (map (λ (y : ℕ). bit (f y)) xs) ≤ length xs = sum_marks_le f xs in
     omega arith
-
--- what copying the marked words asks of the marks of codes
-pub copyable : (deciding cs words marks : List ℕ) (c n : ℕ) → length words ≡ length cs → marks ≡ marks_of deciding c cs
-    → n ≡ sum (marks_of deciding c cs)
-    → (length words ≡ length marks) × ((k : ℕ) → get_or marks k 0 ≤ 1) × (n ≡ sum marks)
-copyable deciding cs words marks c n paired e f = (
-  paired ∙ sym (ap length e ∙ length-map cs (λ (x : ℕ). bit (leb (occ x deciding) c))),
-  (λ k. rw e (marks_le_one (λ (x : ℕ). leb (occ x deciding) c) cs k)),
-  f ∙ sym (ap sum e),
-)

@@ -1,30 +1,19 @@
 // Counting and copying the words that are marked.
-ghost use Rattle.std.specs.Prelude.{◌≡◌, ℕ, ◌≤◌, ◌<◌, ◌^◌, length, get_or};
+ghost use Rattle.std.specs.Prelude.{◌≡◌, ℕ, ◌≤◌, length, get_or};
+ghost use Rattle.base.specs.Limits.{text_limit};
 ghost use Rattle.base.specs.Lists.{sum};
 ghost use Rattle.base.specs.Replies.{over};
 ghost use Rattle.strike.specs.Marked.{marked_words};
 
-fn wide(x: u8) -> usize
-    ensures { result ≡ x }
-{
-    x as usize
-}
-
 pub(crate) fn count_marked(marks: &[u8]) -> usize
-    requires { sum marks.now < 2 ^ 64 }
+    requires { length marks.now ≤ text_limit }
     ensures { result ≡ sum marks.now }
 {
-    let mut n: usize = 0;
-    let mut i = 0;
-    while i < marks.len() {
-        n += wide(marks[i]);
-        i += 1;
-    }
-    n
+    marks.iter().map(|mark| *mark as usize).sum()
 }
 
 // Copies the n marked words to the start of `out`. A word that is not marked is written too, where the next marked one then
-// goes: that costs less than a branch that cannot be foreseen.
+// goes: that costs less than a branch that cannot be foreseen. Behind the last marked one there may be no place, so the loop ends there.
 pub(crate) fn copy_marked(words: &[u32], marks: &[u8], n: usize, out: &mut [u32])
     requires words_len { length words.now ≡ length marks.now }
     requires by_index { (k : ℕ) → get_or marks.now k 0 ≤ 1 }
@@ -35,7 +24,7 @@ pub(crate) fn copy_marked(words: &[u32], marks: &[u8], n: usize, out: &mut [u32]
     let mut at = 0;
     while at < n {
         out[at] = words[i];
-        at += wide(marks[i]);
+        at += marks[i] as usize;
         i += 1;
     }
 }

@@ -1,5 +1,5 @@
 -- Sums and orders of the positions of a scan, over plain numbers: beside a place of the code `omega` would read all that is known there.
-use Prim.Native.Nat.{ℕ, suc, ◌+◌, ◌-◌, ◌^◌, ◌≤◌, ◌<◌, min}
+use Prim.Native.Nat.{ℕ, suc, ◌+◌, ◌-◌, ◌≤◌, ◌<◌, min}
 use native.Mathlib.Omega.{arith}
 use mathlib.Core.Path.{◌≡◌, refl}
 use mathlib.Core.Bool.{Bool, true, false}
@@ -7,8 +7,8 @@ use lib.Dec.{ltb}
 use borrow.Author.Tests.{ltb-true, ltb-false}
 use mir.Syntax.{w64}
 use mir.Val.{Fits}
-use Rattle.base.specs.Limits.{k_limit, w_limit, letter_limit}
-use Rattle.winnowing.specs.Blocks.{block_size, back_size, slot_of}
+use Rattle.base.specs.Limits.{letter_limit}
+use Rattle.winnowing.specs.Blocks.{block_size, back_size}
 
 -- ---- within a run
 
@@ -69,13 +69,6 @@ next_start start h = omega arith
 pub next_counted : {n n' p at : ℕ} → n' ≡ suc n → n ≤ p → p ≤ at → n' ≤ at + 1
 next_counted one counted h = omega arith
 
--- the measure falls
-pub falls : {p at end : ℕ} (last : ℕ) → p < at → at + last ≤ end → suc end - at < suc end - p
-falls last h within = omega arith
-
-pub falls_next : {p at end : ℕ} (last : ℕ) → p ≤ at → at + last ≤ end → suc end - (at + 1) < suc end - p
-falls_next last h within = omega arith
-
 -- ---- windows
 
 -- up to where k-mers are read: up to where the lowest leaves, or the block ends
@@ -129,50 +122,16 @@ pub first_kmers : {from at w : ℕ} → from ≤ at → at ≤ from + w → w �
     → (at - (at - from) ≡ from) × (at - from ≤ back_size) × (from + (at - from) ≤ at)
 first_kmers start most small = (omega arith, omega arith, omega arith)
 
--- ---- slots
-
--- what a window needs of the slots in front of it
-pub wide_slot : {base w to : ℕ} (at last : ℕ) → base ≤ at + last → w ≤ back_size → to ≡ slot_of last base at → w ≤ to
-wide_slot at last begins small there = omega arith
-
--- the slots of a window
-pub slots_there : {at to : ℕ} (w : ℕ) → 1 ≤ w → w ≤ to → w ≤ at → (to - w < to) × (to ≤ to - w + at)
-slots_there w some wide within = (omega arith, omega arith)
-
--- the slots of the k-mers from one position up to another
-pub slots_between : {from at to base : ℕ} (last : ℕ) → from < at → base ≤ from → to ≡ slot_of last base at
-    → (at - from ≤ to) × (to - (at - from) < to) × (to ≤ to - (at - from) + at)
-slots_between last some begins there = (omega arith, omega arith, omega arith)
-
--- the ranks of a window are among those that are taken to the next block
-pub back_in_slots : {at low_at : ℕ} (w : ℕ) → at - w ≤ low_at → w ≤ back_size → at ≤ suc low_at + back_size
-back_in_slots w first small = omega arith
-
 -- ---- what a word holds
-
--- the position behind it
-pub next_fits : (at : ℕ) → at ≤ letter_limit → Fits w64 (at + 1)
-next_fits at few = omega arith
 
 -- a k-mer's last letter, and the end of a window
 pub sum_fits : {x size : ℕ} → x ≤ size → size ≤ letter_limit → Fits w64 x
 sum_fits within few = omega arith
 
-pub window_fits : {from w : ℕ} → from ≤ letter_limit → w ≤ w_limit → Fits w64 (from + w)
-window_fits few small = omega arith
-
 pub block_fits : {base x size : ℕ} → base ≤ x → x ≤ size → size ≤ letter_limit → Fits w64 (base + block_size)
 block_fits begins within few = omega arith
 
--- a rank is below the word that stands for none
-pub rank_word : {low rank : ℕ} → low ≡ rank → rank < 4 ^ k_limit → low < 4294967295
-rank_word is small = omega arith
-
 -- ---- from block to block
-
--- a block holds the letters of a window
-pub block_reaches : {last w : ℕ} (from : ℕ) → last < k_limit → w ≤ w_limit → from + last + w ≤ from + block_size
-block_reaches from short small = omega arith
 
 -- the block that begins in front of a position holds the k-mers of the window behind it
 pub in_block : {base from at : ℕ} (last w : ℕ) → base ≤ from → from ≤ at → at ≤ from + w → from + last + w ≤ base + block_size
@@ -188,14 +147,8 @@ no_window last wide ended = omega arith
 
 -- ---- from run to run
 
-pub last_short : {k : ℕ} → 1 ≤ k → k ≤ k_limit → k - 1 < k_limit
-last_short some small = omega arith
-
 pub run_ended : {p at end size : ℕ} → at ≡ end → p ≤ end → end ≤ size → (p ≤ at) × (at ≤ size)
 run_ended ended start within = (omega arith, omega arith)
 
 pub next_at : {at size : ℕ} → at ≤ size → at + 1 ≤ suc size
 next_at within = omega arith
-
-pub run_falls : {p at size next : ℕ} → p ≤ size → p ≤ at → at + 1 ≤ next → suc size - next < suc size - p
-run_falls within start on = omega arith

@@ -1,6 +1,6 @@
 -- One letter more: what a scan knows of the run's end, of the code in hand and of the ranks in their slots.
 use Prim.Native.Nat.{ℕ, suc, ◌+◌, ◌*◌, ◌-◌, ◌%◌, ◌^◌, ◌≤◌, ◌<◌}
-use native.Mathlib.Nat.{le_antisymm, lt_of_lt_of_le, pow-le-pow_right, mod-lt}
+use native.Mathlib.Nat.{le_refl, le_antisymm, lt_of_lt_of_le, pow-le-pow_right}
 use native.Mathlib.Numerals.{add-one}
 use native.Mathlib.Omega.{arith}
 use mathlib.Core.Path.{◌≡◌, refl, sym, ap, ◌∙◌, subst}
@@ -16,7 +16,7 @@ use Rattle.base.specs.Limits.{k_limit}
 use Rattle.kmers.specs.Letters.{value, is_foreign, foreign}
 use Rattle.kmers.specs.Kmers.{rank}
 use Rattle.kmers.specs.Places.{code_at, rank_at, run_length, run_end}
-use Rattle.winnowing.specs.Blocks.{block_size, back_size, ranks_size, slot_of, IsCarried}
+use Rattle.winnowing.specs.Blocks.{block_size, slot_of}
 use Rattle.winnowing.specs.Scan.{InHand, Scanned}
 use Rattle.kmers.proofs.Codes.{value_below, cut_digit, code_at_below, code_at_suc, code_at_cut}
 use Rattle.minimizers.proofs.Runs.{run_end_within, run_letters}
@@ -44,6 +44,11 @@ end_before letters from e h stop = go (ltb e (run_end letters from)) refl
     go true l = clash stop (run_letters letters from e h (ltb-true e (run_end letters from) l))
     go false l = ltb-false e (run_end letters from) l
 
+-- the value of a letter that is none of those outside the eight
+pub digit_below : (b v : ℕ) → v ≡ value b → (v ≡ foreign → ⊥) → v < 4
+unfolding is_foreign
+digit_below b v e h = subst (λ (x : ℕ). x < 4) (sym e) (value_below b (ne_eqb (value b) foreign (λ f. h (e ∙ f))))
+
 module _ (letters : List ℕ) (from at : ℕ) (start : from ≤ at) (within : at ≤ run_end letters from) where
   -- the run ends at a letter outside the eight, or past the last one
   pub end_here : value (get_or letters at 0) ≡ foreign → at ≡ run_end letters from
@@ -61,14 +66,9 @@ module _ (letters : List ℕ) (from at : ℕ) (start : from ≤ at) (within : at
           let same : run_end letters from ≡ at = omega (arith, ltb-false at (run_end letters from) e) in
           clash (subst (λ (x : ℕ). is_foreign (get_or letters x 0) ≡ true) same (run_end_stop letters from)) (ne_eqb (value (get_or letters at 0)) foreign h)
 
-  -- whose value is a digit
-  digit_below : (value (get_or letters at 0) ≡ foreign → ⊥) → value (get_or letters at 0) < 4
-  unfolding is_foreign
-  digit_below h = value_below (get_or letters at 0) (ne_eqb (value (get_or letters at 0)) foreign h)
-
-  -- both for a value as it is read
-  pub run_goes_on : (v : ℕ) → v ≡ value (get_or letters at 0) → (v ≡ foreign → ⊥) → (at < run_end letters from) × (v < 4)
-  run_goes_on v e h = (end_later (λ f. h (e ∙ f)), subst (λ (x : ℕ). x < 4) (sym e) (digit_below (λ f. h (e ∙ f))))
+  -- as where a digit is read
+  pub run_goes_on : (v : ℕ) → v ≡ value (get_or letters at 0) → v < 4 → at < run_end letters from
+  run_goes_on v e h = end_later (λ f. omega (arith, e ∙ f))
 
   -- the run is the same from any letter of it on
   pub run_end_same : run_end letters at ≡ run_end letters from
@@ -86,6 +86,11 @@ module _ (letters : List ℕ) (from : ℕ) (in_letters : from ≤ length letters
   code_small p n a b h =
       let within : run_end letters from ≤ length letters = (run_end_within letters from in_letters).1 in
       lt_of_lt_of_le (code_at_below letters n p (omega arith) (λ q c d. run_letters letters from q (omega arith) (omega arith))) (pow-le-pow_right (lit< tt) h)
+
+  -- so has the code of the first letters of a run
+  pub code_fits : (at code : ℕ) → from ≤ at → at ≤ run_end letters from → at - from ≤ k_limit → code ≡ code_at (at - from) letters from
+      → code < 4 ^ k_limit
+  code_fits at code a b h e = subst (λ (x : ℕ). x < 4 ^ k_limit) (sym e) (code_small from (at - from) (le_refl from) (omega arith) h)
 
   -- one letter more of a run's first k-mer
   pub code_longer : (at code : ℕ) → from ≤ at → at < run_end letters from → code ≡ code_at (at - from) letters from
@@ -136,22 +141,6 @@ pub rank_there : (last at code r : ℕ) (letters : List ℕ) → r ≡ rank code
 unfolding rank_at
 rank_there last at code r letters er ec = er ∙ ap rank ec
 
--- a rank is below 4^15
-pub rank_small : (k q : ℕ) (letters : List ℕ) → rank_at k letters q < 4 ^ k_limit
-unfolding rank_at rank
-rank_small k q letters = mod-lt (code_at k letters q * 2654435761) (lit< tt)
-
--- no rank is read yet
-pub scanned_none : (last base : ℕ) (letters ranks : List ℕ) (at code : ℕ) → length ranks ≡ ranks_size → base ≤ at → InHand last letters at code
-    → Scanned last base letters ranks at at code
-scanned_none last base letters ranks at code sized begins in_hand = record {
-  sized = sized;
-  reaches = omega arith;
-  ranked = λ q a b. absurd (omega arith);
-  small = λ q a b. absurd (omega arith);
-  in_hand = in_hand;
-}
-
 -- what is known of the ranks from a position on is known from a later one on
 pub scanned_later : (last base : ℕ) (letters ranks : List ℕ) (first first' at code : ℕ)
     → Scanned last base letters ranks first at code → first ≤ first' → Scanned last base letters ranks first' at code
@@ -188,18 +177,3 @@ module _ (last base : ℕ) (letters ranks : List ℕ) (first at code r code' : �
 
       here : first ≤ at → get_or new (slot_of last base at) 0 ≡ rank_at (suc last) letters at
       here c = get_or-set_same ranks (slot_of last base at) r 0 (omega (arith, is.sized)) ∙ ranked
-
--- ---- the next block
-
--- the ranks that are taken to the front stand in the slots of the next block
-pub scanned_carried : (last base : ℕ) (letters ranks ranks' : List ℕ) (first at code : ℕ) → Scanned last base letters ranks first at code
-    → IsCarried ranks ranks' → at + last ≡ base + block_size → at ≤ first + back_size → Scanned last (at + last) letters ranks' first at code
-scanned_carried last base letters ranks ranks' first at code is carried end few = record {
-  sized = carried.sized;
-  reaches = omega arith;
-  ranked = λ q a b.
-      let there : block_size + slot_of last (at + last) q ≡ slot_of last base q = omega (arith, is.reaches) in
-      carried.carried (slot_of last (at + last) q) (omega arith) ∙ ap (λ (i : ℕ). get_or ranks i 0) there ∙ is.ranked q a b;
-  small = is.small;
-  in_hand = is.in_hand;
-}

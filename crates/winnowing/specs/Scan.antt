@@ -1,21 +1,14 @@
 -- What the functions that scan letters keep from letter to letter, and what they have still to do.
-use Rattle.std.specs.Prelude.{ℕ, suc, ◌+◌, ◌-◌, ◌%◌, ◌^◌, ◌≤◌, ◌<◌, ◌≡◌, List, [], ◌++◌, length, get_or}
-use Rattle.base.specs.Limits.{k_limit, letter_limit}
+use Rattle.std.specs.Prelude.{ℕ, suc, ◌+◌, ◌-◌, ◌%◌, ◌^◌, ◌≤◌, ◌<◌, ◌≡◌, List, [], ◌++◌, length, get_or, Option, MatchOption}
+use Rattle.base.specs.Limits.{k_limit}
 use Rattle.kmers.specs.Kmers.{Entry}
 use Rattle.kmers.specs.Ranks.{unrank}
 use Rattle.kmers.specs.Places.{code_at, rank_at, run_end}
-use Rattle.minimizers.specs.Places.{picked_from, IsLowest}
+use Rattle.minimizers.specs.Places.{picked_from, IsLowest, sketch_from}
 use Rattle.winnowing.specs.Winnowed.{placed, written}
-use Rattle.winnowing.specs.Blocks.{block_size, back_size, ranks_size, slot_of, IsBlock}
+use Rattle.winnowing.specs.Blocks.{block_size, back_size, ranks_size, slot_of}
 
 -- ---- letters and k-mers
-
--- what a scan of k-mers of last + 1 letters from position `from` on starts with
-pub record Ready (letters values : List ℕ) (base from last : ℕ) : Type 0 where
-  pub block : IsBlock letters values base
-  pub in_letters : from ≤ length letters
-  pub few : length letters ≤ letter_limit
-  pub short : last < k_limit
 
 -- the positions from `from` up to `to` are of the block that begins at `base`
 pub record InBlock (base from to : ℕ) : Type 0 where
@@ -63,15 +56,27 @@ abbrev pub ReadOn : ℕ → ℕ → List ℕ → List ℕ → ℕ → ℕ → Li
 ReadOn last base letters ranks from code ranks' at code' =
     (first : ℕ) → Scanned last base letters ranks first from code → Scanned last base letters ranks' first at code'
 
+-- the k-mer at position `at` is read, and is the first whose rank is not above low
+pub record FoundLow (last base : ℕ) (letters ranks ranks' : List ℕ) (low from code stop at code' rank : ℕ) : Type 0 where
+  pub before : at < stop
+  pub within : at + last < run_end letters from
+  pub low_enough : rank ≤ low
+  pub rank_there : rank ≡ rank_at (suc last) letters at
+  pub code_there : code' ≡ code_at (suc last) letters at
+  pub read : ReadOn last base letters ranks from code ranks' (at + 1) code'
+
+-- none is found up to position `stop`, or up to the end of the run
+pub record FoundNone (last base : ℕ) (letters ranks ranks' : List ℕ) (from code stop at code' : ℕ) : Type 0 where
+  pub ended : at < stop → at + last ≡ run_end letters from
+  pub read : ReadOn last base letters ranks from code ranks' at code'
+
 -- k-mers are read from position `from` on, up to the one at position `at`, the first whose rank is not above low, or where there is none
 -- up to position `stop` or the end of the run
-pub record ReadAbove (last base : ℕ) (letters ranks ranks' : List ℕ) (low from code stop at code' rank : ℕ) : Type 0 where
+pub record ReadAbove (last base : ℕ) (letters ranks ranks' : List ℕ) (low from code stop at code' : ℕ) (rank : Option ℕ) : Type 0 where
   pub passed : Above last letters low from at
   pub most : at ≤ stop
-  pub found : rank ≤ low
-      → (at < stop) × (at + last < run_end letters from) × (rank ≡ rank_at (suc last) letters at) × (code' ≡ code_at (suc last) letters at)
-      × ReadOn last base letters ranks from code ranks' (at + 1) code'
-  pub none : low < rank → (at < stop → at + last ≡ run_end letters from) × ReadOn last base letters ranks from code ranks' at code'
+  pub found : MatchOption rank (FoundNone last base letters ranks ranks' from code stop at code')
+      (λ (r : ℕ). FoundLow last base letters ranks ranks' low from code stop at code' r)
 
 -- ---- buffers
 
@@ -123,9 +128,20 @@ pub record PassesBlock (last base : ℕ) (letters : List ℕ) (from at : ℕ) : 
   pub ended : at + last < base + block_size → at + last ≡ run_end letters from
 
 -- the run that holds position `from` is passed to its end, all of these are put, and the block at hand begins no later
-pub record Passes (room : ℕ) (letters values : List ℕ) (from before at base entries : ℕ) (cs ps cs' ps' : List ℕ) (all : List Entry) : Type 0 where
-  pub block : IsBlock letters values base
+pub record Passes (room : ℕ) (letters : List ℕ) (from before at base entries : ℕ) (cs ps cs' ps' : List ℕ) (all : List Entry) : Type 0 where
   pub begins : base ≤ at
   pub ended : at ≡ run_end letters from
   pub counted : entries ≤ at
   pub put : SameEnd room entries cs' ps' [] before cs ps all
+
+-- ---- the next run
+
+-- the runs from position `from` on up to the one that begins at `at` have no letters
+pub record RunAt (letters : List ℕ) (from at : ℕ) : Type 0 where
+  pub start : from ≤ at
+  pub within : at < length letters
+  pub same : (k w : ℕ) → 1 ≤ k → 1 ≤ w → sketch_from k w letters at ≡ sketch_from k w letters from
+
+-- the next run with letters begins there, if there is one
+abbrev pub NextRun : List ℕ → ℕ → Option ℕ → Type 0
+NextRun letters from next = MatchOption next ((k w : ℕ) → 1 ≤ k → 1 ≤ w → sketch_from k w letters from ≡ []) (RunAt letters from)

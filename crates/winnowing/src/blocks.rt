@@ -1,10 +1,10 @@
 // Blocks of letters: their values, read ahead of the scan, and the ranks of the k-mers that end in them.
-ghost use Rattle.std.specs.Prelude.{◌+◌, ◌-◌, ◌≤◌, ◌<◌, ◌≡◌, length, get_or};
+ghost use Rattle.std.specs.Prelude.{◌+◌, ◌≤◌, ◌<◌, ◌≡◌, length, get_or, MatchOption};
 ghost use Rattle.base.specs.Limits.{letter_limit};
-ghost use Rattle.kmers.specs.Letters.{value};
+ghost use Rattle.kmers.specs.Letters.{value, foreign};
 ghost use Rattle.winnowing.specs.Blocks.{block_size, ranks_size, slot_of, IsBlock, IsCarried};
 
-use base::{W_LIMIT, smaller};
+use base::W_LIMIT;
 use letters::{FOREIGN, value};
 
 // How many letters a block has.
@@ -16,49 +16,77 @@ pub(crate) const BACK: usize = W_LIMIT as usize;
 // How many ranks there are room for.
 pub(crate) const RANKS: usize = BACK + BLOCK;
 
-// Reads a block: the values of the letters from `base` on, and where the letters end in it FOREIGN behind them. No turn depends on
-// another, so that many letters are read at a time.
-pub(crate) fn read_block(letters: &[u8], values: &mut [u8], base: usize)
-    requires { (length values.old ≡ block_size) × (base ≤ length letters.now) }
+// The letters, and the values of those from `base` on. Where the letters end in the block, FOREIGN stands behind them.
+#[derive(Drop)]
+pub(crate) struct Block<'a> {
+    pub(crate) letters: &'a [u8],
+    values: [u8; BLOCK],
+    pub(crate) base: usize,
+    ghost is_block: { IsBlock letters.now values base },
+    ghost few: { length letters.now ≤ letter_limit },
+}
+
+impl<'a> Block<'a> {
+    // The first block of the letters.
+    pub(crate) fn first(letters: &'a [u8]) -> Self
+        requires { length letters.now ≤ letter_limit }
+        ensures { (result.letters.now ≡ letters.now) × (result.base ≡ 0) }
+    {
+        let mut values = [0u8; BLOCK];
+        read_values(letters, 0, &mut values);
+        Block {
+            letters,
+            values,
+            base: 0,
+        }
+    }
+
+    // Reads the block from `base` on.
+    pub(crate) fn read(&mut self, base: usize)
+        requires { base ≤ length self.old.letters.now }
+        ensures { (self.new.letters.now ≡ self.old.letters.now) × (self.new.base ≡ base) }
+    {
+        read_values(self.letters, base, &mut self.values);
+        self.base = base;
+    }
+
+    // Reads the block from `from` on where the block at hand ends before `to`.
+    pub(crate) fn cover(&mut self, from: usize, to: usize)
+        requires from_bound { (self.old.base ≤ from) × (from ≤ length self.old.letters.now) }
+        requires to_bound { to ≤ from + block_size }
+        ensures same { self.new.letters.now ≡ self.old.letters.now }
+        ensures covered { (self.new.base ≤ from) × (to ≤ self.new.base + block_size) }
+    {
+        if self.base + BLOCK < to {
+            self.read(from);
+        }
+    }
+
+    // The value of the letter at a position of the block, if it is one of the eight; past the end of the letters there is none. The
+    // caller has `base` at hand: a loop that writes ranks would read it anew from the block at each letter.
+    pub(crate) fn digit_at(&self, base: usize, at: usize) -> Option<u8>
+        requires { (base ≡ self.now.base) × (self.now.base ≤ at) × (at < self.now.base + block_size) × (at ≤ length self.now.letters.now) }
+        ensures { MatchOption result (value (get_or self.now.letters.now at 0) ≡ foreign)
+            (λ v. (v ≡ value (get_or self.now.letters.now at 0)) × (v < 4)) }
+    {
+        let v = self.values[at - base];
+        if v == FOREIGN { None } else { Some(v) }
+    }
+}
+
+// Reads the values of the letters from `base` on, and puts FOREIGN behind them where the letters end. No turn depends on another, so
+// that many letters are read at a time.
+fn read_values(letters: &[u8], base: usize, values: &mut [u8; BLOCK])
+    requires { base ≤ length letters.now }
     ensures { IsBlock letters.now values.new base }
 {
-    let to = smaller(letters.len() - base, BLOCK);
-    let mut i: usize = 0;
-    while i < to {
+    let to = (letters.len() - base).min(BLOCK);
+    for i in 0..to {
         values[i] = value(letters[base + i]);
-        i += 1;
     }
     if to < BLOCK {
         values[to] = FOREIGN;
     }
-}
-
-// Reads the block from `from` on where the block at hand ends before `to`, and answers where the block at hand then begins.
-pub(crate) fn covering(
-    letters: &[u8],
-    values: &mut [u8],
-    base: usize,
-    from: usize,
-    to: usize,
-) -> usize
-    requires block { IsBlock letters.now values.old base × (base ≤ from) × (from ≤ length letters.now) }
-    requires to_bound { (to ≤ from + block_size) × (length letters.now ≤ letter_limit) }
-    ensures { IsBlock letters.now values.new result × (result ≤ from) × (to ≤ result + block_size) }
-{
-    if to <= base + BLOCK {
-        return base;
-    }
-    read_block(letters, values, from);
-    from
-}
-
-// The value of the letter at a position of the block; past the end of the letters FOREIGN. The letters are named for the contract.
-pub(crate) fn value_at(letters: &[u8], values: &[u8], base: usize, at: usize) -> u8
-    requires block { IsBlock letters.now values.now base }
-    requires base_le_at { (base ≤ at) × (at < base + block_size) × (at ≤ length letters.now) }
-    ensures { result ≡ value (get_or letters.now at 0) }
-{
-    values[at - base]
 }
 
 // Where the rank of the k-mer at a position stands.
@@ -70,13 +98,8 @@ pub(crate) fn slot(at: usize, last: usize, base: usize) -> usize
 }
 
 // Takes the last ranks of a block to the front, where the next block looks for them.
-pub(crate) fn carry(ranks: &mut [u32])
-    requires { length ranks.old ≡ ranks_size }
+pub(crate) fn carry(ranks: &mut [u32; RANKS])
     ensures { IsCarried ranks.old ranks.new }
 {
-    let mut i: usize = 0;
-    while i < BACK {
-        ranks[i] = ranks[BLOCK + i];
-        i += 1;
-    }
+    ranks.copy_within(BLOCK.., 0);
 }

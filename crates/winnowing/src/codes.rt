@@ -12,6 +12,7 @@ const INVERSE: u64 = 244002641;
 const MODULUS: u64 = 1073741824;
 
 // The rank of a code.
+#[tactic(auto, unfolding(kmers::specs::Kmers::rank))]
 pub(crate) fn rank(code: u32) -> u32
     ensures { result ≡ rank code }
 {
@@ -19,6 +20,7 @@ pub(crate) fn rank(code: u32) -> u32
 }
 
 // The code of a rank: the ring keeps ranks alone.
+#[tactic(auto, unfolding(kmers::specs::Ranks::unrank))]
 pub(crate) fn unrank(rank: u32) -> u32
     ensures { result ≡ unrank rank }
 {

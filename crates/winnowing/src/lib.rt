@@ -3,6 +3,7 @@
 
 mod blocks;
 mod codes;
+mod measures;
 mod reading;
 mod scan;
 mod windows;
@@ -13,19 +14,15 @@ ghost use Rattle.winnowing.specs.Winnowed.{wrote, is_beyond, winnowed};
 use base::{K_LIMIT, LETTER_LIMIT, W_LIMIT, outside};
 
 // Whether k, w or the number of letters is beyond its limit, or a buffer shorter than the room.
+#[tactic(auto, unfolding(crate::specs::Winnowed::is_beyond))]
 fn is_beyond(k: u32, w: u32, letters: usize, codes: usize, positions: usize, room: usize) -> bool
     ensures { result ≡ is_beyond k w letters codes positions room }
 {
-    if outside(1, K_LIMIT, k) {
-        return true;
-    }
-    if outside(1, W_LIMIT, w) {
-        return true;
-    }
-    if LETTER_LIMIT < letters {
-        return true;
-    }
-    codes < room || positions < room
+    outside(1, K_LIMIT, k)
+        || outside(1, W_LIMIT, w)
+        || LETTER_LIMIT < letters
+        || codes < room
+        || positions < room
 }
 
 // Writes the first entries of the letters' sketch into the two buffers, as many as there is room for, and answers how many it has.

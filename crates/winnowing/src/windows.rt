@@ -1,25 +1,15 @@
 // Windows of k-mers: the k-mers that the windows of a block pick.
-ghost use Rattle.std.specs.Prelude.{suc, ◌+◌, ◌-◌, ◌≤◌, ◌<◌, ◌≡◌, length, get_or};
-ghost use Rattle.base.specs.Limits.{w_limit, letter_limit};
+ghost use Rattle.std.specs.Prelude.{suc, ◌+◌, ◌-◌, ◌≤◌, ◌<◌, length, get_or};
+ghost use Rattle.base.specs.Limits.{letter_limit};
 ghost use Rattle.minimizers.specs.Places.{IsLowest};
 ghost use Rattle.winnowing.specs.Blocks.{ranks_size};
-ghost use Rattle.winnowing.specs.Scan.{Ready, InBlock, InHand, HasRoom, IsPut, PutsLowest, SameEnd, to_pick};
+ghost use Rattle.winnowing.specs.Scan.{InBlock, InHand, HasRoom, IsPut, PutsLowest, SameEnd, to_pick};
 ghost use Rattle.winnowing.specs.Scan.{Standing, Picking, PassesBlock};
 
-use crate::blocks::{BLOCK, slot, value_at};
+use crate::blocks::{BLOCK, Block, RANKS, slot};
 use crate::codes::{next_code, unrank};
+use crate::measures::Measures;
 use crate::reading::{Reached, read_above};
-use base::smaller;
-use letters::FOREIGN;
-
-// The measures of a scan: how many letters of a k-mer stand in front of its last one, how many k-mers a window has, and how many
-// entries the buffers have room for.
-#[derive(Clone, Copy)]
-pub(crate) struct Measures {
-    pub(crate) last: usize,
-    pub(crate) w: usize,
-    pub(crate) room: usize,
-}
 
 // A position, the code in hand there, and the entries found up to there.
 #[derive(Clone, Copy)]
@@ -29,25 +19,24 @@ pub(crate) struct Counted {
     pub(crate) entries: usize,
 }
 
-// The same with the lowest of the window that ends there, and its rank.
-#[derive(Clone, Copy)]
-pub(crate) struct Passed {
-    pub(crate) at: usize,
-    pub(crate) code: u32,
-    pub(crate) lowest: usize,
-    pub(crate) low: u32,
-    pub(crate) entries: usize,
-}
-
-// A position, the rank of its k-mer, and the entries found with it.
+// The lowest k-mer of a window, which it picks: its position, and its rank.
 #[derive(Clone, Copy)]
 pub(crate) struct Picked {
     pub(crate) at: usize,
     pub(crate) rank: u32,
+}
+
+// A position, the code in hand there, the lowest of the window that ends there, and the entries found up to there.
+#[derive(Clone, Copy)]
+pub(crate) struct Passed {
+    pub(crate) at: usize,
+    pub(crate) code: u32,
+    pub(crate) lowest: Picked,
     pub(crate) entries: usize,
 }
 
 // One more entry: counted, and written where there is room.
+#[tactic(auto, unfolding(crate::specs::Winnowed::placed))]
 pub(crate) fn put(
     codes: &mut [u32],
     positions: &mut [u32],
@@ -68,29 +57,27 @@ pub(crate) fn put(
 }
 
 // The slot of the lowest rank, the rightmost of equal ones, among neighbouring slots.
-pub(crate) fn lowest(ranks: &[u32], from: usize, to: usize) -> usize
-    requires { (length ranks.now ≡ ranks_size) × (from < to) × (to ≤ ranks_size) }
+pub(crate) fn lowest(ranks: &[u32; RANKS], from: usize, to: usize) -> usize
+    requires { (from < to) × (to ≤ ranks_size) }
     ensures { IsLowest (λ i. get_or ranks.now i 0) from to result }
 {
     let mut low_at = from;
     let mut low = ranks[from];
-    let mut i = from + 1;
-    while i < to {
+    for i in from + 1..to {
         let found = ranks[i];
-        let here = i;
-        i += 1;
         // An equal rank further right is lower.
         if found <= low {
-            low_at = here;
+            low_at = i;
             low = found;
         }
     }
     low_at
 }
 
-// Searches the slots from `from` to `to`, those of k-mers in front of position p, and puts the lowest.
+// Searches the slots from `from` to `to`, those of k-mers in front of position p, and puts the lowest. Answers with it, and with the
+// number of entries.
 pub(crate) fn put_lowest(
-    ranks: &[u32],
+    ranks: &[u32; RANKS],
     from: usize,
     to: usize,
     p: usize,
@@ -98,85 +85,82 @@ pub(crate) fn put_lowest(
     positions: &mut [u32],
     room: usize,
     n: usize,
-) -> Picked
-    requires ranks_len { (length ranks.now ≡ ranks_size) × (from < to) × (to ≤ ranks_size) × (to ≤ from + p) }
+) -> (Picked, usize)
+    requires slots { (from < to) × (to ≤ ranks_size) × (to ≤ from + p) }
     requires has_room { HasRoom room codes.old positions.old × (n < letter_limit) × (p ≤ letter_limit) }
-    ensures { PutsLowest room ranks.now from to p n result.at result.rank result.entries
+    ensures { PutsLowest room ranks.now from to p n result.0.at result.0.rank result.1
         codes.old positions.old codes.new positions.new }
 {
     let found = lowest(ranks, from, to);
     let at = p - (to - found);
     let rank = ranks[found];
     let entries = put(codes, positions, room, n, unrank(rank), at);
-    Picked { at, rank, entries }
+    (Picked { at, rank }, entries)
 }
 
 // Passes the windows that end in a block, the first of which has its lowest put, and puts each pick that is new: a pick changes where
 // a new rank is not above the lowest, or where the lowest has left the window, which is then searched.
 pub(crate) fn pass_windows(
-    letters: &[u8],
-    values: &[u8],
-    base: usize,
-    ranks: &mut [u32],
+    block: &Block,
+    ranks: &mut [u32; RANKS],
     measures: Measures,
     reached: Passed,
     codes: &mut [u32],
     positions: &mut [u32],
 ) -> Passed
-    requires ready { Ready letters.now values.now base reached.at measures.last }
-    requires in_block { InBlock base (reached.at + measures.last) (reached.at + measures.last) }
-    requires le_w { (1 ≤ measures.w) × (measures.w ≤ w_limit) × (measures.w ≤ reached.at) }
-    requires standing { Standing measures.last measures.room letters.now reached.at codes.old positions.old reached.at reached.entries }
-    requires picking { Picking measures.last base measures.w letters.now ranks.old reached.at reached.code reached.lowest reached.low }
-    ensures { PassesBlock measures.last base letters.now reached.at result.at
-        × Standing measures.last measures.room letters.now reached.at codes.new positions.new result.at result.entries
-        × Picking measures.last base measures.w letters.now ranks.new result.at result.code result.lowest result.low
-        × SameEnd measures.room result.entries codes.new positions.new
-        (to_pick measures.last measures.w letters.now reached.at (suc (result.at - measures.w)) (suc result.lowest))
+    requires in_letters { reached.at ≤ length block.now.letters.now }
+    requires in_block { InBlock block.now.base (reached.at + measures.last) (reached.at + measures.last) }
+    requires full { measures.w ≤ reached.at }
+    requires standing { Standing measures.last measures.room block.now.letters.now reached.at codes.old positions.old
+        reached.at reached.entries }
+    requires picking { Picking measures.last block.now.base measures.w block.now.letters.now ranks.old
+        reached.at reached.code reached.lowest.at reached.lowest.rank }
+    ensures passes { PassesBlock measures.last block.now.base block.now.letters.now reached.at result.at }
+    ensures standing { Standing measures.last measures.room block.now.letters.now reached.at codes.new positions.new
+        result.at result.entries }
+    ensures picking { Picking measures.last block.now.base measures.w block.now.letters.now ranks.new
+        result.at result.code result.lowest.at result.lowest.rank }
+    ensures put { SameEnd measures.room result.entries codes.new positions.new
+        (to_pick measures.last measures.w block.now.letters.now reached.at (suc (result.at - measures.w)) (suc result.lowest.at))
         reached.entries codes.old positions.old
-        (to_pick measures.last measures.w letters.now reached.at (suc (reached.at - measures.w)) (suc reached.lowest)) }
+        (to_pick measures.last measures.w block.now.letters.now reached.at (suc (reached.at - measures.w)) (suc reached.lowest.at)) }
 {
+    let base = block.base;
     let last = measures.last;
     let end = base + BLOCK - last;
     let mut p = reached.at;
     let mut code = reached.code;
-    let mut low_at = reached.lowest;
-    let mut low = reached.low;
+    let mut low_at = reached.lowest.at;
+    let mut low = reached.lowest.rank;
     let mut n = reached.entries;
     loop {
         let leaves = low_at + measures.w + 1;
         let from = Reached { at: p, code };
-        let read = read_above(
-            letters,
-            values,
-            base,
-            ranks,
-            from,
-            last,
-            smaller(leaves, end),
-            low,
-        );
+        let (read, found) = read_above(block, ranks, from, measures, leaves.min(end), low);
         p = read.at;
         code = read.code;
-        if read.rank <= low {
+        if let Some(rank) = found {
             low_at = p;
-            low = read.rank;
+            low = rank;
             n = put(codes, positions, measures.room, n, code, p);
             p += 1;
             continue;
         }
         // The block ends, or the run.
         if p < leaves {
+            let lowest = Picked {
+                at: low_at,
+                rank: low,
+            };
             return Passed {
                 at: p,
                 code,
-                lowest: low_at,
-                low,
+                lowest,
                 entries: n,
             };
         }
         let to = slot(p, last, base);
-        let found = put_lowest(
+        let (picked, entries) = put_lowest(
             ranks,
             to - measures.w,
             to,
@@ -186,55 +170,49 @@ pub(crate) fn pass_windows(
             measures.room,
             n,
         );
-        low_at = found.at;
-        low = found.rank;
-        n = found.entries;
+        low_at = picked.at;
+        low = picked.rank;
+        n = entries;
     }
 }
 
 // Passes the k-mers that end in a block and puts each of them: with windows of one k-mer there are no ranks to compare.
 pub(crate) fn pass_kmers(
-    letters: &[u8],
-    values: &[u8],
-    base: usize,
+    block: &Block,
     measures: Measures,
     reached: Counted,
     codes: &mut [u32],
     positions: &mut [u32],
 ) -> Counted
-    requires ready { Ready letters.now values.now base reached.at measures.last }
-    requires in_block { InBlock base (reached.at + measures.last) (reached.at + measures.last) }
-    requires standing { Standing measures.last measures.room letters.now reached.at codes.old positions.old reached.at reached.entries }
-    requires in_hand { InHand measures.last letters.now reached.at reached.code }
-    ensures { PassesBlock measures.last base letters.now reached.at result.at
-        × Standing measures.last measures.room letters.now reached.at codes.new positions.new result.at result.entries
-        × InHand measures.last letters.now result.at result.code
-        × SameEnd measures.room result.entries codes.new positions.new
-        (to_pick measures.last 1 letters.now reached.at result.at result.at)
+    requires in_letters { reached.at ≤ length block.now.letters.now }
+    requires in_block { InBlock block.now.base (reached.at + measures.last) (reached.at + measures.last) }
+    requires standing { Standing measures.last measures.room block.now.letters.now reached.at codes.old positions.old
+        reached.at reached.entries }
+    requires in_hand { InHand measures.last block.now.letters.now reached.at reached.code }
+    ensures passes { PassesBlock measures.last block.now.base block.now.letters.now reached.at result.at }
+    ensures standing { Standing measures.last measures.room block.now.letters.now reached.at codes.new positions.new
+        result.at result.entries }
+    ensures in_hand { InHand measures.last block.now.letters.now result.at result.code }
+    ensures put { SameEnd measures.room result.entries codes.new positions.new
+        (to_pick measures.last 1 block.now.letters.now reached.at result.at result.at)
         reached.entries codes.old positions.old
-        (to_pick measures.last 1 letters.now reached.at reached.at reached.at) }
+        (to_pick measures.last 1 block.now.letters.now reached.at reached.at reached.at) }
 {
+    let base = block.base;
     let last = measures.last;
     let end = base + BLOCK - last;
-    let mut p = reached.at;
     let mut code = reached.code;
-    let mut n = reached.entries;
-    while p < end {
-        let v = value_at(letters, values, base, p + last);
-        if v == FOREIGN {
-            return Counted {
-                at: p,
-                code,
-                entries: n,
-            };
-        }
-        code = next_code(code, v, last);
-        n = put(codes, positions, measures.room, n, code, p);
-        p += 1;
+    let mut entries = reached.entries;
+    for at in reached.at..end {
+        let Some(digit) = block.digit_at(base, at + last) else {
+            return Counted { at, code, entries };
+        };
+        code = next_code(code, digit, last);
+        entries = put(codes, positions, measures.room, entries, code, at);
     }
     Counted {
-        at: p,
+        at: end,
         code,
-        entries: n,
+        entries,
     }
 }
