@@ -38,23 +38,32 @@ value_le n (b ∷ l) = let h : 10 * n + (b - digit 0) ≤ decimal_value (10 * n 
 
 -- ---- digits
 
+pub below_digit : (b : ℕ) → b < 48 → is_digit b ≡ false
+below_digit b h = rw (lt-leb 48 b h)
+
+pub above_digit : (b : ℕ) → 57 < b → is_digit b ≡ false
+above_digit b h = rw (lt-leb b 57 h) (and_false (leb 48 b))
+
+pub is_digit_lem : (b : ℕ) → 48 ≤ b → b ≤ 57 → is_digit b ≡ true
+is_digit_lem b h k = rw (le-leb 48 b h, le-leb b 57 k)
+
 module _ (n : ℕ) where
-  digits_bad : (b : ℕ) (l : List ℕ) → is_digit b ≡ false → digits_of n (b ∷ l) ≡ None
+  pub digits_bad : (b : ℕ) (l : List ℕ) → is_digit b ≡ false → digits_of n (b ∷ l) ≡ None
   unfolding digits_of
   digits_bad b l e = rw e
 
-  digits_next : (b : ℕ) (l : List ℕ) → is_digit b ≡ true → digits_of n (b ∷ l) ≡ digits_of (10 * n + (b - 48)) l
+  pub digits_next : (b : ℕ) (l : List ℕ) → is_digit b ≡ true → digits_of n (b ∷ l) ≡ digits_of (10 * n + (b - 48)) l
   unfolding digits_of
   digits_next b l e = rw e
 
-  digits_over : (l : List ℕ) → word_limit ≤ n → digits_of n l ≡ None
+  pub digits_over : (l : List ℕ) → word_limit ≤ n → digits_of n l ≡ None
   unfolding digits_of
   digits_over l h =
       let v : n ≤ decimal_value n l = value_le n l in
       let e : ltb (decimal_value n l) word_limit ≡ false = le-ltb (decimal_value n l) word_limit (omega arith) in
       simp (e, and_false)
 
-  digits_end : n < word_limit → digits_of n [] ≡ Some n
+  pub digits_end : n < word_limit → digits_of n [] ≡ Some n
   unfolding digits_of
   digits_end h = rw (lt-ltb n word_limit h)
 

@@ -129,7 +129,7 @@ by_pauses line (suc n) i to m highest part e =
     ∙ ap (resumed line to part) (sym (unrolled line i m highest part _ _ _ _ (at_cell line i m highest part) n))
 
 module _ (line : Line) (to i m highest : ℕ) (part : List ℕ) (q : Paused) (h : i ≤ to) (a : q ≡ quiet_rows line (to - i) i m highest part) where
-  pace : Paced i (to - i) q
+  pub pace : Paced i (to - i) q
   pace = subst (Paced i (to - i)) (sym a) (paced line (to - i) i m highest part)
 
   -- the pause is behind a row, within the rows that are asked for

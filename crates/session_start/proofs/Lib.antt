@@ -1,4 +1,5 @@
 -- Laws about the work words, what start's functions ask and give, and examples that compute.
+pub mod Bias
 mod ScoreWords
 pub mod Tables
 pub mod WorkWords

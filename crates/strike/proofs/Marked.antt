@@ -24,7 +24,7 @@ use Rattle.strike.specs.Marked.{marked_words}
 -- ---- counting
 
 -- the sum from an index on, one word further
-sum_drop : (l : List ℕ) (i : ℕ) → i < length l → sum (drop i l) ≡ get_or l i 0 + sum (drop (suc i) l)
+pub sum_drop : (l : List ℕ) (i : ℕ) → i < length l → sum (drop i l) ≡ get_or l i 0 + sum (drop (suc i) l)
 sum_drop l i h = ap sum (drop-cons l i 0 h)
 
 -- where something is left to count, an index is left
