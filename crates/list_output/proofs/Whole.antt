@@ -50,7 +50,7 @@ first_short (both k size size') = omega arith
 
 -- all is printed by the first piece, or it leaves what the sessions have to print
 abbrev pub AfterFirst : List ℕ → List ℕ → List ℕ → List ℕ → Option Sessions → ℕ → List ℕ → Type 0
-AfterFirst bytes places forward reverse None left done = done ≡ output_of bytes
+AfterFirst bytes places forward reverse None left done = (left ≡ 0) × (done ≡ output_of bytes)
 AfterFirst bytes places forward reverse (Some s) left done = After bytes places forward reverse s.k s.size s.reverse_size 0 left done
 
 pub after_sessions : {bytes places forward reverse : List ℕ} {o : Option Sessions} {s : Sessions} {left : ℕ} {done : List ℕ} → o ≡ Some s
@@ -144,7 +144,7 @@ module _ (bytes places forward reverse out : List ℕ) (room : length places ≡
           → AfterFirst bytes places' forward' reverse' r.sessions r.left (take r.written out')
       unfolding strands_reply places_after forward_after reverse_after
       opened (refused number values) e b =
-          rw b.sessions_are (first_printed (refused_with number) forward' reverse' b ∙ sym (printed (refused number values) e))
+          rw b.sessions_are (b.left_is, first_printed (refused_with number) forward' reverse' b ∙ sym (printed (refused number values) e))
       opened (accepted values) e b =
           let back : List ℕ = reverse_complement read in
           let calls =
@@ -199,7 +199,7 @@ module _ (bytes places forward reverse out : List ℕ) (room : length places ≡
         → AfterFirst bytes (places_after input places) (forward_after input (length places) forward)
         (reverse_after input (length places) (length forward) reverse) r.sessions r.left (take r.written out')
     unfolding output_of sessions_of
-    by_input malformed e b = rw b.sessions_are (first_printed no_input _ _ b ∙ sym (ap printed_for e))
+    by_input malformed e b = rw b.sessions_are (b.left_is, first_printed no_input _ _ b ∙ sym (ap printed_for e))
     by_input (given s text read) e b = opened s text read e (strands_reply s text read (length places) (length forward) (length reverse)) refl b
 
     -- the first piece, with room for any first line
@@ -230,7 +230,7 @@ further_prints bytes places k size size' {forward} {reverse} {found} {left} done
 following_prints : (bytes places : List ℕ) (o : Option Sessions) (forward reverse : List ℕ) (left : ℕ) (rest done : List ℕ)
     → AfterFirst bytes places forward reverse o left done → Following places o forward reverse left rest
     → done ++ rest ≡ output_of bytes
-following_prints bytes places None forward reverse left rest done a none = ap (λ (l : List ℕ). done ++ l) none ∙ append-nil done ∙ a
+following_prints bytes places None forward reverse left rest done a none = ap (λ (l : List ℕ). done ++ l) none ∙ append-nil done ∙ a.1
 following_prints bytes places (Some s) forward reverse left rest done a further = further_prints bytes places s.k s.size s.reverse_size done a further
 
 -- the pieces of a run, one after the other, are the output for its whole input

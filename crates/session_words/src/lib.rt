@@ -50,6 +50,9 @@ pub const PART_END: usize = 10305;
 // Added to linear scores and thresholds that are kept as words: unsigned words then order as the signed numbers do.
 pub const BIAS: u32 = 2147483648;
 
+// −1 as such a word.
+pub const MINUS_ONE: u32 = BIAS - 1;
+
 // 2^21: a fraction as a word has its m less 1 above so many, and below them its divisor, from the greatest down.
 pub const DIVISOR_SPAN: u32 = 2097152;
 

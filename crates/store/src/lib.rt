@@ -7,6 +7,8 @@ ghost use Rattle.std.specs.Prelude.{◌≡◌, ◌^◌, min};
 ghost use Rattle.base.specs.Limits.{k_limit};
 ghost use Rattle.store.specs.Words.{is_position};
 
+pub use words::{KIND_UNIT, W_SPAN, W_UNIT};
+
 // What a store that loads was made of: k and w, and how many entries were written.
 #[derive(Clone, Copy, Debug, PartialEq, Eq)]
 pub struct Stored {

@@ -9,7 +9,7 @@ pub const KIND_UNIT: u32 = 1 << 30;
 // k is the five bits of word 0 below w, w the seven above them, and no bit above those is set.
 pub const W_UNIT: u32 = 1 << 5;
 
-const W_SPAN: u32 = 1 << 7;
+pub const W_SPAN: u32 = 1 << 7;
 
 const HEADER_LIMIT: u32 = 1 << 12;
 
