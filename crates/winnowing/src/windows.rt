@@ -136,7 +136,7 @@ pub(crate) fn pass_windows(
     loop {
         let leaves = low_at + measures.w + 1;
         let from = Reached { at: p, code };
-        let (read, found) = read_above(block, ranks, from, measures, leaves.min(end), low);
+        let (read, found) = read_above(block, base, ranks, from, measures, leaves.min(end), low);
         p = read.at;
         code = read.code;
         if let Some(rank) = found {
