@@ -217,6 +217,8 @@ pub(crate) fn scan(
         room,
     };
     let mut entries: usize = 0;
+    // The next run is looked for at the end of a turn: at its head, the search would count up all that the run computes from its place,
+    // letter by letter.
     let mut next = next_run(letters, 0);
     while let Some(at) = next {
         let end = run(
