@@ -1,8 +1,9 @@
 -- What the loops keep from turn to turn.
-use Prim.Native.Nat.{ℕ, suc, ◌+◌, ◌-◌, ◌≤◌}
+use Prim.Native.Nat.{ℕ, suc, ◌+◌, ◌-◌, ◌≤◌, ◌<◌}
 use mathlib.Core.Path.{◌≡◌}
-use mathlib.Core.List.{List}
+use mathlib.Core.List.{List, []}
 use lib.ListN.{length, get_or}
+use Rattle.std.specs.Prelude.{Option, Some, None, MatchOption}
 use Rattle.kmers.specs.Places.{code_at, run_end}
 use Rattle.minimizers.specs.Places.{IsLowest, sketch_from}
 use Rattle.winnowing.specs.Winnowed.{written}
@@ -56,3 +57,14 @@ pub record RunsPut (k w room : ℕ) (letters letters' : List ℕ) (base from n :
   pub within : from ≤ suc (length letters)
   pub has_room : HasRoom room cs ps
   pub put : written room n cs ps (sketch_from k w letters from) ≡ written room 0 cs₀ ps₀ (sketch_from k w letters 0)
+
+-- the runs in front of the next one are passed, or all runs where there is none
+abbrev pub NextPut : ℕ → ℕ → ℕ → List ℕ → List ℕ → ℕ → Option ℕ → ℕ → List ℕ → List ℕ → List ℕ → List ℕ → Type 0
+NextPut k w room letters letters' base next n cs₀ ps₀ cs ps = MatchOption next
+    (written room n cs ps [] ≡ written room 0 cs₀ ps₀ (sketch_from k w letters 0))
+    (λ (at : ℕ). (at < length letters) × RunsPut k w room letters letters' base at n cs₀ ps₀ cs ps)
+
+-- how many positions there are from the next run on
+abbrev pub left : ℕ → Option ℕ → ℕ
+left size None = 0
+left size (Some at) = suc size - at

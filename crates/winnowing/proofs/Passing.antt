@@ -1,6 +1,6 @@
 -- One window more: what is put, and what a run has still to pick, before and after it.
 use Prim.Native.Nat.{ℕ, zero, suc, ◌+◌, ◌-◌, ◌≤◌, ◌<◌}
-use native.Mathlib.Nat.{le_refl, add-zero}
+use native.Mathlib.Nat.{le_refl, add-zero, le_trans}
 use native.Mathlib.Numerals.{add-one}
 use native.Mathlib.Omega.{arith}
 use mathlib.Core.Path.{◌≡◌, refl, sym, ap, ◌∙◌, subst, subst₂}
@@ -8,6 +8,7 @@ use mathlib.Core.Bool.{Bool, true, false}
 use mathlib.Core.List.{List, [], ◌∷◌, ◌++◌}
 use lib.Dec.{ltb}
 use lib.ListN.{length, get_or}
+use Rattle.std.specs.Prelude.{Option, Some, None}
 use borrow.Author.Tests.{ltb-true, ltb-false}
 use Rattle.kmers.specs.Letters.{value, foreign}
 use Rattle.kmers.specs.Kmers.{Entry}
@@ -20,7 +21,8 @@ use Rattle.minimizers.proofs.Picks.{lowest_new, lowest_kept, lowest_moved, picke
 use Rattle.minimizers.proofs.Picks.{span_sketch_none, span_sketch_short, span_sketch_long}
 use Rattle.winnowing.specs.Winnowed.{written}
 use Rattle.winnowing.specs.Blocks.{back_size, slot_of}
-use Rattle.winnowing.specs.Scan.{Scanned, IsPut, SameEnd, to_pick}
+use Rattle.winnowing.specs.Scan.{Scanned, IsPut, SameEnd, to_pick, NextRun}
+use Rattle.winnowing.proofs.Loops.{RunsPut, NextPut, left}
 use Rattle.winnowing.proofs.Steps.{end_here}
 
 -- what is put stood first among what was to come
@@ -229,3 +231,26 @@ foreign_passed k w at letters some wide h stop =
     let none : span_sketch k w letters at (suc (run_end letters at) - k) ≡ [] =
     span_sketch_none k letters w (suc (run_end letters at) - k) wide at (omega arith) in
     sym (sketch_from_run k w at letters some within ∙ rw (none, behind))
+
+-- the runs in front of a position are passed, so they are in front of the next run from there on
+pub next_put : (k w room base from n : ℕ) (letters letters' cs₀ ps₀ cs ps : List ℕ) (next : Option ℕ) → 1 ≤ k → 1 ≤ w
+    → RunsPut k w room letters letters' base from n cs₀ ps₀ cs ps → NextRun letters from next
+    → NextPut k w room letters letters' base next n cs₀ ps₀ cs ps
+next_put k w room base from n letters letters' cs₀ ps₀ cs ps None some wide put is = ap (written room n cs ps) (sym (is k w some wide)) ∙ put.put
+next_put k w room base from n letters letters' cs₀ ps₀ cs ps (Some at) some wide put is = (
+  is.within,
+  record {
+    same = put.same;
+    begins = le_trans put.begins is.start;
+    counted = le_trans put.counted is.start;
+    within = omega (arith, is.within);
+    has_room = put.has_room;
+    put = ap (written room n cs ps) (is.same k w some wide) ∙ put.put;
+  },
+)
+
+-- fewer positions are left from the next run on
+pub fewer_left : (at from : ℕ) (letters : List ℕ) (next : Option ℕ) → at < from → at ≤ length letters → NextRun letters from next
+    → left (length letters) next < suc (length letters) - at
+fewer_left at from letters None more within is = omega arith
+fewer_left at from letters (Some next) more within is = omega (arith, is.start, is.within)

@@ -1,5 +1,5 @@
 // Reads the letters of a run: those in front of its first k-mer's last one, and its k-mers with their ranks.
-ghost use Rattle.std.specs.Prelude.{◌+◌, ◌≤◌, length};
+ghost use Rattle.std.specs.Prelude.{◌+◌, ◌≤◌, ◌≡◌, length};
 ghost use Rattle.kmers.specs.Places.{run_end};
 ghost use Rattle.winnowing.specs.Scan.{InBlock, Begun, Scanned, Filled, ReadAbove};
 
@@ -60,14 +60,17 @@ pub(crate) fn first_window(
 }
 
 // Reads k-mers as long as their ranks are above `low`, up to position `stop`, and answers with the rank that is not, if there is one.
+// The caller has `base` at hand: many ranks may be not above `low`, and it would be read anew from the block at each.
 pub(crate) fn read_above(
     block: &Block,
+    base: usize,
     ranks: &mut [u32; RANKS],
     reached: Reached,
     measures: Measures,
     stop: usize,
     low: u32,
 ) -> (Reached, Option<u32>)
+    requires begins { base ≡ block.now.base }
     requires in_letters { reached.at ≤ length block.now.letters.now }
     requires in_block { InBlock block.now.base (reached.at + measures.last) (stop + measures.last) }
     requires in_run { (reached.at ≤ stop) × (reached.at + measures.last ≤ run_end block.now.letters.now reached.at) }
@@ -75,7 +78,6 @@ pub(crate) fn read_above(
     ensures { ReadAbove measures.last block.now.base block.now.letters.now ranks.old ranks.new low reached.at reached.code stop
         result.0.at result.0.code result.1 }
 {
-    let base = block.base;
     let last = measures.last;
     let mut code = reached.code;
     for at in reached.at..stop {

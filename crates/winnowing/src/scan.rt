@@ -54,9 +54,7 @@ pub(crate) fn all_windows(
     }
 }
 
-// Passes the k-mers of a run to its end, where a window has one. It stays out of line: inline, its loop comes
-// out as longer code, for which some processors take half as long again.
-#[inline(never)]
+// Passes the k-mers of a run to its end, where a window has one.
 pub(crate) fn all_kmers(
     block: &mut Block,
     measures: Measures,
@@ -218,9 +216,11 @@ pub(crate) fn scan(
         w: w as usize,
         room,
     };
-    let mut from: usize = 0;
     let mut entries: usize = 0;
-    while let Some(at) = next_run(letters, from) {
+    // The next run is looked for at the end of a turn: at its head, the search would count up all that the run computes from its place,
+    // letter by letter.
+    let mut next = next_run(letters, 0);
+    while let Some(at) = next {
         let end = run(
             &mut block,
             &mut ranks,
@@ -229,8 +229,8 @@ pub(crate) fn scan(
             codes,
             positions,
         );
-        from = end.at + 1;
         entries = end.entries;
+        next = next_run(letters, end.at + 1);
     }
     entries
 }

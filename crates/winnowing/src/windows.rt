@@ -133,10 +133,11 @@ pub(crate) fn pass_windows(
     let mut low_at = reached.lowest.at;
     let mut low = reached.lowest.rank;
     let mut n = reached.entries;
+    // Where the lowest leaves. It is kept from turn to turn: where rank after rank is a new lowest, it is one sum from the position.
+    let mut leaves = low_at + measures.w + 1;
     loop {
-        let leaves = low_at + measures.w + 1;
         let from = Reached { at: p, code };
-        let (read, found) = read_above(block, ranks, from, measures, leaves.min(end), low);
+        let (read, found) = read_above(block, base, ranks, from, measures, leaves.min(end), low);
         p = read.at;
         code = read.code;
         if let Some(rank) = found {
@@ -144,6 +145,7 @@ pub(crate) fn pass_windows(
             low = rank;
             n = put(codes, positions, measures.room, n, code, p);
             p += 1;
+            leaves = p + measures.w;
             continue;
         }
         // The block ends, or the run.
@@ -173,6 +175,7 @@ pub(crate) fn pass_windows(
         low_at = picked.at;
         low = picked.rank;
         n = entries;
+        leaves = low_at + measures.w + 1;
     }
 }
 

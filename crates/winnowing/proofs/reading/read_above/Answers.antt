@@ -2,7 +2,7 @@
 use Prim.Native.Nat.{ℕ, suc, ◌+◌, ◌≤◌, ◌<◌}
 use native.Mathlib.Nat.{le_refl}
 use native.Mathlib.Omega.{arith}
-use mathlib.Core.Path.{◌≡◌, refl, subst}
+use mathlib.Core.Path.{◌≡◌, subst}
 use borrow.Author.Count.{below_more}
 use Rattle.kmers.specs.Places.{rank_at}
 use Rattle.minimizers.proofs.Runs.{run_end_within}
@@ -18,7 +18,7 @@ loop-at-init c = record {
 pub digit_at-requires : goal.digit_at-requires
 digit_at-requires c =
     let there = run_end_within c.args.block.now.letters.now c.args.reached.at c.requires.in_letters in (
-      refl,
+      c.requires.begins,
       omega (arith, c.requires.in_block.begins),
       omega (arith, c.requires.in_block.ends),
       omega (arith, c.loop-at.invariant.passed.within),
@@ -80,7 +80,7 @@ returns-then-found-low c =
         low_enough = c.if-found-low.true;
         rank_there = ranked;
         code_there = kmer.0;
-        read = λ first is. rw c.slot.ensures.0
+        read = λ first is. rw (c.slot.ensures.0, c.requires.begins)
             (scanned_next last block.base letters at.ranks first at.at at.code r code (at.invariant.read first is)
             (omega (arith, c.requires.in_block.begins)) (omega (arith, c.requires.in_block.ends)) ranked kmer.1 kmer.2);
       };
@@ -110,7 +110,7 @@ loop-at-preserved c =
         above = λ q a b.
             below_more (λ (x : ℕ). from ≤ x → low < rank_at (suc last) letters x) at.at (λ x l m. at.invariant.passed.above x m l) (λ m. above) q b a;
       };
-      read = λ first is. rw c.slot.ensures.0
+      read = λ first is. rw (c.slot.ensures.0, c.requires.begins)
           (scanned_next last block.base letters at.ranks first at.at at.code r code (at.invariant.read first is)
           (omega (arith, c.requires.in_block.begins)) (omega (arith, c.requires.in_block.ends)) ranked kmer.1 kmer.2);
     }

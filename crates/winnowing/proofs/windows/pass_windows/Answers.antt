@@ -3,7 +3,7 @@
 use Prim.Native.Nat.{ℕ, suc, ◌+◌, ◌-◌, ◌≤◌, ◌<◌}
 use native.Mathlib.Nat.{le_refl, le-suc, le_trans, le-add_right, lt_of_lt_of_le, lt_of_le_of_lt}
 use native.Mathlib.Omega.{arith}
-use mathlib.Core.Path.{◌≡◌, sym, ◌∙◌, subst₂}
+use mathlib.Core.Path.{◌≡◌, refl, sym, ◌∙◌, subst₂}
 use mathlib.Core.List.{List}
 use lib.ListN.{length}
 use Rattle.kmers.specs.Ranks.{unrank}
@@ -58,19 +58,19 @@ kept_to {letters} {ranks} {last} {base} {w} {from} {p} {code} {low_at} {low} pla
 
 pub read_above-found-requires-clause-in_letters : goal.read_above-found-requires-clause-in_letters
 read_above-found-requires-clause-in_letters c =
-    let place = inside c.requires.in_letters c.requires.in_block.begins c.requires.full c.loop-rank.invariant.1 in
+    let place = inside c.requires.in_letters c.requires.in_block.begins c.requires.full c.loop-rank.invariant.2 in
     le_trans (le-add_right c.loop-rank.p c.args.measures.last) (le_trans place.within place.ends)
 
 pub read_above-found-requires-clause-in_run : goal.read_above-found-requires-clause-in_run
 read_above-found-requires-clause-in_run c =
-    let place = inside c.requires.in_letters c.requires.in_block.begins c.requires.full c.loop-rank.invariant.1 in
-    (omega (arith, place.stays, c.loop-rank.invariant.0, c.min.ensures), rw place.same_run place.within)
+    let place = inside c.requires.in_letters c.requires.in_block.begins c.requires.full c.loop-rank.invariant.2 in
+    (omega (arith, place.stays, c.loop-rank.invariant.0, c.loop-rank.invariant.1, c.min.ensures), rw place.same_run place.within)
 
 -- ---- a new rank that is not above the lowest
 
 pub put-n-requires : goal.put-n-requires
 put-n-requires c =
-    let is = c.loop-rank.invariant.1 in
+    let is = c.loop-rank.invariant.2 in
     let place = inside c.requires.in_letters c.requires.in_block.begins c.requires.full is in
     let read = c.read_above-found.ensures in
     let found = rw c.in-Some.is at read.found in
@@ -86,9 +86,9 @@ loop-rank-preserved-in-Some c =
     let w = c.args.measures.w in
     let some = c.args.measures.some in
     let turn = c.loop-rank in
-    let is = turn.invariant.1 in
+    let is = turn.invariant.2 in
     let place = inside c.requires.in_letters c.requires.in_block.begins c.requires.full is in
-    let stop = stop_at base last place.stays turn.invariant.0 c.min.ensures in
+    let stop = stop_at base last place.stays turn.invariant.0 (rw turn.invariant.1 at c.min.ensures) in
     let at = c.read_above-found.result.0.at in
     let code = c.read_above-found.result.0.code in
     let read = c.read_above-found.ensures in
@@ -101,6 +101,7 @@ loop-rank-preserved-in-Some c =
     let new = put_new last w c.args.measures.room letters from some turn.low_at turn.p at turn.n put.result code turn.codes turn.positions
     put.new.codes put.new.positions (le_trans place.wide read.passed.start) same.1 same.0 more below found.code_there put.ensures in (
       next_in last found.before stop.2,
+      omega arith,
       record {
         standing = record {
           start = next_start is.standing.start read.passed.start;
@@ -127,19 +128,19 @@ pub returns-then-p-leaves : goal.returns-then-p-leaves
 returns-then-p-leaves c =
     let last = c.args.measures.last in
     let turn = c.loop-rank in
-    let is = turn.invariant.1 in
+    let is = turn.invariant.2 in
     let place = inside c.requires.in_letters c.requires.in_block.begins c.requires.full is in
-    let stop = stop_at c.args.block.now.base last place.stays turn.invariant.0 c.min.ensures in
+    let stop = stop_at c.args.block.now.base last place.stays turn.invariant.0 (rw turn.invariant.1 at c.min.ensures) in
     let at = c.read_above-found.result.0.at in
     let read = c.read_above-found.ensures in
     let none = rw c.in_default.is at read.found in
     let leaves = turn.low_at + c.args.measures.w + 1 in
     let same = kept_to place c.args.measures.some is.picking read.passed at read.passed.start (le_refl at)
-    (stays_to c.if-p-leaves.true (le_refl leaves)) in
+    (stays_to (rw turn.invariant.1 at c.if-p-leaves.true) (le_refl leaves)) in
     record {
       passes = record {
         most = shorter last read.most stop.2;
-        ended = λ h. rw place.same_run at (none.ended (before_stop last stop.1 stop.3 c.if-p-leaves.true h));
+        ended = λ h. rw place.same_run at (none.ended (before_stop last stop.1 stop.3 (rw turn.invariant.1 at c.if-p-leaves.true) h));
       };
       standing = record {
         start = le_trans is.standing.start read.passed.start;
@@ -156,8 +157,8 @@ returns-then-p-leaves c =
 pub slot-to-requires : goal.slot-to-requires
 slot-to-requires c =
     let last = c.args.measures.last in
-    let place = inside c.requires.in_letters c.requires.in_block.begins c.requires.full c.loop-rank.invariant.1 in
-    let stop = stop_at c.args.block.now.base last place.stays c.loop-rank.invariant.0 c.min.ensures in
+    let place = inside c.requires.in_letters c.requires.in_block.begins c.requires.full c.loop-rank.invariant.2 in
+    let stop = stop_at c.args.block.now.base last place.stays c.loop-rank.invariant.0 (rw c.loop-rank.invariant.1 at c.min.ensures) in
     let read = c.read_above-found.ensures in (
       further last place.begins read.passed.start,
       shorter last read.most stop.2,
@@ -167,12 +168,12 @@ slot-to-requires c =
 pub put_lowest-entries-requires-clause-has_room : goal.put_lowest-entries-requires-clause-has_room
 put_lowest-entries-requires-clause-has_room c =
     let last = c.args.measures.last in
-    let is = c.loop-rank.invariant.1 in
+    let is = c.loop-rank.invariant.2 in
     let place = inside c.requires.in_letters c.requires.in_block.begins c.requires.full is in
-    let stop = stop_at c.args.block.now.base last place.stays c.loop-rank.invariant.0 c.min.ensures in
+    let stop = stop_at c.args.block.now.base last place.stays c.loop-rank.invariant.0 (rw c.loop-rank.invariant.1 at c.min.ensures) in
     let read = c.read_above-found.ensures in
     let few = in_letters last (rw place.same_run at read.passed.within) place.ends c.args.block.now.few in
-    let passed = behind_left place.stays (left_at c.if-p-leaves.false read.most stop.1) in
+    let passed = behind_left place.stays (left_at (rw c.loop-rank.invariant.1 at c.if-p-leaves.false) read.most stop.1) in
     (is.standing.has_room, lt_of_le_of_lt is.standing.counted (lt_of_lt_of_le passed few), few)
 
 pub loop-rank-preserved : goal.loop-rank-preserved
@@ -184,16 +185,16 @@ loop-rank-preserved c =
     let w = c.args.measures.w in
     let some = c.args.measures.some in
     let turn = c.loop-rank in
-    let is = turn.invariant.1 in
+    let is = turn.invariant.2 in
     let place = inside c.requires.in_letters c.requires.in_block.begins c.requires.full is in
-    let stop = stop_at base last place.stays turn.invariant.0 c.min.ensures in
+    let stop = stop_at base last place.stays turn.invariant.0 (rw turn.invariant.1 at c.min.ensures) in
     let at = c.read_above-found.result.0.at in
     let code = c.read_above-found.result.0.code in
     let ranks = c.read_above-found.new.ranks in
     let read = c.read_above-found.ensures in
     let none = rw c.in_default.is at read.found in
     let within = rw place.same_run at read.passed.within in
-    let left = left_at c.if-p-leaves.false read.most stop.1 in
+    let left = left_at (rw c.loop-rank.invariant.1 at c.if-p-leaves.false) read.most stop.1 in
     let gone = behind turn.low_at w left in
     let scanned = none.read (suc turn.low_at) is.picking.scanned in
     let picked = c.put_lowest-entries in
@@ -210,6 +211,7 @@ loop-rank-preserved c =
     let left_to_pick : to_pick last w letters from (suc (turn.p - w)) (suc turn.low_at) ≡ to_pick last w letters from (at - w) (at - w) =
     (kept_to place some is.picking read.passed low_to place.stays gone.2 (le_refl low_to)).1 ∙ rw (gone.0, gone.1) in (
       shorter last read.most stop.2,
+      refl,
       record {
         standing = record {
           start = le_trans is.standing.start read.passed.start;
